@@ -1,0 +1,42 @@
+-- Picking by a test, and tests over lists. Assumes nothing.
+use Prim.Native.Nat.{ℕ, zero, suc}
+use mathlib.Core.Bool.{Bool, true, false, not, _&&_, _||_}
+use mathlib.Core.List.{List, [], _∷_}
+use lib.Dec.{eqb}
+
+infixr 5 if_then_else_
+abbrev pub if_then_else_ : {A : Type 0} → Bool → A → A → A
+if_then_else_ true a b = a
+if_then_else_ false a b = b
+
+unfoldable pub implies : Bool → Bool → Bool
+implies true b = b
+implies false b = true
+
+unfoldable pub bothOrNeither : Bool → Bool → Bool
+bothOrNeither true b = b
+bothOrNeither false b = not b
+
+-- every element passes the test
+unfoldable pub all : {A : Type 0} → (A → Bool) → List A → Bool
+all f [] = true
+all f (x ∷ xs) = f x && all f xs
+
+unfoldable pub member : ℕ → List ℕ → Bool
+member n [] = false
+member n (x ∷ xs) = eqb n x || member n xs
+
+-- no number stands twice
+unfoldable pub distinct : List ℕ → Bool
+distinct [] = true
+distinct (x ∷ xs) = not (member x xs) && distinct xs
+
+unfoldable pub isEmpty : {A : Type 0} → List A → Bool
+isEmpty [] = true
+isEmpty (x ∷ xs) = false
+
+-- the element at an index becomes f of it
+unfoldable pub changeAt : {A : Type 0} → ℕ → (A → A) → List A → List A
+changeAt i f [] = []
+changeAt zero f (x ∷ xs) = f x ∷ xs
+changeAt (suc i) f (x ∷ xs) = x ∷ changeAt i f xs

@@ -1,0 +1,51 @@
+-- Request 3: create. Assumes nothing.
+use Prim.Native.Nat.{ℕ}
+use mathlib.Core.Bool.{Bool, true, false, not, _&&_}
+use mathlib.Core.List.{List, [], _∷_, map}
+use lib.ListN.{length}
+use lib.Dec.{leb}
+use Rattle.rules.specs.Basic.{if_then_else_, all, member, implies, bothOrNeither}
+use Rattle.rules.specs.Bits.{has, within}
+use Rattle.rules.specs.Mask.{allRights}
+use Rattle.rules.specs.Refusal.{privilegeNotHeld, badField, tableFull}
+use Rattle.rules.specs.Privileges.{existing, createToken, granted}
+use Rattle.rules.specs.Group.{Group, isOnByDefault, isDenyOnly, isFixed, switched}
+use Rattle.rules.specs.Token.{maxGroups, primaryOf, newToken}
+use Rattle.rules.specs.State.{State, held, used}
+use Rattle.rules.specs.Decision.{Decision, need_else_then_, canIssue, issued}
+
+-- MANDATORY, ENABLED_BY_DEFAULT, OWNER, DENY_ONLY, LOGON_ID: ENABLED may not be given
+abbrev pub givable : ℕ
+givable = 0xC000001B
+
+-- a pair that may be given for a token of this user
+unfoldable pub validPair : ℕ → Group → Bool
+validPair user g =
+    within g.attributes givable
+    && bothOrNeither (has 30 g.attributes) (has 31 g.attributes)
+    && implies (isFixed user g) (isOnByDefault g)
+    && implies (isDenyOnly g) (not (isOnByDefault g))
+
+unfoldable pub validIntegrity : ℕ → Bool
+validIntegrity i = member i (0 ∷ 4096 ∷ 8192 ∷ 12288 ∷ 16384 ∷ [])
+
+unfoldable pub validCreate : ℕ → ℕ → ℕ → ℕ → List Group → Bool
+validCreate user integrity present byDefault gs =
+    validIntegrity integrity
+    && within byDefault present
+    && within present existing
+    && leb (length gs) maxGroups
+    && all (validPair user) gs
+
+-- ENABLED is set from value 2
+unfoldable pub entered : Group → Group
+entered g = if isOnByDefault g then switched true g else g
+
+unfoldable pub create : State → ℕ → ℕ → ℕ → ℕ → ℕ → ℕ → List Group → Decision
+create σ s user session integrity present byDefault gs =
+    need held σ s createToken else privilegeNotHeld then
+    need validCreate user integrity present byDefault gs else badField then
+    need canIssue σ else tableFull then
+    issued s allRights
+    (newToken (σ .tokens .next) (primaryOf user session integrity) (granted present byDefault) (map entered gs))
+    (used createToken s σ)

@@ -1,0 +1,81 @@
+-- What lasts while a token lives, between an earlier and a later state: demand 3's 'all along'. Assumes nothing.
+use Prim.Native.Nat.{ℕ, _≤_, _<_}
+use mathlib.Core.Path.{_≡_}
+use mathlib.Core.Bool.{true}
+use mathlib.Core.List.{List, _∷_, map}
+use lib.ListN.{getD}
+use Rattle.rules.specs.Number.{Read, got, bad}
+use Rattle.rules.specs.Bits.{within}
+use Rattle.rules.specs.Group.{Group, noGroup, isDenyOnly}
+use Rattle.rules.specs.Token.{Token}
+use Rattle.rules.specs.Table.{Slot, free, live, Table, lives}
+use Rattle.rules.specs.Handle.{Handle}
+use Rattle.rules.specs.State.{State, tokenOf, findHandle}
+use Rattle.rules.specs.Request.{Request, parse}
+use Rattle.rules.specs.Serve.{serve}
+use Rattle.rules.specs.Run.{Serving}
+
+-- a is in the list
+pub data Mem {A : Type 0} (a : A) : List A → Type 0 where
+  here : {x : A} {xs : List A} → a ≡ x → Mem a (x ∷ xs)
+  there : {x : A} {xs : List A} → Mem a xs → Mem a (x ∷ xs)
+
+unfoldable pub sidOf : Group → ℕ
+sidOf g = g.sid
+
+-- the token is live
+unfoldable pub Live : Token → State → Type 0
+Live t σ = Mem t (lives (σ .tokens .slots))
+
+-- u can be the token t at a later time
+pub record Follows (t u : Token) : Type 0 where
+  pub number : u .number ≡ t .number
+  pub identity : u .identity ≡ t .identity
+  -- present privileges don't grow, used marks stay
+  pub present : within (u .privileges .present) (t .privileges .present) ≡ true
+  pub used : within (t .privileges .used) (u .privileges .used) ≡ true
+  -- each group keeps its index, its SID and its deny-only mark
+  pub sids : map sidOf (u .groups) ≡ map sidOf (t .groups)
+  pub denied : (i : ℕ) → isDenyOnly (getD (t .groups) i noGroup) ≡ true → isDenyOnly (getD (u .groups) i noGroup) ≡ true
+  -- the user keeps the deny-only mark
+  pub userDenied : t .limits .userDenyOnly ≡ true → u .limits .userDenyOnly ≡ true
+
+-- the token u was there before, in the table x
+pub record Before (x : Table Token) (u : Token) : Type 0 where
+  pub token : Token
+  pub was : Mem token (lives (x .slots))
+  pub follows : Follows token u
+
+-- y can be the tokens x at a later time: each of its tokens has a number that x had not yet given, or was there before
+pub record Later (x y : Table Token) : Type 0 where
+  pub next : x .next ≤ y .next
+  pub old : (u : Token) → Mem u (lives (y .slots)) → u .number < x .next → Before x u
+
+-- ---- a token made from another: its source is the one that request 9 or 10 copies
+
+unfoldable pub tokenAt : State → Slot Handle → Slot Token
+tokenAt σ free = free
+tokenAt σ (live h) = live (tokenOf σ h.token)
+
+unfoldable pub sourceOf : State → ℕ → Read Request → Slot Token
+sourceOf σ s bad = free
+sourceOf σ s (got (Request.openOwn mask) bytes) = free
+sourceOf σ s (got (Request.close n) bytes) = free
+sourceOf σ s (got (Request.create user session integrity present byDefault gs) bytes) = free
+sourceOf σ s (got (Request.query n class capacity) bytes) = free
+sourceOf σ s (got (Request.privileges n es) bytes) = free
+sourceOf σ s (got (Request.groups n es) bytes) = free
+sourceOf σ s (got (Request.scope n v) bytes) = free
+sourceOf σ s (got (Request.defaults n owner group flag dacl) bytes) = free
+sourceOf σ s (got (Request.duplicate n type level mask) bytes) = tokenAt σ (findHandle σ s n)
+sourceOf σ s (got (Request.restrict n mark removed deny sids) bytes) = tokenAt σ (findHandle σ s n)
+sourceOf σ s (got (Request.install n) bytes) = free
+
+-- of a body that is served: a token that it makes has no present privilege that its source lacked
+unfoldable pub NoMore : Serving → Type 0
+NoMore x =
+    (t u : Token)
+    → sourceOf (x .before) (x .station) (parse (x .body)) ≡ live t
+    → Mem u (lives (serve (x .before) (x .station) (x .body) .state .tokens .slots))
+    → x .before .tokens .next ≤ u .number
+    → within (u .privileges .present) (t .privileges .present) ≡ true

@@ -1,0 +1,211 @@
+-- The lent memory: how a state is written in it, what it stands for, and when it is valid (document 01: 'memory is in order').
+-- A state is written in one way only. Assumes nothing.
+use Prim.Native.Nat.{ℕ, _+_, _*_, _/_, _%_}
+use mathlib.Core.Bool.{Bool, true, false, _&&_}
+use mathlib.Core.List.{List, [], _∷_, _++_, map}
+use lib.ListN.{length, take, drop, getD, replicate}
+use lib.Dec.{eqb}
+use Rattle.table.specs.Lists.{pad}
+use Rattle.table.specs.Table.{flat}
+use Rattle.table.specs.Rows.{readRows}
+use Rattle.rules.specs.Basic.{if_then_else_}
+use Rattle.rules.specs.Privileges.{Privileges}
+use Rattle.rules.specs.Group.{Group}
+use Rattle.rules.specs.Token.{Token, Identity, Limits, Defaults, maxGroups, maxRestricting, maxDacl}
+use Rattle.rules.specs.Table.{Slot, free, live}
+use Rattle.rules.specs.Handle.{Handle, noHandle}
+use Rattle.rules.specs.Station.{Station}
+use Rattle.rules.specs.State.{State, tokenSlots, handleSlots, stationCount}
+use Rattle.rules.specs.Frame.{maxBody}
+use Rattle.rules.specs.Valid as Valid
+
+-- words and bytes, but for the handle list, which is a list of records
+pub record Memory : Type 0 where
+  pub tokens : List ℕ
+  pub dacls : List ℕ
+  pub handles : List Handle
+  pub stations : List ℕ
+  pub pending : List ℕ
+
+-- ---- sizes
+
+-- a token's row: its scalars and counts, then its groups, then its restricting SIDs
+abbrev pub headWords : ℕ
+headWords = 20
+
+abbrev pub tokenWords : ℕ
+tokenWords = headWords + maxGroups + maxRestricting
+
+-- a station's row; before the rows stand the two next numbers
+abbrev pub stationWords : ℕ
+stationWords = 3
+
+abbrev pub counterWords : ℕ
+counterWords = 2
+
+-- a station's pending bytes: a frame's two length bytes and its body
+abbrev pub pendingBytes : ℕ
+pendingBytes = maxBody + 2
+
+unfoldable pub sized : Memory → Bool
+sized m =
+    eqb (length m.tokens) (tokenSlots * tokenWords)
+    && eqb (length m.dacls) (tokenSlots * maxDacl)
+    && eqb (length m.handles) handleSlots
+    && eqb (length m.stations) (counterWords + stationCount * stationWords)
+    && eqb (length m.pending) (stationCount * pendingBytes)
+
+-- ---- words
+
+abbrev pub word32 : ℕ
+word32 = 0x100000000
+
+abbrev pub low32 : ℕ → ℕ
+low32 w = w % word32
+
+abbrev pub low8 : ℕ → ℕ
+low8 w = w % 256
+
+unfoldable pub mark : Bool → ℕ
+mark true = 1
+mark false = 0
+
+-- a group is one word: SID + attributes · 2^32
+unfoldable pub pack : Group → ℕ
+pack g = g.sid + g.attributes * word32
+
+unfoldable pub unpack : ℕ → Group
+unpack w = record { sid = w % word32; attributes = w / word32 }
+
+-- ---- a state, written
+
+unfoldable pub head : Token → List ℕ
+head t =
+    t.number ∷ t.modified ∷ t .identity .session ∷ t .identity .user ∷ t .identity .type ∷ t .identity .level ∷ t.elevation
+    ∷ mark (t .limits .writeRestricted) ∷ mark (t .limits .userDenyOnly)
+    ∷ t .defaults .owner ∷ t .defaults .primaryGroup ∷ t.scope ∷ t .identity .integrity
+    ∷ t .privileges .present ∷ t .privileges .enabled ∷ t .privileges .byDefault ∷ t .privileges .used
+    ∷ length t.groups ∷ length (t .limits .restricting) ∷ length (t .defaults .dacl) ∷ []
+
+unfoldable pub tokenRow : Token → List ℕ
+tokenRow t = head t ++ (pad maxGroups (map pack t.groups) ++ pad maxRestricting (t .limits .restricting))
+
+unfoldable pub daclRow : Token → List ℕ
+daclRow t = pad maxDacl (t .defaults .dacl)
+
+-- a free slot is all zero
+unfoldable pub slotRow : Slot Token → List ℕ
+slotRow free = replicate tokenWords 0
+slotRow (live t) = tokenRow t
+
+unfoldable pub slotDacl : Slot Token → List ℕ
+slotDacl free = replicate maxDacl 0
+slotDacl (live t) = daclRow t
+
+unfoldable pub slotHandle : Slot Handle → Handle
+slotHandle free = noHandle
+slotHandle (live h) = h
+
+unfoldable pub stationRow : Station → List ℕ
+stationRow x = x.token ∷ length x.pending ∷ mark x.isBroken ∷ []
+
+unfoldable pub pendingRow : Station → List ℕ
+pendingRow x = pad pendingBytes x.pending
+
+unfoldable pub encode : State → Memory
+encode σ =
+    record {
+      tokens = flat slotRow (σ .tokens .slots);
+      dacls = flat slotDacl (σ .tokens .slots);
+      handles = map slotHandle (σ .handles .slots);
+      stations = σ .tokens .next ∷ σ .handles .next ∷ flat stationRow σ.stations;
+      pending = flat pendingRow σ.stations;
+    }
+
+-- ---- what memory stands for
+
+unfoldable pub identityAt : List ℕ → Identity
+identityAt ws =
+    record {
+      user = low32 (getD ws 3 0);
+      session = getD ws 2 0;
+      type = low8 (getD ws 4 0);
+      level = low8 (getD ws 5 0);
+      integrity = low32 (getD ws 12 0);
+    }
+
+unfoldable pub privilegesAt : List ℕ → Privileges
+privilegesAt ws = record { present = getD ws 13 0; enabled = getD ws 14 0; byDefault = getD ws 15 0; used = getD ws 16 0 }
+
+unfoldable pub groupsAt : List ℕ → List Group
+groupsAt ws = map unpack (take (getD ws 17 0) (take maxGroups (drop headWords ws)))
+
+unfoldable pub limitsAt : List ℕ → Limits
+limitsAt ws =
+    record {
+      restricting = map low32 (take (getD ws 18 0) (drop (headWords + maxGroups) ws));
+      writeRestricted = eqb (getD ws 7 0) 1;
+      userDenyOnly = eqb (getD ws 8 0) 1;
+    }
+
+unfoldable pub defaultsAt : List ℕ → List ℕ → Defaults
+defaultsAt ws bs = record { owner = low32 (getD ws 9 0); primaryGroup = low32 (getD ws 10 0); dacl = take (getD ws 19 0) bs }
+
+unfoldable pub tokenAt : List ℕ → List ℕ → Token
+tokenAt ws bs =
+    record {
+      number = getD ws 0 0;
+      modified = getD ws 1 0;
+      elevation = low8 (getD ws 6 0);
+      identity = identityAt ws;
+      privileges = privilegesAt ws;
+      groups = groupsAt ws;
+      limits = limitsAt ws;
+      defaults = defaultsAt ws bs;
+      scope = low32 (getD ws 11 0);
+    }
+
+-- number 0 is given to no token and to no handle: the slot is free
+unfoldable pub slotAt : List ℕ → List ℕ → Slot Token
+slotAt ws bs = if eqb (getD ws 0 0) 0 then free else live (tokenAt ws bs)
+
+unfoldable pub handleAt : Handle → Slot Handle
+handleAt h = if eqb h.number 0 then free else live h
+
+unfoldable pub stationAt : List ℕ → List ℕ → Station
+stationAt ws bs = record { token = getD ws 0 0; pending = take (getD ws 1 0) bs; isBroken = eqb (getD ws 2 0) 1 }
+
+unfoldable pub decode : Memory → State
+decode m =
+    record {
+      tokens = record { slots = readRows slotAt tokenWords maxDacl tokenSlots m.tokens m.dacls; next = getD m.stations 0 0 };
+      handles = record { slots = map handleAt m.handles; next = getD m.stations 1 0 };
+      stations = readRows stationAt stationWords pendingBytes stationCount (drop counterWords m.stations) m.pending;
+    }
+
+-- ---- valid memory: its sizes are right, it is what the state that it stands for is written as, and that state is valid
+
+unfoldable pub same : List ℕ → List ℕ → Bool
+same [] [] = true
+same [] (y ∷ ys) = false
+same (x ∷ xs) [] = false
+same (x ∷ xs) (y ∷ ys) = eqb x y && same xs ys
+
+unfoldable pub sameHandle : Handle → Handle → Bool
+sameHandle a b = eqb a.station b.station && eqb a.number b.number && eqb a.token b.token && eqb a.mask b.mask
+
+unfoldable pub sameHandles : List Handle → List Handle → Bool
+sameHandles [] [] = true
+sameHandles [] (y ∷ ys) = false
+sameHandles (x ∷ xs) [] = false
+sameHandles (x ∷ xs) (y ∷ ys) = sameHandle x y && sameHandles xs ys
+
+unfoldable pub sameMemory : Memory → Memory → Bool
+sameMemory a b =
+    same a.tokens b.tokens && same a.dacls b.dacls && sameHandles a.handles b.handles && same a.stations b.stations && same a.pending b.pending
+
+unfoldable pub isImage : Memory → Bool
+isImage m = sameMemory (encode (decode m)) m
+
+unfoldable pub valid : Memory → Bool
+valid m = sized m && isImage m && Valid.valid (decode m)

@@ -1,0 +1,63 @@
+-- The refusals, with document 01's numbers. Assumes nothing.
+use Prim.Native.Nat.{ℕ}
+use mathlib.Core.List.{List, []}
+use Rattle.rules.specs.Number.{encode}
+
+-- a refusal of a request: its number, and what the answer says after it
+pub record Refusal : Type 0 where
+  pub number : ℕ
+  pub report : List ℕ
+
+unfoldable pub refusal : ℕ → Refusal
+refusal n = record { number = n; report = [] }
+
+-- unknown request, body not in its layout, or bytes left
+abbrev pub malformed : Refusal
+malformed = refusal 1
+
+-- the handle isn't this station's live one
+abbrev pub notALiveHandle : Refusal
+notALiveHandle = refusal 2
+
+abbrev pub rightMissing : Refusal
+rightMissing = refusal 3
+
+abbrev pub privilegeNotHeld : Refusal
+privilegeNotHeld = refusal 4
+
+-- a field or entry bad, unknown class, installing a non-primary token
+abbrev pub badField : Refusal
+badField = refusal 5
+
+abbrev pub protectedGroup : Refusal
+protectedGroup = refusal 6
+
+abbrev pub installMismatch : Refusal
+installMismatch = refusal 7
+
+-- a needed slot is not free, a needed next number is unusable, or over 16 restricting SIDs
+abbrev pub tableFull : Refusal
+tableFull = refusal 8
+
+-- the capacity given is below the query's size, which is told
+unfoldable pub capacityBelow : ℕ → Refusal
+capacityBelow size = record { number = 9; report = encode size }
+
+-- ---- the stream: answered once, at the byte that breaks it
+
+abbrev pub streamBroken : ℕ
+streamBroken = 10
+
+-- ---- calls: nothing is used, answered or written
+
+-- the station is above 7
+abbrev pub noStation : ℕ
+noStation = 11
+
+-- the answer buffer is under 1,024 bytes
+abbrev pub shortBuffer : ℕ
+shortBuffer = 12
+
+-- document 01: 'memory not in order'
+abbrev pub invalidMemory : ℕ
+invalidMemory = 13

@@ -1,0 +1,186 @@
+-- The eleven requests and their layouts: the request number, then the fields; nothing may be left. Assumes nothing.
+use Prim.Native.Nat.{ℕ, zero, suc}
+use mathlib.Core.List.{List, [], _∷_}
+use lib.ListN.{getD}
+use Rattle.rules.specs.Number.{Read, got, bad, readNumber, max16, max32, max64}
+use Rattle.rules.specs.Group.{Group}
+
+-- an entry of request 5 or 6: a privilege or a group's index, and what is asked of it
+pub record Entry : Type 0 where
+  pub key : ℕ
+  pub value : ℕ
+
+unfoldable pub keyOf : Entry → ℕ
+keyOf e = e.key
+
+pub data Request : Type 0 where
+  openOwn : ℕ → Request
+  close : ℕ → Request
+  create : ℕ → ℕ → ℕ → ℕ → ℕ → List Group → Request
+  query : ℕ → ℕ → ℕ → Request
+  privileges : ℕ → List Entry → Request
+  groups : ℕ → List Entry → Request
+  scope : ℕ → ℕ → Request
+  defaults : ℕ → ℕ → ℕ → ℕ → List ℕ → Request
+  duplicate : ℕ → ℕ → ℕ → ℕ → Request
+  restrict : ℕ → ℕ → ℕ → List ℕ → List ℕ → Request
+  install : ℕ → Request
+
+-- ---- reading one thing after the other
+
+abbrev pub Reader : Type 0 → Type 0
+Reader A = List ℕ → Read A
+
+unfoldable pub follow : {A B : Type 0} → Read A → (A → Reader B) → Read B
+follow bad f = bad
+follow (got a after) f = f a after
+
+unfoldable pub _>>=_ : {A B : Type 0} → Reader A → (A → Reader B) → Reader B
+_>>=_ p f = λ bytes. follow (p bytes) f
+
+unfoldable pub give : {A : Type 0} → A → Reader A
+give a bytes = got a bytes
+
+-- the body ends here
+unfoldable pub end : {A : Type 0} → A → Reader A
+end a [] = got a []
+end a (b ∷ after) = bad
+
+unfoldable pub byte : Reader ℕ
+byte [] = bad
+byte (b ∷ after) = got b after
+
+unfoldable pub times : {A : Type 0} → ℕ → Reader A → Reader (List A)
+times zero p = give []
+times (suc n) p = λ bytes. follow (p bytes) (λ x after. follow (times n p after) (λ xs. give (x ∷ xs)))
+
+unfoldable pub u16 : Reader ℕ
+u16 bytes = readNumber max16 bytes
+
+unfoldable pub u32 : Reader ℕ
+u32 bytes = readNumber max32 bytes
+
+unfoldable pub u64 : Reader ℕ
+u64 bytes = readNumber max64 bytes
+
+unfoldable pub group : Reader Group
+group = do
+  s ← u32
+  a ← u32
+  give (record { sid = s; attributes = a })
+
+unfoldable pub entry : Reader Entry
+entry = do
+  k ← u32
+  v ← u32
+  give (record { key = k; value = v })
+
+-- ---- the layouts, in the order of the request numbers
+
+unfoldable pub openLayout : Reader Request
+openLayout = do
+  mask ← u32
+  end (openOwn mask)
+
+unfoldable pub closeLayout : Reader Request
+closeLayout = do
+  h ← u32
+  end (close h)
+
+unfoldable pub createLayout : Reader Request
+createLayout = do
+  user ← u32
+  session ← u64
+  integrity ← u32
+  present ← u64
+  byDefault ← u64
+  count ← u32
+  gs ← times count group
+  end (create user session integrity present byDefault gs)
+
+unfoldable pub queryLayout : Reader Request
+queryLayout = do
+  h ← u32
+  class ← u32
+  capacity ← u32
+  end (query h class capacity)
+
+unfoldable pub privilegesLayout : Reader Request
+privilegesLayout = do
+  h ← u32
+  count ← u32
+  es ← times count entry
+  end (privileges h es)
+
+unfoldable pub groupsLayout : Reader Request
+groupsLayout = do
+  h ← u32
+  count ← u32
+  es ← times count entry
+  end (groups h es)
+
+unfoldable pub scopeLayout : Reader Request
+scopeLayout = do
+  h ← u32
+  v ← u32
+  end (scope h v)
+
+unfoldable pub defaultsLayout : Reader Request
+defaultsLayout = do
+  h ← u32
+  owner ← u16
+  group ← u16
+  flag ← u32
+  size ← u32
+  bytes ← times size byte
+  end (defaults h owner group flag bytes)
+
+unfoldable pub duplicateLayout : Reader Request
+duplicateLayout = do
+  h ← u32
+  type ← u32
+  level ← u32
+  mask ← u32
+  end (duplicate h type level mask)
+
+unfoldable pub restrictLayout : Reader Request
+restrictLayout = do
+  h ← u32
+  mark ← u32
+  removed ← u64
+  denyCount ← u32
+  sidCount ← u32
+  deny ← times denyCount u32
+  sids ← times sidCount u32
+  end (restrict h mark removed deny sids)
+
+unfoldable pub installLayout : Reader Request
+installLayout = do
+  h ← u32
+  end (install h)
+
+-- a request number that is none
+unfoldable pub unknown : Reader Request
+unknown bytes = bad
+
+unfoldable pub layouts : List (Reader Request)
+layouts =
+    unknown
+    ∷ openLayout
+    ∷ closeLayout
+    ∷ createLayout
+    ∷ queryLayout
+    ∷ privilegesLayout
+    ∷ groupsLayout
+    ∷ scopeLayout
+    ∷ defaultsLayout
+    ∷ duplicateLayout
+    ∷ restrictLayout
+    ∷ installLayout
+    ∷ []
+
+-- the request that a body is
+unfoldable pub parse : Reader Request
+parse = do
+  n ← u32
+  getD layouts n unknown

@@ -1,0 +1,144 @@
+-- What the broker keeps (document 01: 'What the desk keeps'). Assumes nothing.
+use Prim.Native.Nat.{ℕ, _^_}
+use mathlib.Core.Bool.{Bool}
+use mathlib.Core.List.{List, [], _∷_, _++_, map}
+use lib.ListN.{getD, replicate}
+use lib.Dec.{eqb}
+use Rattle.rules.specs.Basic.{member, changeAt}
+use Rattle.rules.specs.Number.{max32, max64}
+use Rattle.rules.specs.Privileges.{isEnabled, markUsed, granted}
+use Rattle.rules.specs.Token.{Token, withPrivileges, startToken, newToken, primaryOf}
+use Rattle.rules.specs.Table.{Slot, free, live, Table, orElse, lives, canAdd, placed, added, found, exchanged, retained, withSlots}
+use Rattle.rules.specs.Handle.{Handle, noHandle, isHandle}
+use Rattle.rules.specs.Station.{Station, startStation, withToken}
+
+pub record State : Type 0 where
+  pub tokens : Table Token
+  pub handles : Table Handle
+  pub stations : List Station
+
+abbrev pub tokenSlots : ℕ
+tokenSlots = 16
+
+abbrev pub handleSlots : ℕ
+handleSlots = 32
+
+abbrev pub stationCount : ℕ
+stationCount = 8
+
+unfoldable pub start : State
+start =
+    record {
+      tokens = record { slots = placed startToken (replicate tokenSlots free); next = 2 };
+      handles = record { slots = replicate handleSlots free; next = 1 };
+      stations = replicate stationCount startStation;
+    }
+
+unfoldable pub withTokens : Table Token → State → State
+withTokens x σ = record { tokens = x; handles = σ.handles; stations = σ.stations }
+
+unfoldable pub withHandles : Table Handle → State → State
+withHandles x σ = record { tokens = σ.tokens; handles = x; stations = σ.stations }
+
+unfoldable pub withStations : List Station → State → State
+withStations xs σ = record { tokens = σ.tokens; handles = σ.handles; stations = xs }
+
+-- ---- stations
+
+unfoldable pub stationAt : State → ℕ → Station
+stationAt σ s = getD σ.stations s startStation
+
+unfoldable pub changeStation : ℕ → (Station → Station) → State → State
+changeStation s f σ = withStations (changeAt s f σ.stations) σ
+
+-- station s gets token n for its primary one
+unfoldable pub setToken : ℕ → ℕ → State → State
+setToken s n σ = changeStation s (withToken n) σ
+
+-- ---- tokens
+
+unfoldable pub numberOf : Token → ℕ
+numberOf t = t.number
+
+unfoldable pub isNumbered : ℕ → Token → Bool
+isNumbered n t = eqb t.number n
+
+unfoldable pub noToken : Token
+noToken = newToken 0 (primaryOf 0 0 0) (granted 0 0) []
+
+-- the live token of a number
+unfoldable pub tokenOf : State → ℕ → Token
+tokenOf σ n = orElse noToken (found (isNumbered n) (σ .tokens .slots))
+
+-- the number of a station's primary token, and that token
+unfoldable pub callerNumber : State → ℕ → ℕ
+callerNumber σ s = stationAt σ s .token
+
+unfoldable pub caller : State → ℕ → Token
+caller σ s = tokenOf σ (callerNumber σ s)
+
+-- a privilege is held: enabled on the caller's primary token
+unfoldable pub held : State → ℕ → ℕ → Bool
+held σ s n = isEnabled n (caller σ s .privileges)
+
+-- the token of t's number becomes t
+unfoldable pub putToken : Token → State → State
+putToken t σ = withTokens (withSlots (exchanged (isNumbered t.number) (live t) (σ .tokens .slots)) σ.tokens) σ
+
+-- token n becomes f of it
+unfoldable pub changeToken : ℕ → (Token → Token) → State → State
+changeToken n f σ = putToken (f (tokenOf σ n)) σ
+
+unfoldable pub usedOn : ℕ → Token → Token
+usedOn n t = withPrivileges (markUsed (2 ^ n) t.privileges) t
+
+-- a success needed privilege n: its used bit is set on the station's primary token
+unfoldable pub used : ℕ → ℕ → State → State
+used n s σ = changeToken (callerNumber σ s) (usedOn n) σ
+
+unfoldable pub canAddToken : State → Bool
+canAddToken σ = canAdd max64 σ.tokens
+
+-- a new token, whose number is the next one
+unfoldable pub addToken : Token → State → State
+addToken t σ = withTokens (added t σ.tokens) σ
+
+-- ---- handles
+
+unfoldable pub handleNumber : Handle → ℕ
+handleNumber h = h.number
+
+-- the live handle n of station s
+unfoldable pub findHandle : State → ℕ → ℕ → Slot Handle
+findHandle σ s n = found (isHandle s n) (σ .handles .slots)
+
+unfoldable pub handleOf : State → ℕ → ℕ → Handle
+handleOf σ s n = orElse noHandle (findHandle σ s n)
+
+unfoldable pub canAddHandle : State → Bool
+canAddHandle σ = canAdd max32 σ.handles
+
+-- a new handle of station s on token n
+unfoldable pub addHandle : ℕ → ℕ → ℕ → State → State
+addHandle s n mask σ = withHandles (added (record { station = s; number = σ .handles .next; token = n; mask = mask }) σ.handles) σ
+
+unfoldable pub dropHandle : ℕ → ℕ → State → State
+dropHandle s n σ = withHandles (withSlots (exchanged (isHandle s n) free (σ .handles .slots)) σ.handles) σ
+
+-- ---- references: a token lives while a handle or a station refers to it
+
+unfoldable pub handleToken : Handle → ℕ
+handleToken h = h.token
+
+unfoldable pub stationToken : Station → ℕ
+stationToken x = x.token
+
+unfoldable pub references : State → List ℕ
+references σ = map handleToken (lives (σ .handles .slots)) ++ map stationToken σ.stations
+
+unfoldable pub isReferred : State → Token → Bool
+isReferred σ t = member t.number (references σ)
+
+-- every token that nothing refers to is freed
+unfoldable pub released : State → State
+released σ = withTokens (withSlots (retained (isReferred σ) (σ .tokens .slots)) σ.tokens) σ
