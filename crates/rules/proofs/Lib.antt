@@ -1,3 +1,14 @@
 pub mod Logic
 pub mod Index
+pub mod Bits
+pub mod Numbers
+pub mod Tables
+pub mod Facts
+pub mod Changes
+pub mod Widths
+pub mod PrivilegesKept
+pub mod GroupsKept
+pub mod TokensKept
+pub mod Steps
+pub mod Kept
 pub mod Cases

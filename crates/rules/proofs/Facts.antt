@@ -1,0 +1,227 @@
+-- A valid state, as facts. Assumes nothing.
+use Prim.Native.Nat.{ℕ, zero, suc, _+_, _-_, _^_, _≤_, _<_}
+use native.Mathlib.Omega.{arith}
+use mathlib.Core.Path.{_≡_, refl, sym, ap, ap₂, _∙_, subst}
+use mathlib.Core.Bool.{Bool, true, false, not, _&&_, _||_}
+use mathlib.Core.Logic.{_⊎_, inl, inr, ⊎-elim}
+use mathlib.Core.List.{List, [], _∷_, _++_, map}
+use lib.Dec.{eqb, leb, ltb}
+use lib.ListN.{length}
+use borrow.Author.Tests.{eqb-true, eq-eqb, leb-true, le-leb, ltb-true}
+use Rattle.rules.specs.Basic.{all, member, distinct}
+use Rattle.rules.specs.Frame.{size}
+use Rattle.rules.specs.Growth.{Mem}
+use Rattle.rules.specs.Handle.{Handle}
+use Rattle.rules.specs.Memory.{sized, same}
+use Rattle.rules.specs.Number.{max32, max64}
+use Rattle.rules.specs.Request.{privileges, groups, defaults}
+use Rattle.rules.specs.State.{tokenSlots, handleSlots, stationCount, numberOf, handleNumber, stationToken, references, isReferred, State}
+use Rattle.rules.specs.Station.{Station}
+use Rattle.rules.specs.Table.{lives, someFree, withSlots, canAdd, added, exchanged, retained, Table, free, live}
+use Rattle.rules.specs.Token.{primary, Token}
+use Rattle.rules.specs.Valid.{is32, is64, between, identityValid, privilegesValid, groupsValid, limitsValid, defaultsValid, tokenValid, handleValid, streamValid, tableValid, isToken, primaryAtStation, valid}
+use Rattle.rules.proofs.Logic.{and-l, and-r, and-i, implies-e, implies-i, all-mem, mem-all, map-mem, mem-map, member-mem, mem-member}
+use Rattle.rules.proofs.Bits.{below}
+use Rattle.rules.proofs.Tables.{length-placed, length-exchanged, length-retained, numbers, number-placed, number-retained, number-freed, distinct-placed, distinct-retained, distinct-freed, same-numbers}
+
+-- ---- a token
+
+pub record TokenFacts (t : Token) : Type 0 where
+  pub modified : is64 (t .modified) ≡ true
+  pub elevation : between 1 3 (t .elevation) ≡ true
+  pub scope : is32 (t .scope) ≡ true
+  pub identity : identityValid (t .identity) ≡ true
+  pub privileges : privilegesValid (t .privileges) ≡ true
+  pub groups : groupsValid (t .groups) ≡ true
+  pub limits : limitsValid (t .limits) ≡ true
+  pub defaults : defaultsValid (t .groups) (t .defaults) ≡ true
+
+pub token-facts : (t : Token) → tokenValid t ≡ true → TokenFacts t
+unfolding tokenValid
+token-facts t h = search (and-l, and-r) depth 8
+
+pub facts-token : (t : Token) → TokenFacts t → tokenValid t ≡ true
+unfolding tokenValid
+facts-token t f =
+    and-i (and-i (and-i (and-i (and-i (and-i (and-i (f .modified) (f .elevation)) (f .scope)) (f .identity)) (f .privileges)) (f .groups)) (f .limits)) (f .defaults)
+
+-- ---- a table
+
+pub record TableFacts {A : Type 0} (size top : ℕ) (number : A → ℕ) (x : Table A) : Type 0 where
+  pub sized : length (x .slots) ≡ size
+  pub low : 1 ≤ x .next
+  pub high : x .next ≤ top
+  pub apart : distinct (map number (lives (x .slots))) ≡ true
+  pub given : (n : ℕ) → Mem n (map number (lives (x .slots))) → (1 ≤ n) × (n < x .next)
+
+between-low : (a b n : ℕ) → between a b n ≡ true → a ≤ n
+unfolding between
+between-low a b n h = leb-true a n (and-l (leb a n) (leb n b) h)
+
+between-high : (a b n : ℕ) → between a b n ≡ true → n ≤ b
+unfolding between
+between-high a b n h = leb-true n b (and-r (leb a n) (leb n b) h)
+
+between-i : (a b n : ℕ) → a ≤ n → n ≤ b → between a b n ≡ true
+unfolding between
+between-i a b n h k = and-i (le-leb a n h) (le-leb n b k)
+
+module _ {A : Type 0} (size top : ℕ) (number : A → ℕ) (x : Table A) where
+  pub table-facts : tableValid size top number x ≡ true → TableFacts size top number x
+  unfolding tableValid
+  table-facts h =
+      let ns = map number (lives (x .slots)) in
+      let size : eqb (length (x .slots)) size ≡ true = search (and-l, and-r) in
+      let range : between 1 top (x .next) ≡ true = search (and-l, and-r) in
+      let apart : distinct ns ≡ true = search (and-l, and-r) in
+      let given : all (between 1 (x .next - 1)) ns ≡ true = search (and-l, and-r) in
+      record {
+        sized = eqb-true _ _ size;
+        low = between-low 1 top (x .next) range;
+        high = between-high 1 top (x .next) range;
+        apart = apart;
+        given = λ n m.
+            let g = all-mem (between 1 (x .next - 1)) ns given m in
+            let low = between-low 1 top (x .next) range in
+            let g1 = between-low 1 (x .next - 1) n g in
+            let g2 = between-high 1 (x .next - 1) n g in
+            omega arith;
+      }
+
+  pub facts-table : TableFacts size top number x → tableValid size top number x ≡ true
+  unfolding tableValid
+  facts-table f =
+      and-i (and-i (and-i (eq-eqb (length (x .slots)) size (f .sized)) (between-i 1 top (x .next) (f .low) (f .high))) (f .apart))
+      (mem-all (between 1 (x .next - 1)) (map number (lives (x .slots)))
+      (λ n m. let g = f .given n m in between-i 1 (x .next - 1) n (g .0) (let k = g .1 in omega arith)))
+
+-- a new record with the next number, another record with the same number, and fewer records
+module _ {A : Type 0} (size top : ℕ) (number : A → ℕ) (x : Table A) (f : TableFacts size top number x) where
+  pub added-facts : (a : A) → number a ≡ x .next → canAdd top x ≡ true → TableFacts size top number (added a x)
+  unfolding added canAdd
+  added-facts a e room =
+      let below = ltb-true (x .next) top (and-r (someFree (x .slots)) _ room) in
+      record {
+        sized = length-placed a (x .slots) ∙ f .sized;
+        low = omega arith;
+        high = omega arith;
+        apart = distinct-placed number a (x .slots) (λ m. let k = f .given _ m .1 in omega arith) (f .apart);
+        given = λ n m. ⊎-elim (λ q. let l = f .low in omega arith) (λ k. let g = f .given n k in let g0 = g .0 in let g1 = g .1 in omega arith) (number-placed number a (x .slots) m);
+      }
+
+  pub put-facts : (a : A) → TableFacts size top number (withSlots (exchanged (λ c. eqb (number c) (number a)) (live a) (x .slots)) x)
+  unfolding withSlots
+  put-facts a =
+      let same = same-numbers number a (x .slots) in
+      record {
+        sized = length-exchanged _ (live a) (x .slots) ∙ f .sized;
+        low = f .low;
+        high = f .high;
+        apart = ap distinct same ∙ f .apart;
+        given = λ n m. f .given n (rw same at m);
+      }
+
+  pub freed-facts : (t : A → Bool) → TableFacts size top number (withSlots (exchanged t free (x .slots)) x)
+  unfolding withSlots
+  freed-facts t =
+      record {
+        sized = length-exchanged t free (x .slots) ∙ f .sized;
+        low = f .low;
+        high = f .high;
+        apart = distinct-freed number t (x .slots) (f .apart);
+        given = λ n m. f .given n (number-freed number t (x .slots) m);
+      }
+
+  pub retained-facts : (t : A → Bool) → TableFacts size top number (withSlots (retained t (x .slots)) x)
+  unfolding withSlots
+  retained-facts t =
+      record {
+        sized = length-retained t (x .slots) ∙ f .sized;
+        low = f .low;
+        high = f .high;
+        apart = distinct-retained number t (x .slots) (f .apart);
+        given = λ n m. f .given n (number-retained number t (x .slots) m);
+      }
+
+-- ---- the state: all but that every token is referred to, and that
+
+pub record Loose (d : State) : Type 0 where
+  pub tokens : TableFacts tokenSlots max64 numberOf (d .tokens)
+  pub handles : TableFacts handleSlots max32 handleNumber (d .handles)
+  pub stations : length (d .stations) ≡ stationCount
+  pub eachToken : (t : Token) → Mem t (lives (d .tokens .slots)) → TokenFacts t
+  pub eachHandle : (h : Handle) → Mem h (lives (d .handles .slots)) → handleValid h ≡ true
+  pub eachStation : (x : Station) → Mem x (d .stations) → streamValid x ≡ true
+  pub live : (n : ℕ) → Mem n (references d) → Mem n (map numberOf (lives (d .tokens .slots)))
+  pub stationPrimary : (t : Token) → Mem t (lives (d .tokens .slots)) → Mem (t .number) (map stationToken (d .stations)) → t .identity .type ≡ primary
+
+pub record StateFacts (d : State) : Type 0 where
+  pub loose : Loose d
+  pub reached : (n : ℕ) → Mem n (map numberOf (lives (d .tokens .slots))) → Mem n (references d)
+
+is-token : (d : State) (n : ℕ) → isToken d n ≡ true → Mem n (map numberOf (lives (d .tokens .slots)))
+unfolding isToken
+is-token d n h = member-mem n (map numberOf (lives (d .tokens .slots))) h
+
+token-is : (d : State) (n : ℕ) → Mem n (map numberOf (lives (d .tokens .slots))) → isToken d n ≡ true
+unfolding isToken
+token-is d n m = mem-member m
+
+is-primary : (d : State) (t : Token) → primaryAtStation d t ≡ true → Mem (t .number) (map stationToken (d .stations)) → t .identity .type ≡ primary
+unfolding primaryAtStation
+is-primary d t h m = eqb-true (t .identity .type) primary (implies-e (member (t .number) (map stationToken (d .stations))) _ h (mem-member m))
+
+primary-is : (d : State) (t : Token) → (Mem (t .number) (map stationToken (d .stations)) → t .identity .type ≡ primary) → primaryAtStation d t ≡ true
+unfolding primaryAtStation
+primary-is d t h = implies-i (member (t .number) (map stationToken (d .stations))) _ (λ m. eq-eqb (t .identity .type) primary (h (member-mem _ _ m)))
+
+pub is-referred : (d : State) (n : ℕ) (t : Token) → n ≡ numberOf t → isReferred d t ≡ true → Mem n (references d)
+unfolding isReferred numberOf
+is-referred d n t e h = rw e (member-mem (t .number) (references d) h)
+
+pub referred-is : (d : State) (n : ℕ) (t : Token) → n ≡ numberOf t → Mem n (references d) → isReferred d t ≡ true
+unfolding isReferred numberOf
+referred-is d n t e m = mem-member (rw e at m)
+
+pub valid-facts : (d : State) → valid d ≡ true → StateFacts d
+unfolding valid
+valid-facts d h =
+    let ts = lives (d .tokens .slots) in
+    let tokens : tableValid tokenSlots max64 numberOf (d .tokens) ≡ true = search (and-l, and-r) depth 9 in
+    let handles : tableValid handleSlots max32 handleNumber (d .handles) ≡ true = search (and-l, and-r) depth 9 in
+    let stations : eqb (length (d .stations)) stationCount ≡ true = search (and-l, and-r) depth 9 in
+    let each : all tokenValid ts ≡ true = search (and-l, and-r) depth 9 in
+    let eachHandle : all handleValid (lives (d .handles .slots)) ≡ true = search (and-l, and-r) depth 9 in
+    let eachStation : all streamValid (d .stations) ≡ true = search (and-l, and-r) depth 9 in
+    let alive : all (isToken d) (references d) ≡ true = search (and-l, and-r) depth 9 in
+    let reached : all (isReferred d) ts ≡ true = search (and-l, and-r) depth 9 in
+    let primaries : all (primaryAtStation d) ts ≡ true = search (and-l, and-r) depth 9 in
+    record {
+      loose = record {
+        tokens = table-facts tokenSlots max64 numberOf (d .tokens) tokens;
+        handles = table-facts handleSlots max32 handleNumber (d .handles) handles;
+        stations = eqb-true (length (d .stations)) stationCount stations;
+        eachToken = λ t m. token-facts t (all-mem tokenValid ts each m);
+        eachHandle = λ x m. all-mem handleValid (lives (d .handles .slots)) eachHandle m;
+        eachStation = λ x m. all-mem streamValid (d .stations) eachStation m;
+        live = λ n m. is-token d n (all-mem (isToken d) (references d) alive m);
+        stationPrimary = λ t m k. is-primary d t (all-mem (primaryAtStation d) ts primaries m) k;
+      };
+      reached = λ n m. let r = mem-map numberOf ts m in is-referred d n (r .0) (r .2) (all-mem (isReferred d) ts reached (r .1));
+    }
+
+pub facts-valid : (d : State) → StateFacts d → valid d ≡ true
+unfolding valid
+facts-valid d f =
+    let l = f .loose in
+    let ts = lives (d .tokens .slots) in
+    and-i (and-i (and-i (and-i (and-i (and-i (and-i (and-i
+    (facts-table tokenSlots max64 numberOf (d .tokens) (l .tokens))
+    (facts-table handleSlots max32 handleNumber (d .handles) (l .handles)))
+    (eq-eqb (length (d .stations)) stationCount (l .stations)))
+    (mem-all tokenValid ts (λ t m. facts-token t (l .eachToken t m))))
+    (mem-all handleValid (lives (d .handles .slots)) (l .eachHandle)))
+    (mem-all streamValid (d .stations) (l .eachStation)))
+    (mem-all (isToken d) (references d) (λ n m. token-is d n (l .live n m))))
+    (mem-all (isReferred d) ts (λ t m. referred-is d _ t refl (f .reached (numberOf t) (map-mem numberOf m)))))
+    (mem-all (primaryAtStation d) ts (λ t m. primary-is d t (l .stationPrimary t m)))

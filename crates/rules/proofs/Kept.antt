@@ -1,0 +1,245 @@
+-- Every rule keeps a state valid, and what lasts of its tokens. Assumes nothing.
+use Prim.Native.Nat.{ℕ, zero, suc, _+_, _-_, _^_, _≤_, _<_}
+use native.Mathlib.Omega.{arith}
+use mathlib.Core.Path.{_≡_, refl, sym, ap, ap₂, _∙_, subst}
+use mathlib.Core.Bool.{Bool, true, false, not, _&&_, _||_}
+use mathlib.Core.Logic.{_⊎_, inl, inr, ⊎-elim}
+use mathlib.Core.List.{List, [], _∷_, _++_, map}
+use lib.Dec.{eqb, leb, ltb}
+use lib.ListN.{length, getD, length-map}
+use borrow.Author.Tests.{eqb-true, lt-ltb, ltb-true}
+use Rattle.rules.specs.AdjustDefaults as AdjustDefaults
+use Rattle.rules.specs.AdjustGroups as AdjustGroups
+use Rattle.rules.specs.AdjustPrivileges as AdjustPrivileges
+use Rattle.rules.specs.AdjustScope as AdjustScope
+use Rattle.rules.specs.Basic.{implies, all}
+use Rattle.rules.specs.Bits.{has, within}
+use Rattle.rules.specs.Create as Create
+use Rattle.rules.specs.Create.{entered}
+use Rattle.rules.specs.Decision.{canIssue, issued}
+use Rattle.rules.specs.Duplicate as Duplicate
+use Rattle.rules.specs.Group.{Group}
+use Rattle.rules.specs.Growth.{Mem}
+use Rattle.rules.specs.Handle.{Handle}
+use Rattle.rules.specs.Install as Install
+use Rattle.rules.specs.Mask.{allRights, validMask}
+use Rattle.rules.specs.Model.{step}
+use Rattle.rules.specs.Number.{max64, Read, got, bad}
+use Rattle.rules.specs.OpenClose as OpenClose
+use Rattle.rules.specs.Privileges.{createToken, assignPrimaryToken, tcb, existing, granted}
+use Rattle.rules.specs.Query as Query
+use Rattle.rules.specs.Request as Request
+use Rattle.rules.specs.Request.{group, parse, Entry, Request, privileges, groups}
+use Rattle.rules.specs.Restrict as Restrict
+use Rattle.rules.specs.Serve.{rule, decided, decision, serve}
+use Rattle.rules.specs.State.{stationCount, withTokens, setToken, numberOf, tokenOf, callerNumber, caller, putToken, changeToken, usedOn, used, canAddToken, handleOf, canAddHandle, released, State}
+use Rattle.rules.specs.Table.{someFree, withSlots, canAdd}
+use Rattle.rules.specs.Token.{maxGroups, maxRestricting, primary, primaryOf, newToken, Token}
+use Rattle.rules.specs.Valid.{isByte, is32, is64, between, identityValid, privilegesValid, groupsValid, handleValid}
+use Rattle.rules.proofs.Logic.{and-l, and-r, and-i, not-both, mem-by}
+use Rattle.rules.proofs.Bits.{none-within, below}
+use Rattle.rules.proofs.Tables.{on-if, numbers, only-one}
+use Rattle.rules.proofs.Facts.{TokenFacts, StateFacts}
+use Rattle.rules.proofs.Changes.{numbersOf, put-numbers, put-room}
+use Rattle.rules.proofs.Widths.{Got, sid32, Fits, parsed}
+use Rattle.rules.proofs.GroupsKept.{all-entered}
+use Rattle.rules.proofs.TokensKept.{After, used-after, privileges-after, groups-after, scope-after, defaults-after, new-facts, duplicated-made, restricted-made}
+use Rattle.rules.proofs.Steps.{Advance, stays, _then_, Is, is-live, is-caller, change, open-step, issue-step, close-step, token-step, Keeps, Found, on-handle, finished}
+
+-- ---- the token of a number, over a step
+
+is-number : (d : State) (n : ℕ) → Is d n → Mem n (numbersOf d)
+unfolding numberOf
+is-number d n i = mem-by numberOf (sym (i .number)) (i .was)
+
+changed-is : (d : State) (m n : ℕ) (g : Token → Token) → Is d n → Is (changeToken m g d) n
+unfolding changeToken
+changed-is d m n g i = is-live (changeToken m g d) n (rw (put-numbers d (g (tokenOf d m))) (is-number d n i))
+
+same-identity : (d e : State) (n : ℕ) → StateFacts d → Advance d e → Is d n → Is e n → tokenOf e n .identity ≡ tokenOf d n .identity
+unfolding numberOf
+same-identity d e n f st i j =
+    let below = f .loose .tokens .given n (is-number d n i) .1 in
+    let b = st .later .old (tokenOf e n) (j .was) (let q = j .number in omega arith) in
+    b .follows .identity
+    ∙ ap (λ (t : Token). t .identity) (only-one numberOf (d .tokens .slots) (f .loose .tokens .apart) (b .was) (i .was) (sym (b .follows .number) ∙ j .number ∙ sym (i .number)))
+
+token-ok : (d : State) (n : ℕ) → StateFacts d → Is d n → TokenFacts (tokenOf d n)
+token-ok d n f i = f .loose .eachToken (tokenOf d n) (i .was)
+
+next-64 : (d : State) → canIssue d ≡ true → is64 (d .tokens .next) ≡ true
+unfolding canIssue canAddToken canAdd is64
+next-64 d h = let k = ltb-true (d .tokens .next) max64 (and-r (someFree (d .tokens .slots)) _ (and-r (canAddHandle d) _ h)) in lt-ltb (d .tokens .next) (2 ^ 64) (omega arith)
+
+-- ---- used marks
+
+record Marked (d e : State) : Type 0 where
+  step : Advance d e
+  is : (n : ℕ) → Is d n → Is e n
+
+mark : (d : State) (s n : ℕ) → StateFacts d → s < stationCount → has n existing ≡ true → Marked d (used n s d)
+unfolding used
+mark d s n f in8 h =
+    let r = callerNumber d s in
+    let i = is-live d r (is-caller d s f in8) in
+    let a = used-after (tokenOf d r) n h (token-ok d r f i) in
+    record { step = change d r (usedOn n) f i (a .facts) (a .follows); is = λ m j. changed-is d r m (usedOn n) j }
+
+mark-again : (d e g : State) → Marked d e → Marked e g → Marked d g
+mark-again d e g a b = record { step = a .step then b .step; is = λ n i. b .is n (a .is n i) }
+
+marked-room : (d : State) (s n : ℕ) → canIssue d ≡ true → canIssue (used n s d) ≡ true
+unfolding used changeToken
+marked-room d s n h = put-room d (usedOn n (tokenOf d (callerNumber d s))) h
+
+marked-next : (d : State) (s n : ℕ) → used n s d .tokens .next ≡ d .tokens .next
+unfolding used changeToken putToken withTokens withSlots
+marked-next d s n = refl
+
+-- request 11's marks
+marks : (d : State) (s : ℕ) (t : Token) → StateFacts d → s < stationCount → Marked d (Install.marked s t d)
+unfolding Install.marked has
+marks d s t f in8 =
+    let once = used assignPrimaryToken s d in
+    let m : Marked d once = mark d s assignPrimaryToken f in8 refl in
+    on-if (Marked d) (Install.matches t (caller d s)) once (used tcb s once) (λ e. m) (λ e. mark-again d once (used tcb s once) m (mark once s tcb (m .step .facts) in8 refl))
+
+-- ---- what request 3 makes
+
+created : (n user session integrity present byDefault : ℕ) (gs : List Group) → is64 n ≡ true → is32 user ≡ true → is64 session ≡ true → all sid32 gs ≡ true → Create.validCreate user integrity present byDefault gs ≡ true
+    → TokenFacts (newToken n (primaryOf user session integrity) (granted present byDefault) (map Create.entered gs))
+unfolding Create.validCreate primaryOf granted identityValid privilegesValid groupsValid between implies
+created n user session integrity present byDefault gs w wu ws wg ok =
+    let level : Create.validIntegrity integrity ≡ true = search (and-l, and-r) in
+    let inside : within byDefault present ≡ true = search (and-l, and-r) in
+    let known : within present existing ≡ true = search (and-l, and-r) in
+    let few : leb (length gs) maxGroups ≡ true = search (and-l, and-r) in
+    let each : all (Create.validPair user) gs ≡ true = search (and-l, and-r) in
+    new-facts n (primaryOf user session integrity) (granted present byDefault) (map Create.entered gs) w
+    (and-i (and-i (and-i (and-i (and-i wu ws) level) refl) refl) refl)
+    (and-i (and-i (and-i inside inside) known) (none-within existing))
+    (and-i (ap (λ (k : ℕ). leb k maxGroups) (length-map gs Create.entered) ∙ few) (all-entered user gs each wg))
+
+-- ---- the rules, one by one
+
+module _ (d : State) (f : StateFacts d) (s : ℕ) (in8 : s < stationCount) where
+  adjust : (h : Handle) (g : Token → Token) → Found d h → After (tokenOf d (h .token)) (g (tokenOf d (h .token))) → Advance d (changeToken (h .token) g d)
+  adjust h g k a = change d (h .token) g f (k .token) (a .facts) (a .follows)
+
+  opens : (mask : ℕ) → Keeps d (OpenClose.openOwn d s mask)
+  unfolding OpenClose.openOwn Keeps
+  opens mask m room = open-step d s (callerNumber d s) mask f in8 m room (is-caller d s f in8)
+
+  closes : (n : ℕ) → Keeps d (OpenClose.close d s n)
+  unfolding OpenClose.close Keeps
+  closes n known = close-step d s n f
+
+  queries : (n class capacity : ℕ) → Keeps d (Query.query d s n class capacity)
+  unfolding Query.query Keeps
+  queries n class capacity = on-handle d s n _ _ f λ k ok fits. stays f
+
+  adjusts-privileges : (n : ℕ) (es : List Entry) → Keeps d (AdjustPrivileges.adjust d s n es)
+  unfolding AdjustPrivileges.adjust Keeps
+  adjusts-privileges n es =
+      on-handle d s n _ _ f λ k ok.
+      let h = handleOf d s n in
+      adjust h (AdjustPrivileges.adjustedToken es) k (privileges-after (tokenOf d (h .token)) es ok (token-ok d (h .token) f (k .token)))
+
+  adjusts-groups : (n : ℕ) (es : List Entry) → Keeps d (AdjustGroups.adjust d s n es)
+  unfolding AdjustGroups.adjust Keeps
+  adjusts-groups n es =
+      on-handle d s n _ _ f λ k ok may.
+      let h = handleOf d s n in
+      adjust h (AdjustGroups.adjustedToken es) k (groups-after (tokenOf d (h .token)) es may (token-ok d (h .token) f (k .token)))
+
+  defaults : (n owner group flag : ℕ) (bytes : List ℕ) → all isByte bytes ≡ true → Keeps d (AdjustDefaults.adjust d s n owner group flag bytes)
+  unfolding AdjustDefaults.adjust Keeps
+  defaults n owner group flag bytes b =
+      on-handle d s n _ _ f λ k ok.
+      let h = handleOf d s n in
+      adjust h (AdjustDefaults.adjustedToken owner group flag bytes) k (defaults-after (tokenOf d (h .token)) owner group flag bytes ok b (token-ok d (h .token) f (k .token)))
+
+  scopes : (n v : ℕ) → is32 v ≡ true → Keeps d (AdjustScope.scope d s n v)
+  unfolding AdjustScope.scope Keeps has
+  scopes n v w =
+      on-handle d s n _ _ f λ k ok.
+      let h = handleOf d s n in
+      let e = used tcb s d in
+      let m : Marked d e = mark d s tcb f in8 refl in
+      let i = m .is (h .token) (k .token) in
+      let a = scope-after (tokenOf e (h .token)) v w (token-ok e (h .token) (m .step .facts) i) in
+      m .step then change e (h .token) (AdjustScope.scopedToken v) (m .step .facts) i (a .facts) (a .follows)
+
+  duplicate-ok : (h : Handle) (t : Token) (type level mask : ℕ) → Duplicate.validDuplicate h t type level mask ≡ true → (leb level 3 ≡ true) × (validMask mask ≡ true)
+  unfolding Duplicate.validDuplicate
+  duplicate-ok h t type level mask ok = search (and-l, and-r)
+
+  duplicates : (n type level mask : ℕ) → Keeps d (Duplicate.duplicate d s n type level mask)
+  unfolding Duplicate.duplicate issued Keeps
+  duplicates n type level mask =
+      on-handle d s n _ _ f λ k ok room.
+      let h = handleOf d s n in
+      let t = tokenOf d (h .token) in
+      let r = duplicate-ok h t type level mask ok in
+      let u = duplicated-made t (d .tokens .next) type level (next-64 d room) (r .0) (token-ok d (h .token) f (k .token)) in
+      issue-step d s mask (Duplicate.duplicated (d .tokens .next) type level t) f in8 (r .1) room (u .number) (u .facts)
+
+  mask-ok : (h : Handle) → Found d h → validMask (h .mask) ≡ true
+  unfolding handleValid
+  mask-ok h k = and-r (ltb (h .station) stationCount) _ (f .loose .eachHandle h (k .was))
+
+  restricts : (n mark removed : ℕ) (deny sids : List ℕ) → all is32 sids ≡ true → Keeps d (Restrict.restrict d s n mark removed deny sids)
+  unfolding Restrict.restrict issued Keeps
+  restricts n mark removed deny sids w =
+      on-handle d s n _ _ f λ k ok fits.
+      let h = handleOf d s n in
+      let t = tokenOf d (h .token) in
+      let few = leb (length (t .limits .restricting) + length sids) maxRestricting in
+      let room = and-r few (canIssue d) fits in
+      let u = restricted-made t (d .tokens .next) mark removed deny sids (next-64 d room) (and-l few (canIssue d) fits) w (token-ok d (h .token) f (k .token)) in
+      issue-step d s (h .mask) (Restrict.restricted (d .tokens .next) mark removed deny sids t) f in8 (mask-ok h k) room (u .number) (u .facts)
+
+  creates : (user session integrity present byDefault : ℕ) (gs : List Group) → is32 user ≡ true → is64 session ≡ true → all sid32 gs ≡ true → Keeps d (Create.create d s user session integrity present byDefault gs)
+  unfolding Create.create issued Keeps has validMask within newToken
+  creates user session integrity present byDefault gs wu ws wg =
+      λ may ok room.
+      let e = used createToken s d in
+      let m : Marked d e = mark d s createToken f in8 refl in
+      let n = d .tokens .next in
+      m .step then issue-step e s allRights (newToken n (primaryOf user session integrity) (granted present byDefault) (map Create.entered gs)) (m .step .facts) in8 refl (marked-room d s createToken room) (sym (marked-next d s createToken))
+      (created n user session integrity present byDefault gs (next-64 d room) wu ws wg ok)
+
+  installs : (n : ℕ) → Keeps d (Install.install d s n)
+  unfolding Install.install Keeps
+  installs n =
+      on-handle d s n _ _ f λ k may ok match.
+      let h = handleOf d s n in
+      let t = tokenOf d (h .token) in
+      let e = Install.marked s t d in
+      let m = marks d s t f in8 in
+      let i = m .is (h .token) (k .token) in
+      let p : tokenOf e (h .token) .identity .type ≡ primary = ap (λ x. x .type) (same-identity d e (h .token) f (m .step) (k .token) i) ∙ eqb-true (t .identity .type) primary ok in
+      m .step then subst (λ (j : ℕ). Advance e (released (setToken s j e))) (i .number) (token-step e s (tokenOf e (h .token)) (m .step .facts) (i .was) p)
+
+  by-rule : (r : Request) → Fits r → Keeps d (rule d s r)
+  unfolding rule Fits
+  by-rule (Request.openOwn mask) w = opens mask
+  by-rule (Request.close n) w = closes n
+  by-rule (Request.create u e i p b gs) w = creates u e i p b gs (w .0) (w .1) (w .2)
+  by-rule (Request.query n class capacity) w = queries n class capacity
+  by-rule (Request.privileges n es) w = adjusts-privileges n es
+  by-rule (Request.groups n es) w = adjusts-groups n es
+  by-rule (Request.scope n v) w = scopes n v w
+  by-rule (Request.defaults n o g x bytes) w = defaults n o g x bytes w
+  by-rule (Request.duplicate n t l m) w = duplicates n t l m
+  by-rule (Request.restrict n m r ds ss) w = restricts n m r ds ss w
+  by-rule (Request.install n) w = installs n
+
+  by-read : (r : Read Request) → Got Fits r → Keeps d (decided d s r)
+  unfolding decided Keeps Got
+  by-read bad w = λ h. absurd (not-both h refl)
+  by-read (got r rest) w = by-rule r (w .0)
+
+  pub serve-step : (body : List ℕ) → all isByte body ≡ true → Advance d (serve d s body .state)
+  unfolding serve decision
+  serve-step body b = finished d (decision d s body) f (by-read (parse body) (parsed body b))

@@ -1,0 +1,128 @@
+-- A request that succeeds takes a valid state to a valid one, and what lasts of its tokens lasts. Assumes nothing.
+use Prim.Native.Nat.{ℕ, zero, suc, _+_, _-_, _^_, _≤_, _<_}
+use native.Mathlib.Nat.{le-refl, le-trans}
+use native.Mathlib.Omega.{arith}
+use mathlib.Core.Path.{_≡_, refl, sym, ap, ap₂, _∙_, subst}
+use mathlib.Core.Bool.{Bool, true, false, not, _&&_, _||_}
+use mathlib.Core.Logic.{_⊎_, inl, inr, ⊎-elim}
+use mathlib.Core.List.{List, [], _∷_, _++_, map}
+use lib.Dec.{eqb, leb, ltb}
+use lib.ListN.{length, getD}
+use borrow.Author.Tests.{eqb-true, lt-ltb}
+use Rattle.rules.specs.Decision.{carriedOut, withHandle, canIssue, Decision, need_else_then_, success}
+use Rattle.rules.specs.Growth.{Mem, Follows, Later}
+use Rattle.rules.specs.Handle.{noHandle, isHandle, Handle}
+use Rattle.rules.specs.Mask.{validMask}
+use Rattle.rules.specs.State.{stationCount, withHandles, withStations, stationAt, changeStation, setToken, numberOf, isNumbered, tokenOf, callerNumber, changeToken, canAddToken, addToken, findHandle, handleOf, canAddHandle, addHandle, dropHandle, handleToken, stationToken, references, released, State}
+use Rattle.rules.specs.Station.{startStation}
+use Rattle.rules.specs.Table.{isLive, orElse, lives, found, live}
+use Rattle.rules.specs.Token.{primary, Token}
+use Rattle.rules.specs.Valid.{handleValid}
+use Rattle.rules.proofs.Logic.{and-l, and-r, and-i, getD-mem, map-mem}
+use Rattle.rules.proofs.Tables.{live-slot, found-in, found-some}
+use Rattle.rules.proofs.Facts.{TokenFacts, Loose, StateFacts}
+use Rattle.rules.proofs.Changes.{later-refl, later-trans, numbersOf, by-handle, by-station, put-loose, put-later, put-reached, add-loose, add-later, handle-loose, handle-reached, drop-loose, token-loose, release-facts, release-later, add-reached, add-there, add-room}
+
+pub record Advance (d e : State) : Type 0 where
+  pub facts : StateFacts e
+  pub later : Later (d .tokens) (e .tokens)
+
+pub stays : {d : State} → StateFacts d → Advance d d
+stays f = record { facts = f; later = later-refl _ }
+
+infixr 3 _then_
+pub _then_ : {d e f : State} → Advance d e → Advance e f → Advance d f
+_then_ a b = record { facts = b .facts; later = later-trans _ _ _ (a .later) (b .later) }
+
+-- ---- the token of a number that is given
+
+pub record Is (d : State) (n : ℕ) : Type 0 where
+  pub was : Mem (tokenOf d n) (lives (d .tokens .slots))
+  pub number : tokenOf d n .number ≡ n
+
+pub is-live : (d : State) (n : ℕ) → Mem n (map numberOf (lives (d .tokens .slots))) → Is d n
+unfolding tokenOf orElse isNumbered numberOf
+is-live d n m = go (found-some numberOf n (d .tokens .slots) m)
+  where
+    go : (t : Token) × (found (λ (c : Token). eqb (numberOf c) n) (d .tokens .slots) ≡ live t) → Is d n
+    go (t, e) = let r = found-in (isNumbered n) (d .tokens .slots) e in record { was = rw e (r .0); number = rw e (eqb-true (t .number) n (r .1)) }
+
+pub is-caller : (d : State) (s : ℕ) → StateFacts d → s < stationCount → Mem (callerNumber d s) (map numberOf (lives (d .tokens .slots)))
+unfolding callerNumber stationAt stationToken
+is-caller d s f h = f .loose .live (callerNumber d s) (by-station d (map-mem stationToken (getD-mem (d .stations) s startStation (rw (f .loose .stations) h))))
+
+-- ---- the steps
+
+pub change : (d : State) (n : ℕ) (f : Token → Token) → StateFacts d → Is d n → TokenFacts (f (tokenOf d n)) → Follows (tokenOf d n) (f (tokenOf d n)) → Advance d (changeToken n f d)
+unfolding changeToken
+change d n f k i g h =
+    let t = tokenOf d n in
+    record {
+      facts = record { loose = put-loose d t (f t) (i .was) h g (k .loose); reached = put-reached d t (f t) (i .was) h (k .reached) };
+      later = put-later d t (f t) (i .was) h;
+    }
+
+handle-ok : (s number token mask : ℕ) → s < stationCount → validMask mask ≡ true → handleValid (record { station = s; number = number; token = token; mask = mask }) ≡ true
+unfolding handleValid
+handle-ok s number token mask h m = and-i (lt-ltb s stationCount h) m
+
+-- a handle is added on a token that is there
+handle-facts : (d : State) (s n mask : ℕ) → Loose d → ((k : ℕ) → Mem k (numbersOf d) → (k ≡ n) ⊎ Mem k (references d)) → s < stationCount → validMask mask ≡ true → canAddHandle d ≡ true → Mem n (numbersOf d) → StateFacts (addHandle s n mask d)
+handle-facts d s n mask l r h m room on =
+    record { loose = handle-loose d s n mask room (handle-ok s (d .handles .next) n mask h m) on l; reached = handle-reached d s n mask room r }
+
+pub open-step : (d : State) (s n mask : ℕ) → StateFacts d → s < stationCount → validMask mask ≡ true → canAddHandle d ≡ true → Mem n (numbersOf d) → Advance d (addHandle s n mask d)
+unfolding addHandle withHandles
+open-step d s n mask f h m room on =
+    record { facts = handle-facts d s n mask (f .loose) (λ k i. inr (f .reached k i)) h m room on; later = later-refl (d .tokens) }
+
+-- a token is made, and a handle on it
+pub issue-step : (d : State) (s mask : ℕ) (t : Token) → StateFacts d → s < stationCount → validMask mask ≡ true → canIssue d ≡ true → t .number ≡ d .tokens .next → TokenFacts t → Advance d (addHandle s (t .number) mask (addToken t d))
+unfolding addHandle withHandles canIssue
+issue-step d s mask t f h m room e g =
+    let room1 = and-l (canAddHandle d) (canAddToken d) room in
+    let room2 = and-r (canAddHandle d) (canAddToken d) room in
+    record {
+      facts =
+          handle-facts (addToken t d) s (t .number) mask (add-loose d t e room2 g (f .loose)) (add-reached d t (f .reached)) h m (add-room d t room1) (add-there d t room2);
+      later = add-later d t e;
+    }
+
+pub close-step : (d : State) (s n : ℕ) → StateFacts d → Advance d (released (dropHandle s n d))
+unfolding dropHandle withHandles
+close-step d s n f = record { facts = release-facts (dropHandle s n d) (drop-loose d s n (f .loose)); later = release-later (dropHandle s n d) }
+
+pub token-step : (d : State) (s : ℕ) (t : Token) → StateFacts d → Mem t (lives (d .tokens .slots)) → t .identity .type ≡ primary → Advance d (released (setToken s (t .number) d))
+unfolding setToken changeStation withStations
+token-step d s t f m p =
+    record { facts = release-facts (setToken s (t .number) d) (token-loose d s t m p (f .loose)); later = release-later (setToken s (t .number) d) }
+
+-- ---- how a request is decided: where its checks pass, its effect is a step
+
+unfoldable pub Keeps : State → Decision → Type 0
+Keeps d (need_else_then_ b r rest) = b ≡ true → Keeps d rest
+Keeps d (success e bytes) = Advance d e
+
+-- a handle that is found, and its token
+pub record Found (d : State) (h : Handle) : Type 0 where
+  pub was : Mem h (lives (d .handles .slots))
+  pub token : Is d (h .token)
+
+found-handle : (d : State) (h : Handle) → StateFacts d → Mem h (lives (d .handles .slots)) → Found d h
+unfolding handleToken
+found-handle d h f m = record { was = m; token = is-live d (h .token) (f .loose .live (h .token) (by-handle d (map-mem handleToken m))) }
+
+is-found : (d : State) (s n : ℕ) → isLive (findHandle d s n) ≡ true → Mem (handleOf d s n) (lives (d .handles .slots))
+unfolding handleOf findHandle
+is-found d s n h = found-in (isHandle s n) (d .handles .slots) (live-slot noHandle (found (isHandle s n) (d .handles .slots)) h) .0
+
+pub on-handle : (d : State) (s n right : ℕ) (go : Handle → Token → Decision) → StateFacts d
+    → (Found d (handleOf d s n) → Keeps d (go (handleOf d s n) (tokenOf d (handleOf d s n .token)))) → Keeps d (withHandle d s n right go)
+unfolding withHandle Keeps
+on-handle d s n right go f k known permitted = k (found-handle d (handleOf d s n) f (is-found d s n known))
+
+pub finished : (d : State) (x : Decision) → StateFacts d → Keeps d x → Advance d (carriedOut d x .state)
+unfolding carriedOut Keeps
+finished d (need_else_then_ true r rest) f k = finished d rest f (k refl)
+finished d (need_else_then_ false r rest) f k = stays f
+finished d (success e bytes) f k = k

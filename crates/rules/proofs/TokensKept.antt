@@ -1,0 +1,192 @@
+-- Valid tokens, and what lasts of them, for each change that a request makes to a token and each new token. Assumes nothing.
+use Prim.Native.Nat.{ℕ, zero, suc, _+_, _-_, _%_, _^_, _≤_, _<_}
+use native.Mathlib.Nat.{mod-lt}
+use native.Mathlib.Omega.{arith}
+use mathlib.Core.Path.{_≡_, refl, sym, ap, ap₂, _∙_, subst}
+use mathlib.Core.Bool.{Bool, true, false, not, _&&_, _||_}
+use mathlib.Core.Logic.{_⊎_, inl, inr, ⊎-elim}
+use mathlib.Core.List.{List, [], _∷_, _++_, map}
+use lib.Dec.{eqb, leb, ltb}
+use lib.ListN.{length, getD, length-append}
+use borrow.Author.Tests.{eqb-true, lt-ltb, le-leb, leb-true, ltb-true}
+use Rattle.rules.specs.AdjustDefaults as AdjustDefaults
+use Rattle.rules.specs.AdjustDefaults.{noChange, validOwner, validGroup, validDacl, validDefaults, orKept}
+use Rattle.rules.specs.AdjustGroups as AdjustGroups
+use Rattle.rules.specs.AdjustPrivileges as AdjustPrivileges
+use Rattle.rules.specs.AdjustPrivileges.{named}
+use Rattle.rules.specs.AdjustScope.{scopedToken}
+use Rattle.rules.specs.Basic.{if_then_else_, implies, all, member, isEmpty}
+use Rattle.rules.specs.Bits.{has, within}
+use Rattle.rules.specs.Create.{validIntegrity}
+use Rattle.rules.specs.Duplicate.{retyped, copied, nobody, anonymousCopy, duplicated}
+use Rattle.rules.specs.Group.{denied, Group}
+use Rattle.rules.specs.Growth.{Follows}
+use Rattle.rules.specs.Privileges.{existing, markUsed, onlyUsed, Privileges}
+use Rattle.rules.specs.Request.{group, Entry, privileges, groups, defaults}
+use Rattle.rules.specs.Restrict.{limited, restricted}
+use Rattle.rules.specs.State.{usedOn}
+use Rattle.rules.specs.Token.{maxGroups, maxRestricting, maxDacl, primary, impersonation, noLimits, noDefaults, newToken, withPrivileges, withGroups, withDefaults, withScope, nextModified, Identity, Limits, Defaults, Token}
+use Rattle.rules.specs.Valid.{isByte, is32, is64, between, identityValid, privilegesValid, groupValid, groupsValid, limitsValid, defaultsValid}
+use Rattle.rules.proofs.Logic.{and-l, and-r, and-i, or-e, all-append}
+use Rattle.rules.proofs.Bits.{within-refl, power-within}
+use Rattle.rules.proofs.Tables.{on-if}
+use Rattle.rules.proofs.Facts.{TokenFacts}
+use Rattle.rules.proofs.PrivilegesKept as P
+use Rattle.rules.proofs.PrivilegesKept.{sound, order, Fewer}
+use Rattle.rules.proofs.GroupsKept as G
+use Rattle.rules.proofs.GroupsKept.{Groups, groups-sids, groups-denied, groups-in-order, groups-defaults}
+
+-- u is t after a request that may change it
+pub record After (t u : Token) : Type 0 where
+  pub facts : TokenFacts u
+  pub follows : Follows t u
+
+-- ---- other privileges, groups, defaults, scope: the rest is as it was
+
+with-privileges : (t : Token) (q : Privileges) → TokenFacts t → Fewer (t .privileges) q → After t (withPrivileges q t)
+unfolding withPrivileges
+with-privileges t q f k = let new = order q (k .sound) in record { facts = search; follows = search }
+
+with-groups : (t : Token) (gs : List Group) → TokenFacts t → Groups (t .groups) gs → After t (withGroups gs t)
+unfolding withGroups
+with-groups t gs f k =
+    let new = groups-in-order k (f .groups) in
+    let named = groups-defaults k (t .defaults) ∙ f .defaults in
+    record { facts = search; follows = search (within-refl, groups-sids, groups-denied) }
+
+with-defaults : (t : Token) (x : Defaults) → TokenFacts t → defaultsValid (t .groups) x ≡ true → After t (withDefaults x t)
+unfolding withDefaults
+with-defaults t x f k = record { facts = search; follows = search within-refl }
+
+with-scope : (t : Token) (v : ℕ) → TokenFacts t → is32 v ≡ true → After t (withScope v t)
+unfolding withScope
+with-scope t v f k = record { facts = search; follows = search within-refl }
+
+next-is64 : (n : ℕ) → is64 ((n + 1) % 2 ^ 64) ≡ true
+unfolding is64
+next-is64 n = lt-ltb _ (2 ^ 64) (mod-lt (n + 1) (omega arith))
+
+and-next : (t u : Token) → After t u → After t (nextModified u)
+unfolding nextModified
+and-next t u a =
+    let new = next-is64 (u .modified) in
+    let f = a .facts in
+    let k = a .follows in
+    record { facts = search; follows = search (k .denied, k .userDenied) }
+
+-- ---- requests 5 to 8, and the used marks
+
+pub used-after : (t : Token) (n : ℕ) → has n existing ≡ true → TokenFacts t → After t (usedOn n t)
+unfolding usedOn
+used-after t n h f = with-privileges t (markUsed (2 ^ n) (t .privileges)) f (P.marked (2 ^ n) (t .privileges) (power-within n existing h) (sound _ (f .privileges)))
+
+pub privileges-after : (t : Token) (es : List Entry) → (AdjustPrivileges.isReset es || AdjustPrivileges.validEntries (t .privileges) es) ≡ true → TokenFacts t → After t (AdjustPrivileges.adjustedToken es t)
+unfolding AdjustPrivileges.adjustedToken
+privileges-after t es h f = and-next t _ (with-privileges t _ f (P.adjusts es (t .privileges) h (sound _ (f .privileges))))
+
+each-group : (t : Token) → TokenFacts t → all groupValid (t .groups) ≡ true
+unfolding groupsValid
+each-group t f = let k : groupsValid (t .groups) ≡ true = f .groups in and-r (leb (length (t .groups)) maxGroups) (all groupValid (t .groups)) k
+
+pub groups-after : (t : Token) (es : List Entry) → (AdjustGroups.isReset es || all (AdjustGroups.unprotected t) es) ≡ true → TokenFacts t → After t (AdjustGroups.adjustedToken es t)
+unfolding AdjustGroups.adjustedToken
+groups-after t es h f = and-next t _ (with-groups t _ f (G.adjusts es t h (each-group t f)))
+
+pub scope-after : (t : Token) (v : ℕ) → is32 v ≡ true → TokenFacts t → After t (scopedToken v t)
+unfolding scopedToken
+scope-after t v h f = and-next t _ (with-scope t v f h)
+
+-- the new value where it is one, else the old
+kept-or : (ok : ℕ → Bool) (new old : ℕ) → (eqb new noChange || ok new) ≡ true → ok old ≡ true → ok (orKept new old) ≡ true
+unfolding orKept
+kept-or ok new old h k =
+    on-if (λ (n : ℕ). ok n ≡ true) (eqb new noChange) old new (λ t. k) (λ t. let g : ok new ≡ true = rw t at h in g)
+
+dacl-ok : (flag : ℕ) (bytes old : List ℕ) → validDacl flag bytes ≡ true → all isByte bytes ≡ true → leb (length old) maxDacl ≡ true → all isByte old ≡ true
+    → (leb (length (if eqb flag 1 then bytes else old)) maxDacl ≡ true) × (all isByte (if eqb flag 1 then bytes else old) ≡ true)
+unfolding validDacl
+dacl-ok flag bytes old h b l k =
+    on-if (λ (xs : List ℕ). (leb (length xs) maxDacl ≡ true) × (all isByte xs ≡ true)) (eqb flag 1) bytes old
+    (λ t. (
+      ⊎-elim (λ z. absurd (let p = eqb-true flag 0 (and-l (eqb flag 0) (isEmpty bytes) z) in let q = eqb-true flag 1 t in omega arith)) (λ z. and-r (eqb flag 1) _ z)
+          (or-e (eqb flag 0 && isEmpty bytes) (eqb flag 1 && leb (length bytes) maxDacl) h),
+      b,
+    ))
+    (λ t. (l, k))
+
+defaults-in-order : (t : Token) (owner group flag : ℕ) (bytes : List ℕ) (x : Defaults) → validDefaults t owner group flag bytes ≡ true → all isByte bytes ≡ true
+    → defaultsValid (t .groups) x ≡ true → defaultsValid (t .groups) (AdjustDefaults.adjusted owner group flag bytes x) ≡ true
+unfolding validDefaults defaultsValid AdjustDefaults.adjusted
+defaults-in-order t owner group flag bytes x h b k =
+    let gs = t .groups in
+    let owner-ok : (eqb owner noChange || validOwner gs owner) ≡ true = search (and-l, and-r) in
+    let group-ok : (eqb group noChange || validGroup gs group) ≡ true = search (and-l, and-r) in
+    let dacl : validDacl flag bytes ≡ true = search (and-l, and-r) in
+    let owner-was : validOwner gs (x .owner) ≡ true = search (and-l, and-r) in
+    let group-was : validGroup gs (x .primaryGroup) ≡ true = search (and-l, and-r) in
+    let size-was : leb (length (x .dacl)) maxDacl ≡ true = search (and-l, and-r) in
+    let dacl-was : all isByte (x .dacl) ≡ true = search (and-l, and-r) in
+    let d = dacl-ok flag bytes (x .dacl) dacl b size-was dacl-was in
+    and-i (and-i (and-i (kept-or (validOwner gs) owner (x .owner) owner-ok owner-was) (kept-or (validGroup gs) group (x .primaryGroup) group-ok group-was)) (d .0)) (d .1)
+
+pub defaults-after : (t : Token) (owner group flag : ℕ) (bytes : List ℕ) → validDefaults t owner group flag bytes ≡ true → all isByte bytes ≡ true → TokenFacts t → After t (AdjustDefaults.adjustedToken owner group flag bytes t)
+unfolding AdjustDefaults.adjustedToken
+defaults-after t owner group flag bytes h b f =
+    and-next t _ (with-defaults t (AdjustDefaults.adjusted owner group flag bytes (t .defaults)) f (defaults-in-order t owner group flag bytes (t .defaults) h b (f .defaults)))
+
+-- ---- new tokens: u, made from t
+
+pub record Made (n : ℕ) (t u : Token) : Type 0 where
+  pub number : u .number ≡ n
+  pub facts : TokenFacts u
+  pub present : within (u .privileges .present) (t .privileges .present) ≡ true
+
+-- another type and level that go together
+retyped-ok : (i : Identity) (type level : ℕ) → between primary impersonation type ≡ true → leb level 3 ≡ true → implies (eqb type primary) (eqb level 0) ≡ true → identityValid i ≡ true → identityValid (retyped type level i) ≡ true
+unfolding identityValid retyped
+retyped-ok i type level b l m h =
+    let user : is32 (i .user) ≡ true = search (and-l, and-r) in
+    let session : is64 (i .session) ≡ true = search (and-l, and-r) in
+    let integrity : validIntegrity (i .integrity) ≡ true = search (and-l, and-r) in
+    and-i (and-i (and-i (and-i (and-i user session) integrity) b) l) m
+
+copied-made : (t : Token) (n type level : ℕ) → is64 n ≡ true → between primary impersonation type ≡ true → leb level 3 ≡ true → implies (eqb type primary) (eqb level 0) ≡ true → TokenFacts t → Made n t (copied n type level t)
+unfolding copied between
+copied-made t n type level w b l m f =
+    let new = retyped-ok (t .identity) type level b l m (f .identity) in record { number = refl; facts = search; present = within-refl _ }
+
+no-defaults : (gs : List Group) → defaultsValid gs noDefaults ≡ true
+unfolding defaultsValid noDefaults validOwner validGroup all
+no-defaults gs = and-i (and-i (and-i refl (le-leb 0 (length gs) (omega arith))) refl) refl
+
+pub new-facts : (n : ℕ) (i : Identity) (p : Privileges) (gs : List Group) → is64 n ≡ true → identityValid i ≡ true → privilegesValid p ≡ true → groupsValid gs ≡ true → TokenFacts (newToken n i p gs)
+unfolding newToken between is32 limitsValid noLimits all
+new-facts n i p gs w hi hp hg = let none = no-defaults gs in search
+
+stripped-made : (t : Token) (n : ℕ) → is64 n ≡ true → TokenFacts t → Made n t (anonymousCopy n t)
+unfolding anonymousCopy newToken nobody identityValid is32 is64 validIntegrity member between implies groupsValid all
+stripped-made t n w f =
+    let k = P.emptied (t .privileges) (sound _ (f .privileges)) in
+    record { number = refl; facts = new-facts n nobody (onlyUsed (t .privileges)) [] w refl (order _ (k .sound)) refl; present = k .present }
+
+pub duplicated-made : (t : Token) (n type level : ℕ) → is64 n ≡ true → leb level 3 ≡ true → TokenFacts t → Made n t (duplicated n type level t)
+unfolding duplicated between implies
+duplicated-made t n type level w l f =
+    on-if (Made n t) (eqb type primary) _ _ (λ p. copied-made t n primary 0 w refl refl refl f)
+    (λ p. on-if (Made n t) (eqb level 0) _ _ (λ z. stripped-made t n w f) (λ z. copied-made t n impersonation level w refl l refl f))
+
+limited-ok : (mark : ℕ) (sids : List ℕ) (x : Limits) → leb (length (x .restricting) + length sids) maxRestricting ≡ true → all is32 sids ≡ true → limitsValid x ≡ true → limitsValid (limited mark sids x) ≡ true
+unfolding limitsValid limited
+limited-ok mark sids x h w k =
+    and-i (ap (λ (n : ℕ). leb n maxRestricting) (length-append (x .restricting) sids) ∙ h) (all-append is32 (x .restricting) sids (and-r (leb (length (x .restricting)) maxRestricting) _ k) w)
+
+pub restricted-made : (t : Token) (n mark removed : ℕ) (deny sids : List ℕ) → is64 n ≡ true → leb (length (t .limits .restricting) + length sids) maxRestricting ≡ true → all is32 sids ≡ true → TokenFacts t → Made n t (restricted n mark removed deny sids t)
+unfolding restricted between
+restricted-made t n mark removed deny sids w l s f =
+    let k = P.removed removed (t .privileges) (sound _ (f .privileges)) in
+    let g = G.all-denied deny (t .groups) (each-group t f) in
+    let fewer = order _ (k .sound) in
+    let denied = groups-in-order g (f .groups) in
+    let limited = limited-ok mark sids (t .limits) l s (f .limits) in
+    let named = groups-defaults g (t .defaults) ∙ f .defaults in
+    record { number = refl; facts = search; present = k .present }

@@ -1,0 +1,198 @@
+-- What is read is within its field's width: of a body of bytes, every field of the request. Assumes nothing.
+use Prim.Native.Nat.{ℕ, zero, suc, _+_, _*_, _-_, _/_, _^_, _≤_, _<_}
+use native.Mathlib.Omega.{arith}
+use mathlib.Core.Path.{_≡_, refl, sym, ap, _∙_}
+use mathlib.Core.Bool.{Bool, true, false, _&&_, _||_}
+use mathlib.Core.List.{List, [], _∷_}
+use lib.Dec.{eqb, leb, ltb}
+use lib.ListN.{getD}
+use borrow.Author.Tests.{leb-true, ltb-false, lt-ltb}
+use Rattle.rules.specs.Basic.{all}
+use Rattle.rules.specs.Group.{Group}
+use Rattle.rules.specs.Number.{max16, max32, max64, readNumber, Read, got, bad}
+use Rattle.rules.specs.Request as Request
+use Rattle.rules.specs.Request.{Reader, follow, _>>=_, give, end, byte, times, u16, u32, u64, group, entry, openLayout, closeLayout, createLayout, queryLayout, privilegesLayout, groupsLayout, scopeLayout, defaultsLayout, duplicateLayout, restrictLayout, installLayout, unknown, layouts, parse, Entry, Request, close, create, query, privileges, groups, scope, defaults, duplicate, restrict, install}
+use Rattle.rules.specs.Valid.{isByte, is32, is64}
+use Rattle.rules.proofs.Logic.{and-l, and-r, and-i}
+use Rattle.rules.proofs.Numbers.{by-reading}
+
+-- ---- what a reader gives, of bytes
+
+unfoldable pub Got : {A : Type 0} → (A → Type 0) → Read A → Type 0
+Got P bad = Unit {0}
+Got P (got a rest) = P a × (all isByte rest ≡ true)
+
+record Reads {A : Type 0} (P : A → Type 0) (p : Reader A) : Type 0 where
+  gives : (bytes : List ℕ) → all isByte bytes ≡ true → Got P (p bytes)
+
+module _ {A B : Type 0} {P : A → Type 0} {Q : B → Type 0} where
+  followed : (r : Read A) (f : A → Reader B) → Got P r → ((a : A) → P a → Reads Q (f a)) → Got Q (follow r f)
+  unfolding follow Got
+  followed bad f h k = tt
+  followed (got a rest) f h k = k a (h .0) .gives rest (h .1)
+
+  and-then : (p : Reader A) (f : A → Reader B) → Reads P p → ((a : A) → P a → Reads Q (f a)) → Reads Q (_>>=_ p f)
+  unfolding _>>=_
+  and-then p f h k = record { gives = λ bytes b. followed (p bytes) f (h .gives bytes b) k }
+
+gives-it : {A : Type 0} {P : A → Type 0} (a : A) → P a → Reads P (give a)
+unfolding give Got
+gives-it a h = record { gives = λ bytes b. (h, b) }
+
+ends : {A : Type 0} {P : A → Type 0} (a : A) → P a → Reads P (end a)
+unfolding end Got
+ends {P = P} a h = record { gives = go }
+  where
+    go : (bytes : List ℕ) → all isByte bytes ≡ true → Got P (end a bytes)
+    go [] b = (h, b)
+    go (x ∷ bytes) b = tt
+
+-- ---- numbers
+
+reads : {A : Type 0} {P Q : A → Type 0} (r : Read A) → ((a : A) → P a → Q a) → Got P r → Got Q r
+unfolding Got
+reads bad f h = tt
+reads (got a rest) f h = (f a (h .0), h .1)
+
+number : (top : ℕ) (bytes : List ℕ) → all isByte bytes ≡ true → Got (λ n. n ≤ top) (readNumber top bytes)
+unfolding Got all
+number = by-reading (λ top bytes r. all isByte bytes ≡ true → Got (λ n. n ≤ top) r)
+    (λ top bytes h. tt)
+    (λ top b bytes l k h. (k, and-r (isByte b) (all isByte bytes) h))
+    (λ top b n bytes rest l z k f h. (k, f (and-r (isByte b) (all isByte bytes) h) .1))
+
+number32 : Reads (λ n. is32 n ≡ true) u32
+unfolding u32 is32
+number32 = record { gives = λ bytes b. reads (readNumber max32 bytes) (λ n h. lt-ltb n (2 ^ 32) (omega arith)) (number max32 bytes b) }
+
+number64 : Reads (λ n. is64 n ≡ true) u64
+unfolding u64 is64
+number64 = record { gives = λ bytes b. reads (readNumber max64 bytes) (λ n h. lt-ltb n (2 ^ 64) (omega arith)) (number max64 bytes b) }
+
+number16 : Reads (λ n. Unit {0}) u16
+unfolding u16
+number16 = record { gives = λ bytes b. reads (readNumber max16 bytes) (λ n h. tt) (number max16 bytes b) }
+
+a-byte : Reads (λ n. isByte n ≡ true) byte
+unfolding byte Got all
+a-byte = record { gives = go }
+  where
+    go : (bytes : List ℕ) → all isByte bytes ≡ true → Got (λ n. isByte n ≡ true) (byte bytes)
+    go [] b = tt
+    go (x ∷ bytes) b = (and-l (isByte x) (all isByte bytes) b, and-r (isByte x) (all isByte bytes) b)
+
+-- ---- repeated fields
+
+module _ {A : Type 0} (f : A → Bool) (p : Reader A) (h : Reads (λ a. f a ≡ true) p) where
+  many : (n : ℕ) → Reads (λ xs. all f xs ≡ true) (times n p)
+  unfolding times all
+  many zero = gives-it [] refl
+  many (suc n) =
+      record {
+        gives = λ bytes b.
+            followed (p bytes) (λ x rest. follow (times n p rest) (λ xs. give (x ∷ xs))) (h .gives bytes b)
+            (λ x k. record { gives = λ rest c. followed (times n p rest) (λ xs. give (x ∷ xs)) (many n .gives rest c) (λ xs l. gives-it (x ∷ xs) (and-i k l)) });
+      }
+
+unfoldable pub sid32 : Group → Bool
+sid32 g = is32 (g .sid)
+
+unfoldable anything : Entry → Bool
+anything e = true
+
+a-group : Reads (λ g. sid32 g ≡ true) group
+unfolding group sid32
+a-group = and-then u32 _ number32 λ s h. and-then u32 _ number32 λ a k. gives-it _ h
+
+an-entry : Reads (λ e. anything e ≡ true) entry
+unfolding entry anything
+an-entry = and-then u32 _ number32 λ s h. and-then u32 _ number32 λ a k. gives-it _ refl
+
+-- ---- the layouts
+
+-- the fields that are kept are within their widths
+unfoldable pub Fits : Request → Type 0
+Fits (Request.openOwn mask) = Unit {0}
+Fits (Request.close h) = Unit {0}
+Fits (Request.create user session integrity present byDefault gs) = (is32 user ≡ true) × (is64 session ≡ true) × (all sid32 gs ≡ true)
+Fits (Request.query h class capacity) = Unit {0}
+Fits (Request.privileges h es) = Unit {0}
+Fits (Request.groups h es) = Unit {0}
+Fits (Request.scope h v) = is32 v ≡ true
+Fits (Request.defaults h owner group flag bytes) = all isByte bytes ≡ true
+Fits (Request.duplicate h type level mask) = Unit {0}
+Fits (Request.restrict h mark removed deny sids) = all is32 sids ≡ true
+Fits (Request.install h) = Unit {0}
+
+in-open : Reads Fits openLayout
+unfolding openLayout Fits
+in-open = and-then u32 _ number32 λ a h. ends _ tt
+
+in-close : Reads Fits closeLayout
+unfolding closeLayout Fits
+in-close = and-then u32 _ number32 λ a h. ends _ tt
+
+in-create : Reads Fits createLayout
+unfolding createLayout Fits
+in-create =
+    and-then u32 _ number32 λ user hu. and-then u64 _ number64 λ session hs. and-then u32 _ number32 λ i hi. and-then u64 _ number64 λ p hp.
+    and-then u64 _ number64 λ d hd. and-then u32 _ number32 λ n hn. and-then _ _ (many sid32 group a-group n) λ gs hg. ends _ (hu, hs, hg)
+
+in-query : Reads Fits queryLayout
+unfolding queryLayout Fits
+in-query = and-then u32 _ number32 λ a h. and-then u32 _ number32 λ b i. and-then u32 _ number32 λ c j. ends _ tt
+
+in-privileges : Reads Fits privilegesLayout
+unfolding privilegesLayout Fits
+in-privileges = and-then u32 _ number32 λ a h. and-then u32 _ number32 λ n i. and-then _ _ (many anything entry an-entry n) λ es j. ends _ tt
+
+in-groups : Reads Fits groupsLayout
+unfolding groupsLayout Fits
+in-groups = and-then u32 _ number32 λ a h. and-then u32 _ number32 λ n i. and-then _ _ (many anything entry an-entry n) λ es j. ends _ tt
+
+in-scope : Reads Fits scopeLayout
+unfolding scopeLayout Fits
+in-scope = and-then u32 _ number32 λ a h. and-then u32 _ number32 λ v i. ends _ i
+
+in-defaults : Reads Fits defaultsLayout
+unfolding defaultsLayout Fits
+in-defaults =
+    and-then u32 _ number32 λ a h. and-then u16 _ number16 λ o ho. and-then u16 _ number16 λ g hg. and-then u32 _ number32 λ f hf.
+    and-then u32 _ number32 λ n hn. and-then _ _ (many isByte byte a-byte n) λ bytes hb. ends _ hb
+
+in-duplicate : Reads Fits duplicateLayout
+unfolding duplicateLayout Fits
+in-duplicate = and-then u32 _ number32 λ a h. and-then u32 _ number32 λ b i. and-then u32 _ number32 λ c j. and-then u32 _ number32 λ d k. ends _ tt
+
+in-restrict : Reads Fits restrictLayout
+unfolding restrictLayout Fits
+in-restrict =
+    and-then u32 _ number32 λ a h. and-then u32 _ number32 λ m hm. and-then u64 _ number64 λ r hr. and-then u32 _ number32 λ n hn. and-then u32 _ number32 λ k hk.
+    and-then _ _ (many is32 u32 number32 n) λ deny hd. and-then _ _ (many is32 u32 number32 k) λ sids hs. ends _ hs
+
+in-install : Reads Fits installLayout
+unfolding installLayout Fits
+in-install = and-then u32 _ number32 λ a h. ends _ tt
+
+in-none : Reads Fits unknown
+unfolding unknown Got
+in-none = record { gives = λ bytes b. tt }
+
+-- each layout of a list
+Each : List (Reader Request) → Type 0
+Each [] = Unit {0}
+Each (l ∷ ls) = Reads Fits l × Each ls
+
+at-number : (ls : List (Reader Request)) (n : ℕ) → Each ls → Reads Fits (getD ls n unknown)
+unfolding Each
+at-number [] n h = in-none
+at-number (l ∷ ls) zero h = h .0
+at-number (l ∷ ls) (suc n) h = at-number ls n (h .1)
+
+all-fit : Each layouts
+unfolding layouts Each
+all-fit = (in-none, (in-open, (in-close, (in-create, (in-query, (in-privileges, (in-groups, (in-scope, (in-defaults, (in-duplicate, (in-restrict, (in-install, tt))))))))))))
+
+pub parsed : (body : List ℕ) → all isByte body ≡ true → Got Fits (parse body)
+unfolding parse
+parsed body b = (and-then u32 (λ n. getD layouts n unknown) number32 (λ n h. at-number layouts n all-fit)) .gives body b
