@@ -1,14 +1,14 @@
 -- Laws of words as sets of bits. Each operation acts on each bit apart (has-and, has-or, has-without, has-power), and words with the same bits
 -- are equal (same-bits). Assumes nothing.
 use Prim.Native.Nat.{ℕ, zero, suc, _+_, _-_, _*_, _/_, _%_, _^_, _≤_, _<_, min, max}
-use native.Mathlib.Nat.{pow-suc, pow-succ', div-div-eq-div-mul, div-one, zero-div, one-mul, mod-lt, div-add-mod', min-le-left, mul-mod-left, mul-div-cancel, div-eq-of-lt, lt-of-lt-of-le}
+use native.Mathlib.Nat.{pow-suc, pow-succ', div-div-eq-div-mul, div-one, zero-div, one-mul, mod-lt, div-add-mod', min-le-left, mul-mod-left, mul-div-cancel, div-eq-of-lt, mod-eq-of-lt, lt-of-lt-of-le}
 use native.Mathlib.Omega.{arith}
 use mathlib.Core.Path.{_≡_, refl, sym, ap, ap₂, _∙_}
 use mathlib.Core.Bool.{Bool, true, false, not, _&&_, _||_, and-true, and-false, or-false}
 use mathlib.Core.Logic.{⊎-elim}
 use lib.Dec.{eqb, eqb·zero-suc, eqb·suc-zero, eqb·suc-suc}
 use lib.Arith.{digits-div, digits-mod, lt-one, bin-ind}
-use lib.Pow.{pow-mono, shl-exact}
+use lib.Pow.{pow-add, pow-lt, pow-mono}
 use lib.Bits.{bitAnd, bitOr, and-step, or-step, and-le-l, and-le-r}
 use borrow.Author.Tests.{eqb-true, eqb-false, eq-eqb}
 use Rattle.rules.specs.Basic.{if_then_else_}
@@ -98,6 +98,15 @@ pub has-past : (k w n : ℕ) → w < 2 ^ k → k ≤ n → has n w ≡ false
 unfolding has
 has-past k w n h l = ap (λ (x : ℕ). eqb (x % 2) 1) (div-eq-of-lt (lt-of-lt-of-le h (pow-mono l)))
 
+-- bit n alone, of a word of k bits
+pub power-inside : (k n : ℕ) → n < k → 2 ^ n % 2 ^ k ≡ 2 ^ n
+power-inside k n h = mod-eq-of-lt (pow-lt h)
+
+pub power-past : (k n : ℕ) → k ≤ n → 2 ^ n % 2 ^ k ≡ 0
+power-past k n l =
+    let e : n ≡ n - k + k = omega arith in
+    ap (λ (x : ℕ). 2 ^ x % 2 ^ k) e ∙ ap (λ (x : ℕ). x % 2 ^ k) (pow-add 2 (n - k) k) ∙ mul-mod-left (2 ^ (n - k)) (2 ^ k)
+
 -- ---- bits that w does not name, and bits that it takes away
 
 pub or-same : (n a w : ℕ) → has n w ≡ false → has n (bitOr a w) ≡ has n a
@@ -131,16 +140,13 @@ same-bits = bin-ind (λ (a : ℕ). (b : ℕ) → ((n : ℕ) → has n a ≡ has 
 
 -- ---- within, bit by bit
 
-and-both : (x y : Bool) → (x && y) ≡ x → x ≡ true → y ≡ true
-and-both x y e h = and-r x y (e ∙ h)
-
 and-left : (x y : Bool) → (x ≡ true → y ≡ true) → (x && y) ≡ x
 and-left true y h = h refl
 and-left false y h = refl
 
 pub within-has : (a b : ℕ) → within a b ≡ true → (k : ℕ) → has k a ≡ true → has k b ≡ true
 unfolding within
-within-has a b h k = and-both (has k a) (has k b) (sym (has-and k a b) ∙ ap (has k) (eqb-true (bitAnd a b) a h))
+within-has a b h k i = and-r (has k a) (has k b) (sym (has-and k a b) ∙ ap (has k) (eqb-true (bitAnd a b) a h) ∙ i)
 
 pub has-within : (a b : ℕ) → ((k : ℕ) → has k a ≡ true → has k b ≡ true) → within a b ≡ true
 unfolding within
@@ -180,7 +186,7 @@ none-within c = has-within 0 c (λ k g. absurd (not-both g (has-none k)))
 
 -- 1 << n
 pub shl-one : (n w : ℕ) → n < w → (1 * 2 ^ n) % 2 ^ w ≡ 2 ^ n
-shl-one n w h = shl-exact 1 n w (omega arith) (omega arith) ∙ one-mul (2 ^ n)
+shl-one n w h = ap (λ (x : ℕ). x % 2 ^ w) (one-mul (2 ^ n)) ∙ power-inside w n h
 
 min-not : (x y : ℕ) → x < 2 → y < 2 → min x (1 - y) ≡ x - min x y
 min-not = digits (λ x y. min x (1 - y) ≡ x - min x y) refl refl refl refl

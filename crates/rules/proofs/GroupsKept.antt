@@ -20,7 +20,7 @@ use Rattle.rules.specs.Restrict.{deniedAll}
 use Rattle.rules.specs.Token.{maxGroups, Defaults, Token}
 use Rattle.rules.specs.Valid.{is32, groupValid, groupsValid, defaultsValid}
 use Rattle.rules.proofs.Logic.{and-l, and-r, and-i, not-both, not-e, not-i, implies-e, implies-i, all-mem}
-use Rattle.rules.proofs.Bits.{has-or, has-without, within-has, within-trans, without-within, within-or}
+use Rattle.rules.proofs.Bits.{has-or, or-same, without-same, without-none, within-has, within-trans, without-within, within-or}
 use Rattle.rules.proofs.Tables.{on-if}
 use Rattle.rules.proofs.Widths.{sid32}
 use Rattle.rules.proofs.PrivilegesKept.{order}
@@ -55,16 +55,6 @@ regroup g w h b30 b31 b3 b4 b2 =
       owner = b3;
       denied = b4;
     }
-
--- bits that are not touched
-or-same : (n a w : ℕ) → has n w ≡ false → has n (bitOr a w) ≡ has n a
-or-same n a w h = has-or n a w ∙ ap (λ (x : Bool). has n a || x) h ∙ or-false (has n a)
-
-without-same : (n a w : ℕ) → has n w ≡ false → has n (without a w) ≡ has n a
-without-same n a w h = has-without n a w ∙ ap (λ (x : Bool). has n a && not x) h ∙ and-true (has n a)
-
-without-none : (n a w : ℕ) → has n w ≡ true → has n (without a w) ≡ false
-without-none n a w h = has-without n a w ∙ ap (λ (x : Bool). has n a && not x) h ∙ and-false (has n a)
 
 attributes-in : (g : Group) → groupValid g ≡ true → within (g .attributes) 0xC000001F ≡ true
 unfolding groupValid

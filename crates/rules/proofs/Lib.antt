@@ -11,4 +11,12 @@ pub mod GroupsKept
 pub mod TokensKept
 pub mod Steps
 pub mod Kept
+pub mod Ladder
+pub mod Frames
+pub mod Answers
+pub mod Runs
+pub mod Always
+pub mod Sources
+pub mod Released
+pub mod Throughout
 pub mod Cases

@@ -10,7 +10,7 @@ use lib.Dec.{eqb, leb, ltb}
 use lib.ListN.{length, getD}
 use borrow.Author.Tests.{eqb-true, lt-ltb}
 use Rattle.rules.specs.Decision.{carriedOut, withHandle, canIssue, Decision, need_else_then_, success}
-use Rattle.rules.specs.Growth.{Mem, Follows, Later}
+use Rattle.rules.specs.Growth.{Mem, Follows, Later, here}
 use Rattle.rules.specs.Handle.{noHandle, isHandle, Handle}
 use Rattle.rules.specs.Mask.{validMask}
 use Rattle.rules.specs.State.{stationCount, withHandles, withStations, stationAt, changeStation, setToken, numberOf, isNumbered, tokenOf, callerNumber, changeToken, canAddToken, addToken, findHandle, handleOf, canAddHandle, addHandle, dropHandle, handleToken, stationToken, references, released, State}
@@ -108,18 +108,16 @@ pub record Found (d : State) (h : Handle) : Type 0 where
   pub was : Mem h (lives (d .handles .slots))
   pub token : Is d (h .token)
 
-found-handle : (d : State) (h : Handle) → StateFacts d → Mem h (lives (d .handles .slots)) → Found d h
-unfolding handleToken
-found-handle d h f m = record { was = m; token = is-live d (h .token) (f .loose .live (h .token) (by-handle d (map-mem handleToken m))) }
-
-is-found : (d : State) (s n : ℕ) → isLive (findHandle d s n) ≡ true → Mem (handleOf d s n) (lives (d .handles .slots))
-unfolding handleOf findHandle
-is-found d s n h = found-in (isHandle s n) (d .handles .slots) (live-slot noHandle (found (isHandle s n) (d .handles .slots)) h) .0
+pub found-handle : (d : State) (s n : ℕ) → StateFacts d → isLive (findHandle d s n) ≡ true → Found d (handleOf d s n)
+unfolding handleOf findHandle handleToken
+found-handle d s n f known =
+    let here = found-in (isHandle s n) (d .handles .slots) (live-slot noHandle (found (isHandle s n) (d .handles .slots)) known) .0 in
+    record { was = here; token = is-live d (handleOf d s n .token) (f .loose .live (handleOf d s n .token) (by-handle d (map-mem handleToken here))) }
 
 pub on-handle : (d : State) (s n right : ℕ) (go : Handle → Token → Decision) → StateFacts d
     → (Found d (handleOf d s n) → Keeps d (go (handleOf d s n) (tokenOf d (handleOf d s n .token)))) → Keeps d (withHandle d s n right go)
 unfolding withHandle Keeps
-on-handle d s n right go f k known permitted = k (found-handle d (handleOf d s n) f (is-found d s n known))
+on-handle d s n right go f k known permitted = k (found-handle d s n f known)
 
 pub finished : (d : State) (x : Decision) → StateFacts d → Keeps d x → Advance d (carriedOut d x .state)
 unfolding carriedOut Keeps

@@ -1,0 +1,346 @@
+-- Every answer fits: on a valid state each is one valid frame of at most 1,024 bytes. Assumes nothing.
+use Prim.Native.Nat.{ℕ, zero, suc, _+_, _*_, _-_, _^_, _≤_, _<_}
+use native.Mathlib.Omega.{arith}
+use mathlib.Core.Path.{_≡_, refl, sym, ap, _∙_}
+use mathlib.Core.Bool.{Bool, true, false, _&&_, _||_}
+use mathlib.Core.Logic.{_⊎_, inl, inr, ⊎-elim}
+use mathlib.Core.List.{List, [], _∷_, _++_, map}
+use lib.Bits.{bitAnd, and-le-l}
+use lib.Pow.{pow-mono}
+use native.Mathlib.Nat.{pow-suc}
+use lib.Dec.{eqb, leb, ltb}
+use lib.ListN.{length, getD, take, drop, length-append, length-take}
+use borrow.Author.Tests.{ltb-true, leb-true}
+use Rattle.rules.specs.AdjustDefaults as AdjustDefaults
+use Rattle.rules.specs.AdjustGroups as AdjustGroups
+use Rattle.rules.specs.AdjustGroups.{onBits, reportWords, onWords}
+use Rattle.rules.specs.AdjustPrivileges as AdjustPrivileges
+use Rattle.rules.specs.AdjustScope as AdjustScope
+use Rattle.rules.specs.Basic.{implies, bothOrNeither, all}
+use Rattle.rules.specs.Bits.{has, within}
+use Rattle.rules.specs.Create as Create
+use Rattle.rules.specs.Create.{validIntegrity}
+use Rattle.rules.specs.Decision.{carriedOut, withHandle, issued, Decision, need_else_then_, success}
+use Rattle.rules.specs.Duplicate as Duplicate
+use Rattle.rules.specs.Frame.{maxAnswer, frame}
+use Rattle.rules.specs.Group.{noGroup, isOn, isDenyOnly, Group}
+use Rattle.rules.specs.Growth.{Mem, here, there}
+use Rattle.rules.specs.Handle.{Handle}
+use Rattle.rules.specs.Install as Install
+use Rattle.rules.specs.Number.{encode, encodeAll, Read, got, bad}
+use Rattle.rules.specs.OpenClose as OpenClose
+use Rattle.rules.specs.Privileges.{existing}
+use Rattle.rules.specs.Query as Query
+use Rattle.rules.specs.Refusal.{refusal, capacityBelow, streamBroken}
+use Rattle.rules.specs.Request as Request
+use Rattle.rules.specs.Request.{group, parse, Entry, Request, privileges, groups}
+use Rattle.rules.specs.Restrict as Restrict
+use Rattle.rules.specs.Run.{after}
+use Rattle.rules.specs.Serve.{rule, decided, decision, serve}
+use Rattle.rules.specs.State.{withTokens, numberOf, tokenOf, putToken, changeToken, used, handleOf, State}
+use Rattle.rules.specs.Token.{primary, impersonation, sidAt, Token}
+use Rattle.rules.specs.Valid.{is32, is64, between, identityValid, groupValid, groupsValid, limitsValid, defaultsValid}
+use Rattle.rules.specs.Throughout.{IsAnswer}
+use Rattle.rules.proofs.Logic.{and-l, and-r, all-mem, map-mem, member-mem}
+use Rattle.rules.proofs.Bits.{within-trans, within-le, below}
+use Rattle.rules.proofs.Numbers.{encode-width}
+use Rattle.rules.proofs.Tables.{on-if}
+use Rattle.rules.proofs.Facts.{TokenFacts, StateFacts}
+use Rattle.rules.proofs.PrivilegesKept.{sound}
+use Rattle.rules.proofs.Steps.{Found, found-handle}
+use Rattle.rules.proofs.Frames.{frame-whole}
+
+-- a word takes at most ten bytes, a number of 32 bits at most five
+word : (n : ℕ) → n < 2 ^ 64 → length (encode n) ≤ 10
+word n h = encode-width 64 9 n (omega arith) h
+
+-- numbers of w bits, one after the other
+many : (w k : ℕ) → w ≤ 7 * suc k → (ns : List ℕ) → ((n : ℕ) → Mem n ns → n < 2 ^ w) → length (encodeAll ns) ≤ length ns * suc k
+unfolding encodeAll
+many w k h [] f = omega arith
+many w k h (n ∷ ns) f =
+    let one = encode-width w k n h (f n (here refl)) in
+    let rest = many w k h ns (λ m i. f m (there i)) in
+    simp length-append (omega arith)
+
+four : (a b c d : ℕ) → a < 2 ^ 64 → b < 2 ^ 64 → c < 2 ^ 64 → d < 2 ^ 64 → length (encodeAll (a ∷ b ∷ c ∷ d ∷ [])) ≤ 40
+unfolding encodeAll
+four a b c d ha hb hc hd = simp length-append (omega (arith, word a ha, word b hb, word c hc, word d hd))
+
+-- ---- a valid token's numbers
+
+lt64 : (n : ℕ) → is64 n ≡ true → n < 2 ^ 64
+unfolding is64
+lt64 n h = ltb-true n (2 ^ 64) h
+
+lt32 : (n : ℕ) → is32 n ≡ true → n < 2 ^ 32
+unfolding is32
+lt32 n h = ltb-true n (2 ^ 32) h
+
+upTo : (low high n : ℕ) → high < 2 ^ 64 → between low high n ≡ true → n < 2 ^ 64
+unfolding between
+upTo low high n l h = let k = leb-true n high (and-r (leb low n) _ h) in omega arith
+
+known : (w : ℕ) → within w existing ≡ true → w < 2 ^ 64
+known w h = omega (arith, within-le w existing h)
+
+integrity-64 : (i : ℕ) → validIntegrity i ≡ true → i < 2 ^ 64
+unfolding validIntegrity all is64
+integrity-64 i h = lt64 i (all-mem is64 (0 ∷ 4096 ∷ 8192 ∷ 12288 ∷ 16384 ∷ []) refl (member-mem i _ h))
+
+getD-all : {A : Type 0} (f : A → Bool) (xs : List A) (z : A) (i : ℕ) → f z ≡ true → all f xs ≡ true → f (getD xs i z) ≡ true
+unfolding all
+getD-all f [] z i h k = h
+getD-all f (x ∷ xs) z zero h k = and-l (f x) _ k
+getD-all f (x ∷ xs) z (suc i) h k = getD-all f xs z i h (and-r (f x) (all f xs) k)
+
+group-numbers : (g : Group) → groupValid g ≡ true → (g .sid < 2 ^ 32) × (g .attributes < 2 ^ 32)
+unfolding groupValid
+group-numbers g h =
+    let sid : is32 (g .sid) ≡ true = search (and-l, and-r) in
+    let attributes : within (g .attributes) 0xC000001F ≡ true = search (and-l, and-r) in
+    (lt32 (g .sid) sid, omega (arith, within-le (g .attributes) 0xC000001F attributes))
+
+pair-numbers : (gs : List Group) → all groupValid gs ≡ true → (n : ℕ) → Mem n (Query.pairs gs) → n < 2 ^ 32
+unfolding Query.pairs all
+pair-numbers (g ∷ gs) h n (here e) = rw e (group-numbers g (and-l (groupValid g) _ h) .0)
+pair-numbers (g ∷ gs) h n (there (here e)) = rw e (group-numbers g (and-l (groupValid g) _ h) .1)
+pair-numbers (g ∷ gs) h n (there (there m)) = pair-numbers gs (and-r (groupValid g) (all groupValid gs) h) n m
+
+length-pairs : (gs : List Group) → length (Query.pairs gs) ≡ length gs * 2
+unfolding Query.pairs
+length-pairs [] = refl
+length-pairs (g ∷ gs) = let e = length-pairs gs in omega arith
+
+no-group : groupValid noGroup ≡ true
+unfolding groupValid noGroup is32 within bothOrNeither has implies isDenyOnly
+no-group = refl
+
+-- ---- what a query answers: at most 129 numbers of five bytes, a count and 64 Query.pairs
+
+abbrev most : ℕ
+most = 645
+
+infixr 4 _and_
+data Short : List (List ℕ) → Type 0 where
+  nothing : Short []
+  _and_ : {x : List ℕ} {xs : List (List ℕ)} → length x ≤ most → Short xs → Short (x ∷ xs)
+
+pick : (xs : List (List ℕ)) (i : ℕ) → Short xs → length (getD xs i []) ≤ most
+pick [] i h = omega arith
+pick (x ∷ xs) zero (_and_ h hs) = h
+pick (x ∷ xs) (suc i) (_and_ h hs) = pick xs i hs
+
+module _ (t : Token) (number : t .number < 2 ^ 64) (f : TokenFacts t) where
+  -- the numbers of the classes
+  record Numbers : Type 0 where
+    user : t .identity .user < 2 ^ 64
+    session : t .identity .session < 2 ^ 64
+    type : t .identity .type < 2 ^ 64
+    level : t .identity .level < 2 ^ 64
+    integrity : t .identity .integrity < 2 ^ 64
+
+  numbers : Numbers
+  unfolding identityValid
+  numbers =
+      let h = f .identity in
+      let u : is32 (t .identity .user) ≡ true = search (and-l, and-r) in
+      let s : is64 (t .identity .session) ≡ true = search (and-l, and-r) in
+      let i : validIntegrity (t .identity .integrity) ≡ true = search (and-l, and-r) in
+      let y : between primary impersonation (t .identity .type) ≡ true = search (and-l, and-r) in
+      let l : leb (t .identity .level) 3 ≡ true = search (and-l, and-r) in
+      record {
+        user = omega (arith, lt32 (t .identity .user) u);
+        session = lt64 (t .identity .session) s;
+        type = upTo primary impersonation (t .identity .type) (omega arith) y;
+        level = omega (arith, leb-true (t .identity .level) 3 l);
+        integrity = integrity-64 (t .identity .integrity) i;
+      }
+
+  groups-few : length (t .groups) ≤ 64
+  unfolding groupsValid
+  groups-few = leb-true (length (t .groups)) 64 (and-l _ (all groupValid (t .groups)) (f .groups))
+
+  groups-all : all groupValid (t .groups) ≡ true
+  unfolding groupsValid
+  groups-all = and-r (leb (length (t .groups)) 64) _ (f .groups)
+
+  sid-word : (i : ℕ) → sidAt t i < 2 ^ 64
+  unfolding sidAt
+  sid-word zero = numbers .user
+  sid-word (suc k) = omega (arith, group-numbers (getD (t .groups) k noGroup) (getD-all groupValid (t .groups) noGroup k no-group groups-all) .0)
+
+  of-groups : length (encodeAll (length (t .groups) ∷ Query.pairs (t .groups))) ≤ most
+  of-groups =
+      let l = many 32 4 (omega arith) (length (t .groups) ∷ Query.pairs (t .groups)) each in
+      omega (arith, length-pairs (t .groups), groups-few)
+    where
+      each : (n : ℕ) → Mem n (length (t .groups) ∷ Query.pairs (t .groups)) → n < 2 ^ 32
+      each n (here e) = omega (arith, groups-few)
+      each n (there m) = pair-numbers (t .groups) groups-all n m
+
+  of-words : length (encodeAll (Query.words (t .privileges))) ≤ 40
+  unfolding Query.words
+  of-words =
+      let s = sound (t .privileges) (f .privileges) in
+      let inside : (w : ℕ) → within w (t .privileges .present) ≡ true → within w existing ≡ true = λ w h. within-trans w _ existing h (s .present) in
+      four _ _ _ _ (known _ (s .present)) (known _ (inside _ (s .enabled))) (known _ (inside _ (s .byDefault))) (known _ (s .used))
+
+  of-numbers : length (encodeAll (t .number ∷ t .identity .session ∷ t .modified ∷ t .identity .type ∷ [])) ≤ 40
+  of-numbers = four _ _ _ _ number (numbers .session) (lt64 (t .modified) (f .modified)) (numbers .type)
+
+  of-dacl : length (encode (length (t .defaults .dacl)) ++ t .defaults .dacl) ≤ 266
+  unfolding defaultsValid
+  of-dacl =
+      let h = f .defaults in
+      let few : leb (length (t .defaults .dacl)) 256 ≡ true = search (and-l, and-r) in
+      let l = leb-true (length (t .defaults .dacl)) 256 few in
+      let k = word (length (t .defaults .dacl)) (omega arith) in
+      simp length-append (omega arith)
+
+  of-restricting : length (encodeAll (length (t .limits .restricting) ∷ t .limits .restricting)) ≤ 170
+  unfolding limitsValid
+  of-restricting =
+      let sids = t .limits .restricting in
+      let few = leb-true (length sids) 16 (and-l _ (all is32 sids) (f .limits)) in
+      let l = many 64 9 (omega arith) (length sids ∷ sids) (each few (and-r (leb (length sids) 16) _ (f .limits))) in
+      omega arith
+    where
+      each : length (t .limits .restricting) ≤ 16 → all is32 (t .limits .restricting) ≡ true → (n : ℕ) → Mem n (length (t .limits .restricting) ∷ t .limits .restricting) → n < 2 ^ 64
+      each few ok n (here e) = omega arith
+      each few ok n (there m) = omega (arith, lt32 n (all-mem is32 (t .limits .restricting) ok m))
+
+  class-fits : (class : ℕ) → length (Query.classBytes t class) ≤ most
+  unfolding Query.classBytes Query.classes
+  class-fits class =
+      let elevation = upTo 1 3 (t .elevation) (omega arith) (f .elevation) in
+      let scope = lt32 (t .scope) (f .scope) in
+      pick ([] ∷ Query.classes t) class
+      ((omega arith) and one _ (numbers .user) and of-groups and (let l = of-words in omega arith)
+      and one _ (sid-word (t .defaults .owner)) and one _ (sid-word (t .defaults .primaryGroup)) and (let l = of-dacl in omega arith)
+      and one _ (numbers .type) and one _ (numbers .level) and (let l = of-numbers in omega arith) and (let l = of-restricting in omega arith)
+      and one _ (omega arith) and one _ elevation and one _ (numbers .integrity) and nothing)
+    where
+      one : (n : ℕ) → n < 2 ^ 64 → length (encode n) ≤ most
+      one n h = let l = word n h in omega arith
+
+-- ---- what request 6 answers: sixteen words
+
+bits-below : (gs : List Group) → onBits gs < 2 ^ length gs
+unfolding onBits
+bits-below [] = omega arith
+bits-below (g ∷ gs) =
+    let rest = bits-below gs in
+    on-if (λ (b : ℕ). b + 2 * onBits gs < 2 ^ suc (length gs)) (isOn g) 1 0 (λ t. omega (arith, pow-suc 2 (length gs))) (λ t. omega (arith, pow-suc 2 (length gs)))
+
+words-below : (k : ℕ) (gs : List Group) (n : ℕ) → Mem n (onWords k gs) → n < 2 ^ 64
+unfolding onWords
+words-below (suc k) gs n (here e) = let l = bits-below (take 64 gs) in let short : length (take 64 gs) ≤ 64 = simp length-take (omega arith) in omega (arith, pow-mono short)
+words-below (suc k) gs n (there m) = words-below k (drop 64 gs) n m
+
+length-words : (k : ℕ) (gs : List Group) → length (onWords k gs) ≡ k
+unfolding onWords
+length-words zero gs = refl
+length-words (suc k) gs = ap suc (length-words k (drop 64 gs))
+
+words-fit : (gs : List Group) → length (encodeAll (onWords reportWords gs)) ≤ most
+words-fit gs = let l = many 64 9 (omega arith) (onWords reportWords gs) (words-below reportWords gs) in omega (arith, length-words reportWords gs)
+
+-- ---- what a request answers
+
+-- where its checks pass, its answer is short, and so is each refusal's report
+unfoldable Fits : Decision → Type 0
+Fits (need_else_then_ b r rest) = (length (r .report) ≤ most) × (b ≡ true → Fits rest)
+Fits (success after bytes) = length bytes ≤ most
+
+fits : (σ : State) (x : Decision) → Fits x → length (carriedOut σ x .answer) ≤ suc most
+unfolding Fits carriedOut
+fits σ (need_else_then_ true r rest) h = fits σ rest (h .1 refl)
+fits σ (need_else_then_ false r rest) h = let l = h .0 in omega arith
+fits σ (success after bytes) h = omega arith
+
+module _ (σ : State) (f : StateFacts σ) (s : ℕ) where
+  next-handle : length (encode (σ .handles .next)) ≤ most
+  next-handle = let h = f .loose .handles .high in let l = word (σ .handles .next) (omega arith) in omega arith
+
+  on-handle : (n right : ℕ) (go : Handle → Token → Decision)
+      → (Found σ (handleOf σ s n) → Fits (go (handleOf σ s n) (tokenOf σ (handleOf σ s n .token)))) → Fits (withHandle σ s n right go)
+  unfolding withHandle Fits refusal
+  on-handle n right go k = (omega arith, λ known. (omega arith, λ permitted. k (found-handle σ s n f known)))
+
+  -- the token of a found handle
+  facts : (n : ℕ) → Found σ (handleOf σ s n) → TokenFacts (tokenOf σ (handleOf σ s n .token))
+  facts n k = f .loose .eachToken (tokenOf σ (handleOf σ s n .token)) (k .token .was)
+
+  number-64 : (n : ℕ) → Found σ (handleOf σ s n) → tokenOf σ (handleOf σ s n .token) .number < 2 ^ 64
+  unfolding numberOf
+  number-64 n k =
+      let t = tokenOf σ (handleOf σ s n .token) in
+      let below = f .loose .tokens .given (t .number) (map-mem numberOf (k .token .was)) .1 in
+      let high = f .loose .tokens .high in
+      omega arith
+
+  queries : (n class capacity : ℕ) → Fits (Query.query σ s n class capacity)
+  unfolding Query.query Fits refusal capacityBelow
+  queries n class capacity = on-handle n _ _ λ k.
+      let t = tokenOf σ (handleOf σ s n .token) in
+      let l = class-fits t (number-64 n k) (facts n k) class in
+      let report = word (length (Query.classBytes t class)) (omega arith) in
+      (omega arith, λ ok. (omega arith, λ enough. l))
+
+  adjusts-privileges : (n : ℕ) (es : List Entry) → Fits (AdjustPrivileges.adjust σ s n es)
+  unfolding AdjustPrivileges.adjust AdjustPrivileges.previous Fits refusal
+  adjusts-privileges n es = on-handle n _ _ λ k.
+      let p = tokenOf σ (handleOf σ s n .token) .privileges in
+      let v = sound p (facts n k .privileges) in
+      let on = known (p .enabled) (within-trans (p .enabled) (p .present) existing (v .enabled) (v .present)) in (
+        omega arith,
+        λ ok. on-if (λ (w : ℕ). length (encode w) ≤ most) (AdjustPrivileges.isReset es) (p .enabled) (bitAnd (p .enabled) (AdjustPrivileges.named es))
+            (λ t. let l = word (p .enabled) on in omega arith)
+            (λ t. let l = word (bitAnd (p .enabled) (AdjustPrivileges.named es)) (omega (arith, and-le-l (p .enabled) (AdjustPrivileges.named es))) in omega arith),
+      )
+
+  adjusts-groups : (n : ℕ) (es : List Entry) → Fits (AdjustGroups.adjust σ s n es)
+  unfolding AdjustGroups.adjust Fits refusal
+  adjusts-groups n es = on-handle n _ _ λ k. (omega arith, λ ok. (omega arith, λ may. words-fit (tokenOf σ (handleOf σ s n .token) .groups)))
+
+  by-rule : (r : Request) → Fits (rule σ s r)
+  unfolding rule OpenClose.openOwn OpenClose.close Create.create AdjustScope.scope AdjustDefaults.adjust Duplicate.duplicate Restrict.restrict Install.install issued used changeToken putToken withTokens Fits refusal
+  by-rule (Request.openOwn mask) = (omega arith, λ a. (omega arith, λ b. next-handle))
+  by-rule (Request.close n) = (omega arith, λ a. omega arith)
+  by-rule (Request.create user session integrity present byDefault gs) = (omega arith, λ a. (omega arith, λ b. (omega arith, λ c. next-handle)))
+  by-rule (Request.query n class capacity) = queries n class capacity
+  by-rule (Request.privileges n es) = adjusts-privileges n es
+  by-rule (Request.groups n es) = adjusts-groups n es
+  by-rule (Request.scope n v) = on-handle n _ _ λ k. (omega arith, λ a. omega arith)
+  by-rule (Request.defaults n owner group flag bytes) = on-handle n _ _ λ k. (omega arith, λ a. omega arith)
+  by-rule (Request.duplicate n type level mask) = on-handle n _ _ λ k. (omega arith, λ a. (omega arith, λ b. next-handle))
+  by-rule (Request.restrict n mark removed deny sids) = on-handle n _ _ λ k. (omega arith, λ a. (omega arith, λ b. next-handle))
+  by-rule (Request.install n) = on-handle n _ _ λ k. (omega arith, λ a. (omega arith, λ b. (omega arith, λ c. omega arith)))
+
+  by-read : (r : Read Request) → Fits (decided σ s r)
+  unfolding decided Fits refusal
+  by-read bad = (omega arith, λ h. omega arith)
+  by-read (got r bytes) = by-rule r
+
+-- ---- frames
+
+some : (σ : State) (x : Decision) → 1 ≤ length (carriedOut σ x .answer)
+unfolding carriedOut
+some σ (need_else_then_ true r rest) = some σ rest
+some σ (need_else_then_ false r rest) = omega arith
+some σ (success after bytes) = omega arith
+
+frame-fits : (body : List ℕ) → length body ≤ suc most → length (frame body) ≤ maxAnswer
+unfolding frame
+frame-fits body h = let l = encode-width 14 1 (length body) (omega arith) (omega arith) in simp length-append (omega arith)
+
+answer : (body : List ℕ) → 1 ≤ length body → length body ≤ suc most → IsAnswer (frame body)
+answer body low high = record { body = body; framing = refl; isFrame = frame-whole body low (omega arith); fits = frame-fits body high }
+
+pub serve-answers : (σ : State) (s : ℕ) (body : List ℕ) → StateFacts σ → IsAnswer (frame (serve σ s body .answer))
+unfolding serve decision
+serve-answers σ s body f = let x = decided σ s (parse body) in answer (carriedOut σ x .answer) (some σ x) (fits σ x (by-read σ f s (parse body)))
+
+pub break-answers : IsAnswer (frame (streamBroken ∷ []))
+break-answers = answer (streamBroken ∷ []) (omega arith) (omega arith)

@@ -1,0 +1,102 @@
+-- On a valid state it is enough to look at the one token that lost a reference: `released` frees that one or none. Assumes nothing.
+use Prim.Native.Nat.{ℕ, zero, suc, _≤_, _<_}
+use native.Mathlib.Omega.{arith}
+use mathlib.Core.Path.{_≡_, refl, sym, ap, _∙_}
+use mathlib.Core.Bool.{Bool, true, false}
+use mathlib.Core.Logic.{_⊎_, inl, inr, ⊎-elim}
+use mathlib.Core.List.{List, [], _∷_, _++_, map}
+use lib.Dec.{eqb}
+use borrow.Author.Tests.{eqb-true, eqb-false}
+use Rattle.rules.specs.Basic.{if_then_else_, member, distinct}
+use Rattle.rules.specs.Growth.{Mem, here, there}
+use Rattle.rules.specs.Handle.{isHandle, Handle}
+use Rattle.rules.specs.State.{withTokens, withHandles, withStations, stationAt, changeStation, setToken, numberOf, isNumbered, callerNumber, findHandle, dropHandle, handleToken, stationToken, references, isReferred, released, State}
+use Rattle.rules.specs.Station.{startStation, withToken}
+use Rattle.rules.specs.Table.{lives, found, withSlots, exchanged, retained, Slot, free, live}
+use Rattle.rules.specs.Token.{Token}
+use Rattle.rules.proofs.Logic.{not-both, either, changeAt-mem, map-mem, mem-by, mem-map, member-mem, mem-member, distinct-head, distinct-tail}
+use Rattle.rules.proofs.Tables.{on-if, numbers}
+use Rattle.rules.proofs.Facts.{Loose, StateFacts, is-referred, referred-is}
+use Rattle.rules.proofs.Changes.{by-handle, by-station, by-either, drop-loose}
+use Rattle.rules.proofs.Steps.{_then_}
+
+-- token n is freed if nothing refers to it
+unfoldable pub freedOne : ℕ → State → State
+freedOne n d = if member n (references d) then d else withTokens (withSlots (exchanged (isNumbered n) free (d .tokens .slots)) (d .tokens)) d
+
+module _ {A : Type 0} (number : A → ℕ) (n : ℕ) (f : A → Bool) where
+  retained-all : (ps : List (Slot A)) → ((a : A) → Mem a (lives ps) → f a ≡ true) → retained f ps ≡ ps
+  unfolding retained lives
+  retained-all [] h = refl
+  retained-all (free ∷ ps) h = ap (λ qs. free ∷ qs) (retained-all ps h)
+  retained-all (live c ∷ ps) h = rw (h c (here refl)) (ap (λ qs. live c ∷ qs) (retained-all ps (λ a m. h a (there m))))
+
+  retained-one : (ps : List (Slot A)) → distinct (numbers number ps) ≡ true → ((a : A) → Mem a (lives ps) → number a ≡ n → f a ≡ false) → ((a : A) → Mem a (lives ps) → (number a ≡ n → ⊥) → f a ≡ true)
+      → retained f ps ≡ exchanged (λ c. eqb (number c) n) free ps
+  unfolding retained exchanged lives
+  retained-one [] d h g = refl
+  retained-one (free ∷ ps) d h g = ap (λ qs. free ∷ qs) (retained-one ps d h g)
+  retained-one (live c ∷ ps) d h g =
+      on-if (λ (qs : List (Slot A)). retained f (live c ∷ ps) ≡ qs) (eqb (number c) n) (free ∷ ps) (live c ∷ exchanged (λ c. eqb (number c) n) free ps)
+      (λ t. let q = eqb-true (number c) n t in
+      rw (h c (here refl) q) (ap (λ qs. free ∷ qs) (retained-all ps (λ a m. g a (there m) (λ e. distinct-head (number c) (numbers number ps) d (mem-by number (q ∙ sym e) m))))))
+      (λ t. rw (g c (here refl) (eqb-false (number c) n t))
+      (ap (λ qs. live c ∷ qs) (retained-one ps (distinct-tail (number c) (numbers number ps) d) (λ a m. h a (there m)) (λ a m. g a (there m)))))
+
+pub released-one : (e : State) (n : ℕ) → Loose e → ((t : Token) → Mem t (lives (e .tokens .slots)) → (t .number ≡ n → ⊥) → Mem (t .number) (references e)) → released e ≡ freedOne n e
+unfolding released freedOne withTokens withSlots isNumbered numberOf
+released-one e n l h =
+    on-if (λ (x : State). released e ≡ x) (member n (references e)) e _
+    (λ t. ap (λ ps. withTokens (withSlots ps (e .tokens)) e) (retained-all numberOf n (isReferred e) (e .tokens .slots) (λ a m. referred-is e (a .number) a refl
+    (⊎-elim (λ q. subst-mem (eqb-true (a .number) n q) (member-mem n (references e) t)) (λ q. h a m (eqb-false (a .number) n q)) (either (eqb (a .number) n))))))
+    (λ t. ap (λ ps. withTokens (withSlots ps (e .tokens)) e) (retained-one numberOf n (isReferred e) (e .tokens .slots) (l .tokens .apart)
+    (λ a m q. unreferred a q t) (λ a m q. referred-is e (a .number) a refl (h a m q))))
+  where
+    subst-mem : {a b : ℕ} {xs : List ℕ} → a ≡ b → Mem b xs → Mem a xs
+    subst-mem q (here e) = here (q ∙ e)
+    subst-mem q (there m) = there (subst-mem q m)
+
+    unreferred : (a : Token) → a .number ≡ n → member n (references e) ≡ false → isReferred e a ≡ false
+    unreferred a q t = ⊎-elim (λ k. absurd (not-both (mem-member (subst-mem (sym q) (is-referred e (a .number) a refl k))) t)) (λ k. k) (either (isReferred e a))
+
+-- ---- closing a handle, and another primary token of a station
+
+module _ {A : Type 0} (f : A → Bool) where
+  others : (ps : List (Slot A)) {a b : A} → found f ps ≡ live a → Mem b (lives ps) → (b ≡ a) ⊎ Mem b (lives (exchanged f free ps))
+  unfolding found exchanged lives
+  others (free ∷ ps) e m = others ps e m
+  others (live c ∷ ps) {a} {b} e m = go (f c) e m (λ q k. others ps q k)
+    where
+      go : (t : Bool) → (if t then live c else found f ps) ≡ live a → Mem b (c ∷ lives ps) → (found f ps ≡ live a → Mem b (lives ps) → (b ≡ a) ⊎ Mem b (lives (exchanged f free ps)))
+          → (b ≡ a) ⊎ Mem b (lives (if t then free ∷ ps else live c ∷ exchanged f free ps))
+      go true e (here q) ih = inl (let r : c ≡ a = cc in q ∙ r)
+      go true e (there k) ih = inr k
+      go false e (here q) ih = inr (here q)
+      go false e (there k) ih = ⊎-elim (λ q. inl q) (λ k. inr (there k)) (ih e k)
+
+-- a token that is not the closed handle's is still isReferred to
+close-refers : (d : State) (s n : ℕ) (h : Handle) → StateFacts d → findHandle d s n ≡ live h → (t : Token) → Mem t (lives (dropHandle s n d .tokens .slots)) → (t .number ≡ h .token → ⊥) → Mem (t .number) (references (dropHandle s n d))
+unfolding dropHandle withHandles withSlots findHandle numberOf handleToken
+close-refers d s n h f e t m ne =
+    let c = dropHandle s n d in
+    ⊎-elim (λ a. let r = mem-map handleToken (lives (d .handles .slots)) a in
+    ⊎-elim (λ q. absurd (ne (r .2 ∙ ap handleToken q))) (λ k. by-handle c (mem-by handleToken (r .2) k)) (others (isHandle s n) (d .handles .slots) e (r .1)))
+    (λ b. by-station c b)
+    (by-either d (f .reached (t .number) (map-mem numberOf m)))
+
+-- closing the handle h: only its token can be freed
+pub close-frees : (d : State) (s n : ℕ) (h : Handle) → StateFacts d → findHandle d s n ≡ live h → released (dropHandle s n d) ≡ freedOne (h .token) (dropHandle s n d)
+close-frees d s n h f e = released-one (dropHandle s n d) (h .token) (drop-loose d s n (f .loose)) (close-refers d s n h f e)
+
+-- another primary token: only the one before can be freed
+token-refers : (d : State) (s n : ℕ) → StateFacts d → (t : Token) → Mem t (lives (setToken s n d .tokens .slots)) → (t .number ≡ callerNumber d s → ⊥) → Mem (t .number) (references (setToken s n d))
+unfolding setToken changeStation withStations callerNumber stationAt numberOf stationToken
+token-refers d s n f t m ne =
+    let c = setToken s n d in
+    ⊎-elim (λ a. by-handle c a)
+    (λ b. let r = mem-map stationToken (d .stations) b in
+    ⊎-elim (λ q. absurd (ne (r .2 ∙ ap stationToken q))) (λ k. by-station c (mem-by stationToken (r .2) k)) (changeAt-mem (d .stations) s (withToken n) startStation (r .1)))
+    (by-either d (f .reached (t .number) (map-mem numberOf m)))
+
+pub token-frees : (d : State) (s n : ℕ) → StateFacts d → Loose (setToken s n d) → released (setToken s n d) ≡ freedOne (callerNumber d s) (setToken s n d)
+token-frees d s n f l = released-one (setToken s n d) (callerNumber d s) l (token-refers d s n f)
