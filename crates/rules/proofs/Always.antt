@@ -1,13 +1,13 @@
 -- Over any list of calls from the start: the state is valid, and what lasts of the tokens lasts. Assumes nothing.
-use Prim.Native.Nat.{ℕ, zero, suc, _+_, _*_, _-_, _≤_, _<_}
+use Prim.Native.Nat.{ℕ, suc, _+_, _*_, _-_, _<_}
 use native.Mathlib.Omega.{arith}
-use mathlib.Core.Path.{_≡_, refl, sym, ap, ap₂, _∙_, subst}
-use mathlib.Core.Bool.{Bool, true, false, not, _&&_, _||_}
-use mathlib.Core.Logic.{_⊎_, inl, inr, ⊎-elim}
+use mathlib.Core.Path.{_≡_, refl, sym, ap, _∙_, subst}
+use mathlib.Core.Bool.{true, _||_}
+use mathlib.Core.Logic.{_⊎_, ⊎-elim}
 use mathlib.Core.List.{List, [], _∷_, _++_, map}
 use lib.Dec.{eqb, leb, ltb}
-use lib.ListN.{length, getD, set, take, length-set}
-use borrow.Author.Tests.{eqb-true, eq-eqb, leb-false, lt-ltb, ltb-true}
+use lib.ListN.{length, take}
+use borrow.Author.Tests.{leb-false}
 use Rattle.rules.specs.Basic.{if_then_else_, implies, all, isEmpty}
 use Rattle.rules.specs.Bits.{within}
 use Rattle.rules.specs.Frame.{maxBody, maxAnswer, secondOf, lengthOf, framedBy, framed, Length, Framed, unread, invalid, size, part, broken, whole}
@@ -22,7 +22,6 @@ use Rattle.rules.specs.Valid.{isByte, isPart, streamValid, valid}
 use Rattle.rules.specs.Computes.{computes}
 use Rattle.rules.specs.Throughout.{IsAnswer}
 use Rattle.rules.proofs.Logic.{and-l, and-r, and-i, all-mem, mem-none, mem-append, getD-mem, map-mem, mem-map, all-append}
-use Rattle.rules.proofs.Bits.{below}
 use Rattle.rules.proofs.Tables.{on-if, only-one}
 use Rattle.rules.proofs.Facts.{StateFacts, valid-facts, facts-valid}
 use Rattle.rules.proofs.Changes.{later-refl, stream-facts}

@@ -1,14 +1,13 @@
 -- Every answer fits: on a valid state each is one valid frame of at most 1,024 bytes. Assumes nothing.
 use Prim.Native.Nat.{ℕ, zero, suc, _+_, _*_, _-_, _^_, _≤_, _<_}
 use native.Mathlib.Omega.{arith}
-use mathlib.Core.Path.{_≡_, refl, sym, ap, _∙_}
-use mathlib.Core.Bool.{Bool, true, false, _&&_, _||_}
-use mathlib.Core.Logic.{_⊎_, inl, inr, ⊎-elim}
-use mathlib.Core.List.{List, [], _∷_, _++_, map}
+use mathlib.Core.Path.{_≡_, refl, ap}
+use mathlib.Core.Bool.{Bool, true, false}
+use mathlib.Core.List.{List, [], _∷_, _++_}
 use lib.Bits.{bitAnd, and-le-l}
 use lib.Pow.{pow-mono}
 use native.Mathlib.Nat.{pow-suc}
-use lib.Dec.{eqb, leb, ltb}
+use lib.Dec.{leb}
 use lib.ListN.{length, getD, take, drop, length-append, length-take}
 use borrow.Author.Tests.{ltb-true, leb-true}
 use Rattle.rules.specs.AdjustDefaults as AdjustDefaults
@@ -33,7 +32,7 @@ use Rattle.rules.specs.Privileges.{existing}
 use Rattle.rules.specs.Query as Query
 use Rattle.rules.specs.Refusal.{refusal, capacityBelow, streamBroken}
 use Rattle.rules.specs.Request as Request
-use Rattle.rules.specs.Request.{group, parse, Entry, Request, privileges, groups}
+use Rattle.rules.specs.Request.{group, parse, Entry, Request}
 use Rattle.rules.specs.Restrict as Restrict
 use Rattle.rules.specs.Run.{after}
 use Rattle.rules.specs.Serve.{rule, decided, decision, serve}
@@ -42,7 +41,7 @@ use Rattle.rules.specs.Token.{primary, impersonation, sidAt, Token}
 use Rattle.rules.specs.Valid.{is32, is64, between, identityValid, groupValid, groupsValid, limitsValid, defaultsValid}
 use Rattle.rules.specs.Throughout.{IsAnswer}
 use Rattle.rules.proofs.Logic.{and-l, and-r, all-mem, map-mem, member-mem}
-use Rattle.rules.proofs.Bits.{within-trans, within-le, below}
+use Rattle.rules.proofs.Bits.{within-trans, within-le}
 use Rattle.rules.proofs.Numbers.{encode-width}
 use Rattle.rules.proofs.Tables.{on-if}
 use Rattle.rules.proofs.Facts.{TokenFacts, StateFacts}

@@ -3,31 +3,17 @@ use Prim.Native.Nat.{ℕ}
 use mathlib.Core.Path.{_≡_, refl, ap₂}
 use mathlib.Core.Bool.{Bool, true, false, _&&_}
 use mathlib.Core.List.{List, [], _∷_}
-use lib.Dec.{eqb}
-use borrow.Author.Tests.{eqb-true}
-use Rattle.rules.specs.State.{State}
 use Rattle.rules.specs.Computes.{computes}
 use Rattle.rules.proofs.Logic.{and-l, and-r, not-both}
+use Rattle.rules.proofs.Same.{same-eq}
+use Rattle.rules.specs.Memory.{same}
 use Rattle.rules.specs.Cases.{Row, _gives_, _is_, Holds, table, at, afterFrom, answersFrom, answers, openWith, openAll, adjust, queryWords, status, handle, handles, words}
-
-same : List ℕ → List ℕ → Bool
-same [] [] = true
-same [] (y ∷ ys) = false
-same (x ∷ xs) [] = false
-same (x ∷ xs) (y ∷ ys) = eqb x y && same xs ys
 
 sames : List (List ℕ) → List (List ℕ) → Bool
 sames [] [] = true
 sames [] (y ∷ ys) = false
 sames (x ∷ xs) [] = false
 sames (x ∷ xs) (y ∷ ys) = same x y && sames xs ys
-
-same-eq : (xs ys : List ℕ) → same xs ys ≡ true → xs ≡ ys
-unfolding same
-same-eq [] [] h = refl
-same-eq [] (y ∷ ys) h = absurd (not-both h refl)
-same-eq (x ∷ xs) [] h = absurd (not-both h refl)
-same-eq (x ∷ xs) (y ∷ ys) h = ap₂ _∷_ (eqb-true x y (and-l (eqb x y) _ h)) (same-eq xs ys (and-r (eqb x y) _ h))
 
 sames-eq : (xs ys : List (List ℕ)) → sames xs ys ≡ true → xs ≡ ys
 unfolding sames
@@ -54,5 +40,5 @@ tested (_gives_ a b ∷ rows) h e = (sames-eq a b (and-l (sames a b) _ h), teste
 tested (_is_ σ τ ∷ rows) h e = (e .0, tested rows h (e .1))
 
 pub cases : Holds table
-unfolding computes right same sames States table at afterFrom answersFrom answers openWith openAll adjust queryWords status handle handles words
+unfolding computes right sames States table at afterFrom answersFrom answers openWith openAll adjust queryWords status handle handles words
 cases = tested table refl (refl, tt)

@@ -1,14 +1,11 @@
 -- The changes of a state: each keeps it valid, and what lasts of its tokens. Assumes nothing.
-use Prim.Native.Nat.{ℕ, zero, suc, _+_, _-_, _^_, _≤_, _<_}
+use Prim.Native.Nat.{ℕ, zero, suc, _-_, _<_}
 use native.Mathlib.Nat.{le-refl, le-trans}
 use native.Mathlib.Omega.{arith}
-use mathlib.Core.Path.{_≡_, refl, sym, ap, ap₂, _∙_, subst}
-use mathlib.Core.Bool.{Bool, true, false, not, _&&_, _||_}
+use mathlib.Core.Path.{_≡_, refl, ap, _∙_, subst}
+use mathlib.Core.Bool.{true}
 use mathlib.Core.Logic.{_⊎_, inl, inr, ⊎-elim}
-use mathlib.Core.List.{List, [], _∷_, _++_, map}
-use lib.Dec.{eqb, leb, ltb}
-use lib.ListN.{length, getD}
-use borrow.Author.Tests.{eqb-true, eq-eqb, ltb-true}
+use mathlib.Core.List.{List, [], _∷_, map}
 use Rattle.rules.specs.Basic.{changeAt}
 use Rattle.rules.specs.Decision.{canIssue}
 use Rattle.rules.specs.Growth.{Mem, Follows, Before, Later}
@@ -19,9 +16,9 @@ use Rattle.rules.specs.Station.{withToken, Station}
 use Rattle.rules.specs.Table.{lives, withSlots, canAdd, added, retained, Table, live}
 use Rattle.rules.specs.Token.{primary, Token}
 use Rattle.rules.specs.Valid.{handleValid, streamValid}
-use Rattle.rules.proofs.Logic.{and-l, either, mem-left, mem-right, mem-append, length-changeAt, mem-changeAt, map-mem, mem-by, mem-map}
+use Rattle.rules.proofs.Logic.{and-l, mem-left, mem-right, mem-append, length-changeAt, mem-changeAt, map-mem, mem-by, mem-map}
 use Rattle.rules.proofs.Bits.{within-refl, within-trans}
-use Rattle.rules.proofs.Tables.{in-placed, placed-new, in-exchanged, some-free, in-retained, retained-in, numbers, number-placed, placed-number, in-freed, number-freed, same-numbers, only-one}
+use Rattle.rules.proofs.Tables.{in-placed, placed-new, in-exchanged, some-free, in-retained, retained-in, number-placed, placed-number, in-freed, number-freed, same-numbers, only-one}
 use Rattle.rules.proofs.Facts.{TokenFacts, added-facts, put-facts, freed-facts, retained-facts, Loose, StateFacts, is-referred, referred-is}
 
 -- ---- what lasts, over any time

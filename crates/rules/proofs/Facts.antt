@@ -1,28 +1,24 @@
 -- A valid state, as facts. Assumes nothing.
-use Prim.Native.Nat.{ℕ, zero, suc, _+_, _-_, _^_, _≤_, _<_}
+use Prim.Native.Nat.{ℕ, _-_, _≤_, _<_}
 use native.Mathlib.Omega.{arith}
-use mathlib.Core.Path.{_≡_, refl, sym, ap, ap₂, _∙_, subst}
-use mathlib.Core.Bool.{Bool, true, false, not, _&&_, _||_}
-use mathlib.Core.Logic.{_⊎_, inl, inr, ⊎-elim}
-use mathlib.Core.List.{List, [], _∷_, _++_, map}
-use lib.Dec.{eqb, leb, ltb}
+use mathlib.Core.Path.{_≡_, refl, ap, _∙_}
+use mathlib.Core.Bool.{Bool, true}
+use mathlib.Core.Logic.{_⊎_, ⊎-elim}
+use mathlib.Core.List.{map}
+use lib.Dec.{eqb, leb}
 use lib.ListN.{length}
 use borrow.Author.Tests.{eqb-true, eq-eqb, leb-true, le-leb, ltb-true}
 use Rattle.rules.specs.Basic.{all, member, distinct}
-use Rattle.rules.specs.Frame.{size}
 use Rattle.rules.specs.Growth.{Mem}
 use Rattle.rules.specs.Handle.{Handle}
-use Rattle.rules.specs.Memory.{sized, same}
 use Rattle.rules.specs.Number.{max32, max64}
-use Rattle.rules.specs.Request.{privileges, groups, defaults}
 use Rattle.rules.specs.State.{tokenSlots, handleSlots, stationCount, numberOf, handleNumber, stationToken, references, isReferred, State}
 use Rattle.rules.specs.Station.{Station}
 use Rattle.rules.specs.Table.{lives, someFree, withSlots, canAdd, added, exchanged, retained, Table, free, live}
 use Rattle.rules.specs.Token.{primary, Token}
 use Rattle.rules.specs.Valid.{is32, is64, between, identityValid, privilegesValid, groupsValid, limitsValid, defaultsValid, tokenValid, handleValid, streamValid, tableValid, isToken, primaryAtStation, valid}
 use Rattle.rules.proofs.Logic.{and-l, and-r, and-i, implies-e, implies-i, all-mem, mem-all, map-mem, mem-map, member-mem, mem-member}
-use Rattle.rules.proofs.Bits.{below}
-use Rattle.rules.proofs.Tables.{length-placed, length-exchanged, length-retained, numbers, number-placed, number-retained, number-freed, distinct-placed, distinct-retained, distinct-freed, same-numbers}
+use Rattle.rules.proofs.Tables.{length-placed, length-exchanged, length-retained, number-placed, number-retained, number-freed, distinct-placed, distinct-retained, distinct-freed, same-numbers}
 
 -- ---- a token
 

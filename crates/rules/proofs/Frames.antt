@@ -2,15 +2,13 @@
 use Prim.Native.Nat.{ℕ, zero, suc, _+_, _*_, _-_, _/_, _%_, _≤_, _<_}
 use native.Mathlib.Omega.{arith}
 use mathlib.Core.Path.{_≡_, refl, ap, _∙_}
-use mathlib.Core.Logic.{_⊎_, inl, inr, ⊎-elim}
+use mathlib.Core.Logic.{_⊎_, ⊎-elim}
 use mathlib.Core.List.{List, [], _∷_, _++_}
-use lib.Dec.{eqb, leb, ltb}
 use lib.ListN.{length, take, length-take, length-append}
 use lib.Seq.{take-append-le, take-append-add}
 use borrow.Author.Tests.{lt-ltb, le-ltb, lt-leb, ne-eqb}
-use Rattle.rules.specs.Basic.{if_then_else_}
 use Rattle.rules.specs.Number.{encode}
-use Rattle.rules.specs.Frame.{maxBody, frame, Length, unread, invalid, size, secondOf, lengthOf, Framed, part, broken, whole, framedBy, framed}
+use Rattle.rules.specs.Frame.{maxBody, frame, size, secondOf, lengthOf, part, whole, framedBy, framed}
 use Rattle.rules.proofs.Numbers.{below-or, encode-one, encode-more}
 
 -- the length of n is read as n, before the bytes after it

@@ -1,19 +1,18 @@
 -- What changes of groups keep: the same SIDs in the same order, owners, deny-only marks, and valid groups. Assumes nothing.
-use Prim.Native.Nat.{ℕ, zero, suc, _+_, _-_, _^_, _≤_, _<_}
-use mathlib.Core.Path.{_≡_, refl, sym, ap, ap₂, _∙_, subst}
-use mathlib.Core.Bool.{Bool, true, false, not, _&&_, _||_, or-false, and-true, and-false, or-true}
-use mathlib.Core.Logic.{_⊎_, inl, inr, ⊎-elim}
-use mathlib.Core.List.{List, [], _∷_, _++_, map}
+use Prim.Native.Nat.{ℕ, zero, suc, _-_}
+use mathlib.Core.Path.{_≡_, refl, sym, ap, ap₂, _∙_}
+use mathlib.Core.Bool.{Bool, true, false, not, _&&_, _||_, or-true}
+use mathlib.Core.List.{List, [], _∷_, map}
 use lib.Dec.{eqb, leb, ltb}
-use lib.Bits.{bitAnd, bitOr}
+use lib.Bits.{bitOr}
 use lib.ListN.{length, getD}
 use borrow.Author.Tests.{eqb-true, not-true}
 use Rattle.rules.specs.AdjustDefaults.{validOwner, validGroup}
 use Rattle.rules.specs.AdjustGroups.{isReset, maySwitch, unprotected, applied, appliedAll, resetGroup, adjusted}
-use Rattle.rules.specs.Basic.{implies, bothOrNeither, all, changeAt}
+use Rattle.rules.specs.Basic.{if_then_else_, implies, bothOrNeither, all, changeAt}
 use Rattle.rules.specs.Bits.{has, without, within}
 use Rattle.rules.specs.Create.{givable, validPair, entered}
-use Rattle.rules.specs.Group.{noGroup, isOnByDefault, isOn, isOwner, isDenyOnly, isLogon, switched, denied, Group}
+use Rattle.rules.specs.Group.{noGroup, isOnByDefault, isOn, isOwner, isDenyOnly, switched, denied, Group}
 use Rattle.rules.specs.Growth.{sidOf, Mem, here, there}
 use Rattle.rules.specs.Request.{Entry}
 use Rattle.rules.specs.Restrict.{deniedAll}
@@ -23,7 +22,6 @@ use Rattle.rules.proofs.Logic.{and-l, and-r, and-i, not-both, not-e, no
 use Rattle.rules.proofs.Bits.{has-or, or-same, without-same, without-none, within-has, within-trans, without-within, within-or}
 use Rattle.rules.proofs.Tables.{on-if}
 use Rattle.rules.proofs.Widths.{sid32}
-use Rattle.rules.proofs.PrivilegesKept.{order}
 
 -- ---- one group
 
@@ -193,12 +191,14 @@ allowed-fits : (t : Token) (e : Entry) → unprotected t e ≡ true → Fits (t 
 unfolding unprotected maySwitch Fits
 allowed-fits t e h v = not-true _ (rw (eqb-true (e .value) 1 v) at h)
 
+reset-one : (b : Bool) (g : Group) → groupValid g ≡ true → (b ≡ false → isDenyOnly g ≡ false) → Alike g (if b then g else switched (isOnByDefault g) g)
+reset-one true g o h = alike-refl g
+reset-one false g o h = switches g (isOnByDefault g) o (λ b. h refl)
+
 resets : (gs : List Group) → all groupValid gs ≡ true → Groups gs (map resetGroup gs)
 unfolding all resetGroup
 resets [] o = none
-resets (g ∷ gs) o =
-    more (on-if (Alike g) (isDenyOnly g) g (switched (isOnByDefault g) g) (λ t. alike-refl g) (λ t. switches g (isOnByDefault g) (and-l _ (all groupValid gs) o) (λ b. t)))
-    (resets gs (and-r (groupValid g) _ o))
+resets (g ∷ gs) o = more (reset-one _ g (and-l _ (all groupValid gs) o) (λ t. t)) (resets gs (and-r (groupValid g) _ o))
 
 pub adjusts : (es : List Entry) (t : Token) → (isReset es || all (unprotected t) es) ≡ true → all groupValid (t .groups) ≡ true → Groups (t .groups) (adjusted es (t .groups))
 unfolding adjusted

@@ -1,12 +1,11 @@
 -- Every rule keeps a state valid, and what lasts of its tokens. Assumes nothing.
-use Prim.Native.Nat.{ℕ, zero, suc, _+_, _-_, _^_, _≤_, _<_}
+use Prim.Native.Nat.{ℕ, _+_, _-_, _^_, _<_}
 use native.Mathlib.Omega.{arith}
-use mathlib.Core.Path.{_≡_, refl, sym, ap, ap₂, _∙_, subst}
-use mathlib.Core.Bool.{Bool, true, false, not, _&&_, _||_}
-use mathlib.Core.Logic.{_⊎_, inl, inr, ⊎-elim}
-use mathlib.Core.List.{List, [], _∷_, _++_, map}
-use lib.Dec.{eqb, leb, ltb}
-use lib.ListN.{length, getD, length-map}
+use mathlib.Core.Path.{_≡_, refl, sym, ap, _∙_, subst}
+use mathlib.Core.Bool.{true}
+use mathlib.Core.List.{List, map}
+use lib.Dec.{leb, ltb}
+use lib.ListN.{length, length-map}
 use borrow.Author.Tests.{eqb-true, lt-ltb, ltb-true}
 use Rattle.rules.specs.AdjustDefaults as AdjustDefaults
 use Rattle.rules.specs.AdjustGroups as AdjustGroups
@@ -15,7 +14,6 @@ use Rattle.rules.specs.AdjustScope as AdjustScope
 use Rattle.rules.specs.Basic.{implies, all}
 use Rattle.rules.specs.Bits.{has, within}
 use Rattle.rules.specs.Create as Create
-use Rattle.rules.specs.Create.{entered}
 use Rattle.rules.specs.Decision.{canIssue, issued}
 use Rattle.rules.specs.Duplicate as Duplicate
 use Rattle.rules.specs.Group.{Group}
@@ -23,13 +21,12 @@ use Rattle.rules.specs.Growth.{Mem}
 use Rattle.rules.specs.Handle.{Handle}
 use Rattle.rules.specs.Install as Install
 use Rattle.rules.specs.Mask.{allRights, validMask}
-use Rattle.rules.specs.Model.{step}
 use Rattle.rules.specs.Number.{max64, Read, got, bad}
 use Rattle.rules.specs.OpenClose as OpenClose
 use Rattle.rules.specs.Privileges.{createToken, assignPrimaryToken, tcb, existing, granted}
 use Rattle.rules.specs.Query as Query
 use Rattle.rules.specs.Request as Request
-use Rattle.rules.specs.Request.{group, parse, Entry, Request, privileges, groups}
+use Rattle.rules.specs.Request.{parse, Entry, Request}
 use Rattle.rules.specs.Restrict as Restrict
 use Rattle.rules.specs.Serve.{rule, decided, decision, serve}
 use Rattle.rules.specs.State.{stationCount, withTokens, setToken, numberOf, tokenOf, callerNumber, caller, putToken, changeToken, usedOn, used, canAddToken, handleOf, canAddHandle, released, State}
@@ -37,8 +34,8 @@ use Rattle.rules.specs.Table.{someFree, withSlots, canAdd}
 use Rattle.rules.specs.Token.{maxGroups, maxRestricting, primary, primaryOf, newToken, Token}
 use Rattle.rules.specs.Valid.{isByte, is32, is64, between, identityValid, privilegesValid, groupsValid, handleValid}
 use Rattle.rules.proofs.Logic.{and-l, and-r, and-i, not-both, mem-by}
-use Rattle.rules.proofs.Bits.{none-within, below}
-use Rattle.rules.proofs.Tables.{on-if, numbers, only-one}
+use Rattle.rules.proofs.Bits.{none-within}
+use Rattle.rules.proofs.Tables.{on-if, only-one}
 use Rattle.rules.proofs.Facts.{TokenFacts, StateFacts}
 use Rattle.rules.proofs.Changes.{numbersOf, put-numbers, put-room}
 use Rattle.rules.proofs.Widths.{Got, sid32, Fits, parsed}

@@ -1,17 +1,16 @@
 -- The ladder of refusals: every request checks in the order of the refusals' numbers, so the first check that fails is the lowest.
 -- Assumes nothing.
-use Prim.Native.Nat.{ℕ, _≤_, min}
+use Prim.Native.Nat.{ℕ, _≤_}
 use native.Mathlib.Omega.{arith}
-use mathlib.Core.Path.{_≡_, refl, sym, _∙_}
+use mathlib.Core.Path.{_≡_, refl, sym}
 use mathlib.Core.Bool.{Bool, true, false, _&&_}
 use mathlib.Core.List.{List, [], _∷_}
 use lib.Dec.{leb}
-use lib.ListN.{getD}
 use borrow.Author.Tests.{leb-true}
 use Rattle.rules.specs.Number.{Read, got, bad}
-use Rattle.rules.specs.Refusal.{Refusal, refusal, capacityBelow}
+use Rattle.rules.specs.Refusal.{refusal, capacityBelow}
 use Rattle.rules.specs.State.{State}
-use Rattle.rules.specs.Decision.{Decision, need_else_then_, success, Served, carriedOut, withHandle, issued}
+use Rattle.rules.specs.Decision.{Decision, need_else_then_, success, carriedOut, withHandle, issued}
 use Rattle.rules.specs.Request.{Request, parse}
 use Rattle.rules.specs.OpenClose as OpenClose
 use Rattle.rules.specs.Create as Create

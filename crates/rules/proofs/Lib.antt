@@ -19,4 +19,7 @@ pub mod Always
 pub mod Sources
 pub mod Released
 pub mod Throughout
+pub mod Same
+pub mod Rows
+pub mod Memory
 pub mod Cases

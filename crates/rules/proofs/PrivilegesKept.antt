@@ -1,20 +1,16 @@
 -- What changes of privilege sets keep: enabled and default stay within present, present never grows, used marks stay. Assumes nothing.
-use Prim.Native.Nat.{ℕ, zero, suc, _+_, _-_, _^_, _≤_, _<_}
-use mathlib.Core.Path.{_≡_, refl, sym, ap, ap₂, _∙_, subst}
-use mathlib.Core.Bool.{Bool, true, false, not, _&&_, _||_}
-use mathlib.Core.Logic.{_⊎_, inl, inr, ⊎-elim}
-use mathlib.Core.List.{List, [], _∷_, _++_, map}
+use Prim.Native.Nat.{ℕ, _-_, _^_}
+use mathlib.Core.Path.{_≡_, refl, sym, ap, _∙_}
+use mathlib.Core.Bool.{true, not, _&&_, _||_}
+use mathlib.Core.List.{List, [], _∷_, map}
 use lib.Dec.{eqb}
-use lib.Bits.{bitAnd, bitOr}
 use borrow.Author.Tests.{eqb-true, ne-eqb}
 use Rattle.rules.specs.AdjustPrivileges.{isReset, validEntry, validEntries, applied, appliedAll, adjusted}
 use Rattle.rules.specs.Basic.{all, distinct, isEmpty}
 use Rattle.rules.specs.Bits.{has, within}
-use Rattle.rules.specs.Group.{isOn}
 use Rattle.rules.specs.Growth.{Mem, here, there}
 use Rattle.rules.specs.Privileges.{existing, exists, enable, disable, remove, reset, markUsed, onlyUsed, Privileges}
 use Rattle.rules.specs.Request.{keyOf, Entry}
-use Rattle.rules.specs.State.{used}
 use Rattle.rules.specs.Valid.{privilegesValid}
 use Rattle.rules.proofs.Logic.{and-l, and-r, and-i, all-mem, mem-by, distinct-head, distinct-tail}
 use Rattle.rules.proofs.Bits.{has-without, has-power, within-refl, within-trans, without-within, both-without, within-or, or-within, power-within, none-within}

@@ -1,7 +1,7 @@
 -- A list of calls is what its events are: its answers and its end depend on nothing else. Assumes nothing.
 use Prim.Native.Nat.{ℕ, zero, suc, _+_, _≤_, _<_}
 use native.Mathlib.Omega.{arith}
-use mathlib.Core.Path.{_≡_, refl, sym, ap, ap₂, _∙_, subst}
+use mathlib.Core.Path.{_≡_, refl, sym, ap, ap₂, _∙_}
 use mathlib.Core.Bool.{Bool, true, false}
 use mathlib.Core.List.{List, [], _∷_, _++_, map, append-assoc}
 use lib.Dec.{leb, ltb}
@@ -10,10 +10,9 @@ use borrow.Author.Tests.{lt-leb, le-ltb}
 use Rattle.rules.specs.Basic.{if_then_else_}
 use Rattle.rules.specs.Frame.{maxAnswer, frame, framed, Framed, part, broken, whole}
 use Rattle.rules.specs.Model.{joined, byteAt, step, refused, fedOn, fedFrom, feed, reconnect, Step, Result, silent, answers}
-use Rattle.rules.specs.Refusal.{refusal, noStation, shortBuffer}
-use Rattle.rules.specs.Request.{end}
+use Rattle.rules.specs.Refusal.{noStation, shortBuffer}
 use Rattle.rules.specs.Run.{returned, after, noted, answered, eventsOf, events, happens, stateOf, told, afterEvents, answersTo, untilUsed, Call, Event, feeds, reconnects, byte, reconnected}
-use Rattle.rules.specs.State.{stationCount, stationAt, changeStation, used, State}
+use Rattle.rules.specs.State.{stationCount, stationAt, changeStation, State}
 use Rattle.rules.specs.Station.{cleared}
 use Rattle.rules.specs.Throughout.{Same}
 use Rattle.rules.proofs.Numbers.{encode-some}

@@ -1,5 +1,4 @@
 -- What holds throughout a list of calls from the start. Assumes nothing.
-use Prim.Native.Nat.{ℕ}
 use native.Mathlib.Omega.{arith}
 use mathlib.Core.Path.{_≡_, refl, subst}
 use mathlib.Core.Bool.{true}
@@ -8,12 +7,9 @@ use lib.ListN.{length}
 use Rattle.rules.specs.Basic.{all}
 use Rattle.rules.specs.Growth.{Live}
 use Rattle.rules.specs.Model.{answers}
-use Rattle.rules.specs.Request.{end}
 use Rattle.rules.specs.Run.{returned, after, ofBytes, Call}
 use Rattle.rules.specs.State.{start, State}
 use Rattle.rules.specs.Throughout.{Throughout}
-use Rattle.rules.proofs.Tables.{numbers}
-use Rattle.rules.proofs.PrivilegesKept.{order}
 use Rattle.rules.proofs.Runs.{run-end, run-answers, cutting, cut}
 use Rattle.rules.proofs.Always.{always-valid, lasts, never-again, enabled-present, default-present, all-fit}
 use Rattle.rules.proofs.Sources.{no-more}

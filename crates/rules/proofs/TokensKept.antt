@@ -1,28 +1,27 @@
 -- Valid tokens, and what lasts of them, for each change that a request makes to a token and each new token. Assumes nothing.
-use Prim.Native.Nat.{ℕ, zero, suc, _+_, _-_, _%_, _^_, _≤_, _<_}
+use Prim.Native.Nat.{ℕ, _+_, _-_, _%_, _^_}
 use native.Mathlib.Nat.{mod-lt}
 use native.Mathlib.Omega.{arith}
-use mathlib.Core.Path.{_≡_, refl, sym, ap, ap₂, _∙_, subst}
-use mathlib.Core.Bool.{Bool, true, false, not, _&&_, _||_}
-use mathlib.Core.Logic.{_⊎_, inl, inr, ⊎-elim}
-use mathlib.Core.List.{List, [], _∷_, _++_, map}
-use lib.Dec.{eqb, leb, ltb}
-use lib.ListN.{length, getD, length-append}
-use borrow.Author.Tests.{eqb-true, lt-ltb, le-leb, leb-true, ltb-true}
+use mathlib.Core.Path.{_≡_, refl, ap, _∙_}
+use mathlib.Core.Bool.{Bool, true, _&&_, _||_}
+use mathlib.Core.Logic.{_⊎_, ⊎-elim}
+use mathlib.Core.List.{List, []}
+use lib.Dec.{eqb, leb}
+use lib.ListN.{length, length-append}
+use borrow.Author.Tests.{eqb-true, lt-ltb, le-leb}
 use Rattle.rules.specs.AdjustDefaults as AdjustDefaults
 use Rattle.rules.specs.AdjustDefaults.{noChange, validOwner, validGroup, validDacl, validDefaults, orKept}
 use Rattle.rules.specs.AdjustGroups as AdjustGroups
 use Rattle.rules.specs.AdjustPrivileges as AdjustPrivileges
-use Rattle.rules.specs.AdjustPrivileges.{named}
 use Rattle.rules.specs.AdjustScope.{scopedToken}
 use Rattle.rules.specs.Basic.{if_then_else_, implies, all, member, isEmpty}
 use Rattle.rules.specs.Bits.{has, within}
 use Rattle.rules.specs.Create.{validIntegrity}
 use Rattle.rules.specs.Duplicate.{retyped, copied, nobody, anonymousCopy, duplicated}
-use Rattle.rules.specs.Group.{denied, Group}
+use Rattle.rules.specs.Group.{Group}
 use Rattle.rules.specs.Growth.{Follows}
 use Rattle.rules.specs.Privileges.{existing, markUsed, onlyUsed, Privileges}
-use Rattle.rules.specs.Request.{group, Entry, privileges, groups, defaults}
+use Rattle.rules.specs.Request.{Entry}
 use Rattle.rules.specs.Restrict.{limited, restricted}
 use Rattle.rules.specs.State.{usedOn}
 use Rattle.rules.specs.Token.{maxGroups, maxRestricting, maxDacl, primary, impersonation, noLimits, noDefaults, newToken, withPrivileges, withGroups, withDefaults, withScope, nextModified, Identity, Limits, Defaults, Token}

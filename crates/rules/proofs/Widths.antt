@@ -1,17 +1,16 @@
 -- What is read is within its field's width: of a body of bytes, every field of the request. Assumes nothing.
-use Prim.Native.Nat.{ℕ, zero, suc, _+_, _*_, _-_, _/_, _^_, _≤_, _<_}
+use Prim.Native.Nat.{ℕ, zero, suc, _-_, _^_, _≤_}
 use native.Mathlib.Omega.{arith}
-use mathlib.Core.Path.{_≡_, refl, sym, ap, _∙_}
-use mathlib.Core.Bool.{Bool, true, false, _&&_, _||_}
+use mathlib.Core.Path.{_≡_, refl}
+use mathlib.Core.Bool.{Bool, true}
 use mathlib.Core.List.{List, [], _∷_}
-use lib.Dec.{eqb, leb, ltb}
 use lib.ListN.{getD}
-use borrow.Author.Tests.{leb-true, ltb-false, lt-ltb}
+use borrow.Author.Tests.{lt-ltb}
 use Rattle.rules.specs.Basic.{all}
 use Rattle.rules.specs.Group.{Group}
 use Rattle.rules.specs.Number.{max16, max32, max64, readNumber, Read, got, bad}
 use Rattle.rules.specs.Request as Request
-use Rattle.rules.specs.Request.{Reader, follow, _>>=_, give, end, byte, times, u16, u32, u64, group, entry, openLayout, closeLayout, createLayout, queryLayout, privilegesLayout, groupsLayout, scopeLayout, defaultsLayout, duplicateLayout, restrictLayout, installLayout, unknown, layouts, parse, Entry, Request, close, create, query, privileges, groups, scope, defaults, duplicate, restrict, install}
+use Rattle.rules.specs.Request.{Reader, follow, _>>=_, give, end, byte, times, u16, u32, u64, group, entry, openLayout, closeLayout, createLayout, queryLayout, privilegesLayout, groupsLayout, scopeLayout, defaultsLayout, duplicateLayout, restrictLayout, installLayout, unknown, layouts, parse, Entry, Request}
 use Rattle.rules.specs.Valid.{isByte, is32, is64}
 use Rattle.rules.proofs.Logic.{and-l, and-r, and-i}
 use Rattle.rules.proofs.Numbers.{by-reading}

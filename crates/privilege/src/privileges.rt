@@ -1,0 +1,92 @@
+// The privileges of a token: four words, privilege n at bit n.
+ghost use mathlib.Core.Path.{_≡_};
+ghost use Rattle.rules.specs.Privileges.{isEnabled, enable, disable, remove, reset, markUsed, onlyUsed, granted};
+ghost use Rattle.privilege.specs.Meaning.{privilegesOf};
+use crate::words;
+
+pub struct Privileges {
+    pub present: u64,
+    pub enabled: u64,
+    pub by_default: u64,
+    pub used: u64,
+}
+
+impl Privileges {
+    pub const CREATE_TOKEN: u64 = 2;
+
+    pub const ASSIGN_PRIMARY: u64 = 3;
+
+    pub const TCB: u64 = 7;
+
+    // Privileges 2 to 36, as a word.
+    pub const EXISTING: u64 = 0x1F_FFFF_FFFC;
+
+    // Privilege n is enabled.
+    pub fn holds(self, n: u64) -> bool
+        ensures { λ r. ⌜ r ≡ isEnabled n (privilegesOf self) ⌝ }
+    {
+        words::has(self.enabled, n)
+    }
+
+    pub fn enable(mut self, w: u64) -> Privileges
+        ensures { λ r. ⌜ privilegesOf r ≡ enable w (privilegesOf self) ⌝ }
+    {
+        self.enabled = words::with(self.enabled, w);
+        self
+    }
+
+    pub fn disable(mut self, w: u64) -> Privileges
+        ensures { λ r. ⌜ privilegesOf r ≡ disable w (privilegesOf self) ⌝ }
+    {
+        self.enabled = words::without(self.enabled, w);
+        self
+    }
+
+    // What was used stays noted.
+    pub fn remove(mut self, w: u64) -> Privileges
+        ensures { λ r. ⌜ privilegesOf r ≡ remove w (privilegesOf self) ⌝ }
+    {
+        self.present = words::without(self.present, w);
+        self.enabled = words::without(self.enabled, w);
+        self.by_default = words::without(self.by_default, w);
+        self
+    }
+
+    pub fn reset(mut self) -> Privileges
+        ensures { λ r. ⌜ privilegesOf r ≡ reset (privilegesOf self) ⌝ }
+    {
+        self.enabled = self.by_default;
+        self
+    }
+
+    pub fn mark_used(mut self, w: u64) -> Privileges
+        ensures { λ r. ⌜ privilegesOf r ≡ markUsed w (privilegesOf self) ⌝ }
+    {
+        self.used = words::with(self.used, w);
+        self
+    }
+
+    // None, but what was used.
+    pub fn only_used(self) -> Privileges
+        ensures { λ r. ⌜ privilegesOf r ≡ onlyUsed (privilegesOf self) ⌝ }
+    {
+        Privileges {
+            present: 0,
+            enabled: 0,
+            by_default: 0,
+            used: self.used,
+        }
+    }
+
+    // Present ones, of which some are enabled by default and so enabled.
+    pub fn granted(present: u64, by_default: u64) -> Privileges
+        ensures { λ r. ⌜ privilegesOf r ≡ granted present «by_default» ⌝ }
+    {
+        Privileges {
+            present: present,
+            enabled: by_default,
+            by_default: by_default,
+            used: 0,
+        }
+    }
+}
