@@ -19,7 +19,7 @@ use Rattle.rules.specs.State.{stationCount, start, withStations, station
 use Rattle.rules.specs.Station.{startStation, withPending, cleared, brokenOff, Station}
 use Rattle.rules.specs.Token.{Token}
 use Rattle.rules.specs.Valid.{isByte, isPart, streamValid, valid}
-use Rattle.rules.specs.Computes.{computes}
+use Rattle.rules.proofs.Computes.{computes}
 use Rattle.rules.specs.Throughout.{IsAnswer}
 use Rattle.rules.proofs.Logic.{and-l, and-r, and-i, all-mem, mem-none, mem-append, getD-mem, map-mem, mem-map, all-append}
 use Rattle.rules.proofs.Tables.{on-if, only-one}

@@ -21,6 +21,7 @@ use Rattle.rules.specs.Create as Create
 use Rattle.rules.specs.Create.{validIntegrity}
 use Rattle.rules.specs.Decision.{carriedOut, withHandle, issued, Decision, need_else_then_, success}
 use Rattle.rules.specs.Duplicate as Duplicate
+use Rattle.rules.specs.Entry.{Entry}
 use Rattle.rules.specs.Frame.{maxAnswer, frame}
 use Rattle.rules.specs.Group.{noGroup, isOn, isDenyOnly, Group}
 use Rattle.rules.specs.Growth.{Mem, here, there}
@@ -32,7 +33,7 @@ use Rattle.rules.specs.Privileges.{existing}
 use Rattle.rules.specs.Query as Query
 use Rattle.rules.specs.Refusal.{refusal, capacityBelow, streamBroken}
 use Rattle.rules.specs.Request as Request
-use Rattle.rules.specs.Request.{group, parse, Entry, Request}
+use Rattle.rules.specs.Request.{group, parse, Request}
 use Rattle.rules.specs.Restrict as Restrict
 use Rattle.rules.specs.Run.{after}
 use Rattle.rules.specs.Serve.{rule, decided, decision, serve}

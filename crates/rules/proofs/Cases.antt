@@ -3,11 +3,11 @@ use Prim.Native.Nat.{ℕ}
 use mathlib.Core.Path.{_≡_, refl, ap₂}
 use mathlib.Core.Bool.{Bool, true, false, _&&_}
 use mathlib.Core.List.{List, [], _∷_}
-use Rattle.rules.specs.Computes.{computes}
+use Rattle.rules.proofs.Computes.{computes}
 use Rattle.rules.proofs.Logic.{and-l, and-r, not-both}
 use Rattle.rules.proofs.Same.{same-eq}
 use Rattle.rules.specs.Memory.{same}
-use Rattle.rules.specs.Cases.{Row, _gives_, _is_, Holds, table, at, afterFrom, answersFrom, answers, openWith, openAll, adjust, queryWords, status, handle, handles, words}
+use Rattle.rules.specs.Cases.{Row, _gives_, _is_, Holds, table, at, answersFrom, answers, openWith, adjust, queryWords, status, handle, handles, words}
 
 sames : List (List ℕ) → List (List ℕ) → Bool
 sames [] [] = true
@@ -40,5 +40,5 @@ tested (_gives_ a b ∷ rows) h e = (sames-eq a b (and-l (sames a b) _ h), teste
 tested (_is_ σ τ ∷ rows) h e = (e .0, tested rows h (e .1))
 
 pub cases : Holds table
-unfolding computes right sames States table at afterFrom answersFrom answers openWith openAll adjust queryWords status handle handles words
+unfolding computes right sames States table at answersFrom answers openWith adjust queryWords status handle handles words
 cases = tested table refl (refl, tt)

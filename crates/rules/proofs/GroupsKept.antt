@@ -8,13 +8,13 @@ use lib.Bits.{bitOr}
 use lib.ListN.{length, getD}
 use borrow.Author.Tests.{eqb-true, not-true}
 use Rattle.rules.specs.AdjustDefaults.{validOwner, validGroup}
-use Rattle.rules.specs.AdjustGroups.{isReset, maySwitch, unprotected, applied, appliedAll, resetGroup, adjusted}
+use Rattle.rules.specs.AdjustGroups.{isReset, maySwitch, unprotected, applied, resetGroup, adjusted}
 use Rattle.rules.specs.Basic.{if_then_else_, implies, bothOrNeither, all, changeAt}
 use Rattle.rules.specs.Bits.{has, without, within}
 use Rattle.rules.specs.Create.{givable, validPair, entered}
+use Rattle.rules.specs.Entry.{applyAll, Entry}
 use Rattle.rules.specs.Group.{noGroup, isOnByDefault, isOn, isOwner, isDenyOnly, switched, denied, Group}
 use Rattle.rules.specs.Growth.{sidOf, Mem, here, there}
-use Rattle.rules.specs.Request.{Entry}
 use Rattle.rules.specs.Restrict.{deniedAll}
 use Rattle.rules.specs.Token.{maxGroups, Defaults, Token}
 use Rattle.rules.specs.Valid.{is32, groupValid, groupsValid, defaultsValid}
@@ -179,8 +179,8 @@ marks b (g ∷ gs) (suc i) (suc j) = marks b gs i j
 Fits : List Group → Entry → Type 0
 Fits gs e = eqb (e .value) 1 ≡ true → isDenyOnly (getD gs (e .key) noGroup) ≡ false
 
-all-switched : (es : List Entry) (gs : List Group) → ((e : Entry) → Mem e es → Fits gs e) → all groupValid gs ≡ true → Groups gs (appliedAll es gs)
-unfolding appliedAll applied Fits
+all-switched : (es : List Entry) (gs : List Group) → ((e : Entry) → Mem e es → Fits gs e) → all groupValid gs ≡ true → Groups gs (applyAll applied es gs)
+unfolding applyAll applied Fits
 all-switched [] gs h o = groups-refl gs
 all-switched (e ∷ es) gs h o =
     let b = eqb (e .value) 1 in

@@ -16,6 +16,7 @@ use Rattle.rules.specs.Bits.{has, within}
 use Rattle.rules.specs.Create as Create
 use Rattle.rules.specs.Decision.{canIssue, issued}
 use Rattle.rules.specs.Duplicate as Duplicate
+use Rattle.rules.specs.Entry.{Entry}
 use Rattle.rules.specs.Group.{Group}
 use Rattle.rules.specs.Growth.{Mem}
 use Rattle.rules.specs.Handle.{Handle}
@@ -26,7 +27,7 @@ use Rattle.rules.specs.OpenClose as OpenClose
 use Rattle.rules.specs.Privileges.{createToken, assignPrimaryToken, tcb, existing, granted}
 use Rattle.rules.specs.Query as Query
 use Rattle.rules.specs.Request as Request
-use Rattle.rules.specs.Request.{parse, Entry, Request}
+use Rattle.rules.specs.Request.{parse, Request}
 use Rattle.rules.specs.Restrict as Restrict
 use Rattle.rules.specs.Serve.{rule, decided, decision, serve}
 use Rattle.rules.specs.State.{stationCount, withTokens, setToken, numberOf, tokenOf, callerNumber, caller, putToken, changeToken, usedOn, used, canAddToken, handleOf, canAddHandle, released, State}

@@ -1,3 +1,4 @@
+pub mod Computes
 pub mod Logic
 pub mod Index
 pub mod Bits

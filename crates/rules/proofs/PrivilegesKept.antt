@@ -5,12 +5,12 @@ use mathlib.Core.Bool.{true, not, _&&_, _||_}
 use mathlib.Core.List.{List, [], _∷_, map}
 use lib.Dec.{eqb}
 use borrow.Author.Tests.{eqb-true, ne-eqb}
-use Rattle.rules.specs.AdjustPrivileges.{isReset, validEntry, validEntries, applied, appliedAll, adjusted}
+use Rattle.rules.specs.AdjustPrivileges.{isReset, validEntry, applied, adjusted}
 use Rattle.rules.specs.Basic.{all, distinct, isEmpty}
 use Rattle.rules.specs.Bits.{has, within}
+use Rattle.rules.specs.Entry.{keyOf, validEntries, applyAll, Entry}
 use Rattle.rules.specs.Growth.{Mem, here, there}
 use Rattle.rules.specs.Privileges.{existing, exists, enable, disable, remove, reset, markUsed, onlyUsed, Privileges}
-use Rattle.rules.specs.Request.{keyOf, Entry}
 use Rattle.rules.specs.Valid.{privilegesValid}
 use Rattle.rules.proofs.Logic.{and-l, and-r, and-i, all-mem, mem-by, distinct-head, distinct-tail}
 use Rattle.rules.proofs.Bits.{has-without, has-power, within-refl, within-trans, without-within, both-without, within-or, or-within, power-within, none-within}
@@ -93,18 +93,18 @@ still e f p ne h t =
     (λ v. has-without (f .key) (p .present) (2 ^ e .key) ∙ and-i (h t) (ap not (has-power (f .key) (e .key) ∙ ne-eqb (f .key) (e .key) ne)))
     (λ v. h t))
 
-all-fewer : (es : List Entry) (p : Privileges) → ((e : Entry) → Mem e es → Fits p e) → distinct (map keyOf es) ≡ true → Sound p → Fewer p (appliedAll es p)
-unfolding appliedAll keyOf
+all-fewer : (es : List Entry) (p : Privileges) → ((e : Entry) → Mem e es → Fits p e) → distinct (map keyOf es) ≡ true → Sound p → Fewer p (applyAll applied es p)
+unfolding applyAll keyOf
 all-fewer [] p h d s = fewer-refl p s
 all-fewer (e ∷ es) p h d s =
     let a = once e p (h e (here refl)) s in
-    fewer-trans p (applied e p) (appliedAll es (applied e p)) a
+    fewer-trans p (applied e p) (applyAll applied es (applied e p)) a
     (all-fewer es (applied e p) (λ f m. still e f p (λ q. distinct-head (e .key) (map keyOf es) d (mem-by keyOf (sym q) m)) (h f (there m))) (distinct-tail (e .key) (map keyOf es) d) (a .sound))
 
-pub adjusts : (es : List Entry) (p : Privileges) → (isReset es || validEntries p es) ≡ true → Sound p → Fewer p (adjusted es p)
+pub adjusts : (es : List Entry) (p : Privileges) → (isReset es || validEntries (validEntry p) es) ≡ true → Sound p → Fewer p (adjusted es p)
 unfolding adjusted validEntries
 adjusts es p h s =
     on-if (Fewer p) (isReset es) _ _ (λ t. was-reset p s)
-    (λ t. let k : validEntries p es ≡ true = rw t at h in
+    (λ t. let k : validEntries (validEntry p) es ≡ true = rw t at h in
     let all-ok = and-r (not (isEmpty es)) (all (validEntry p) es) (and-l _ (distinct (map keyOf es)) k) in
     all-fewer es p (λ e m. entry-fits p e (all-mem (validEntry p) es all-ok m)) (and-r (not (isEmpty es) && all (validEntry p) es) (distinct (map keyOf es)) k) s)

@@ -18,10 +18,10 @@ use Rattle.rules.specs.Basic.{if_then_else_, implies, all, member, isEmp
 use Rattle.rules.specs.Bits.{has, within}
 use Rattle.rules.specs.Create.{validIntegrity}
 use Rattle.rules.specs.Duplicate.{retyped, copied, nobody, anonymousCopy, duplicated}
+use Rattle.rules.specs.Entry.{Entry, validEntries}
 use Rattle.rules.specs.Group.{Group}
 use Rattle.rules.specs.Growth.{Follows}
 use Rattle.rules.specs.Privileges.{existing, markUsed, onlyUsed, Privileges}
-use Rattle.rules.specs.Request.{Entry}
 use Rattle.rules.specs.Restrict.{limited, restricted}
 use Rattle.rules.specs.State.{usedOn}
 use Rattle.rules.specs.Token.{maxGroups, maxRestricting, maxDacl, primary, impersonation, noLimits, noDefaults, newToken, withPrivileges, withGroups, withDefaults, withScope, nextModified, Identity, Limits, Defaults, Token}
@@ -79,7 +79,7 @@ pub used-after : (t : Token) (n : ℕ) → has n existing ≡ true → TokenFact
 unfolding usedOn
 used-after t n h f = with-privileges t (markUsed (2 ^ n) (t .privileges)) f (P.marked (2 ^ n) (t .privileges) (power-within n existing h) (sound _ (f .privileges)))
 
-pub privileges-after : (t : Token) (es : List Entry) → (AdjustPrivileges.isReset es || AdjustPrivileges.validEntries (t .privileges) es) ≡ true → TokenFacts t → After t (AdjustPrivileges.adjustedToken es t)
+pub privileges-after : (t : Token) (es : List Entry) → (AdjustPrivileges.isReset es || validEntries (AdjustPrivileges.validEntry (t .privileges)) es) ≡ true → TokenFacts t → After t (AdjustPrivileges.adjustedToken es t)
 unfolding AdjustPrivileges.adjustedToken
 privileges-after t es h f = and-next t _ (with-privileges t _ f (P.adjusts es (t .privileges) h (sound _ (f .privileges))))
 

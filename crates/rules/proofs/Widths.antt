@@ -7,10 +7,11 @@ use mathlib.Core.List.{List, [], _∷_}
 use lib.ListN.{getD}
 use borrow.Author.Tests.{lt-ltb}
 use Rattle.rules.specs.Basic.{all}
+use Rattle.rules.specs.Entry.{Entry}
 use Rattle.rules.specs.Group.{Group}
 use Rattle.rules.specs.Number.{max16, max32, max64, readNumber, Read, got, bad}
 use Rattle.rules.specs.Request as Request
-use Rattle.rules.specs.Request.{Reader, follow, _>>=_, give, end, byte, times, u16, u32, u64, group, entry, openLayout, closeLayout, createLayout, queryLayout, privilegesLayout, groupsLayout, scopeLayout, defaultsLayout, duplicateLayout, restrictLayout, installLayout, unknown, layouts, parse, Entry, Request}
+use Rattle.rules.specs.Request.{Reader, follow, _>>=_, give, end, byte, times, u16, u32, u64, group, entry, numberLayout, entriesLayout, createLayout, queryLayout, scopeLayout, defaultsLayout, duplicateLayout, restrictLayout, unknown, layouts, parse, Request}
 use Rattle.rules.specs.Valid.{isByte, is32, is64}
 use Rattle.rules.proofs.Logic.{and-l, and-r, and-i}
 use Rattle.rules.proofs.Numbers.{by-reading}
@@ -123,13 +124,13 @@ Fits (Request.duplicate h type level mask) = Unit {0}
 Fits (Request.restrict h mark removed deny sids) = all is32 sids ≡ true
 Fits (Request.install h) = Unit {0}
 
-in-open : Reads Fits openLayout
-unfolding openLayout Fits
-in-open = and-then u32 _ number32 λ a h. ends _ tt
+in-number : (f : ℕ → Request) → ((n : ℕ) → Fits (f n)) → Reads Fits (numberLayout f)
+unfolding numberLayout
+in-number f fit = and-then u32 _ number32 λ n h. ends _ (fit n)
 
-in-close : Reads Fits closeLayout
-unfolding closeLayout Fits
-in-close = and-then u32 _ number32 λ a h. ends _ tt
+in-entries : (f : ℕ → List Entry → Request) → ((n : ℕ) (es : List Entry) → Fits (f n es)) → Reads Fits (entriesLayout f)
+unfolding entriesLayout
+in-entries f fit = and-then u32 _ number32 λ h i. and-then u32 _ number32 λ n j. and-then _ _ (many anything entry an-entry n) λ es k. ends _ (fit h es)
 
 in-create : Reads Fits createLayout
 unfolding createLayout Fits
@@ -140,14 +141,6 @@ in-create =
 in-query : Reads Fits queryLayout
 unfolding queryLayout Fits
 in-query = and-then u32 _ number32 λ a h. and-then u32 _ number32 λ b i. and-then u32 _ number32 λ c j. ends _ tt
-
-in-privileges : Reads Fits privilegesLayout
-unfolding privilegesLayout Fits
-in-privileges = and-then u32 _ number32 λ a h. and-then u32 _ number32 λ n i. and-then _ _ (many anything entry an-entry n) λ es j. ends _ tt
-
-in-groups : Reads Fits groupsLayout
-unfolding groupsLayout Fits
-in-groups = and-then u32 _ number32 λ a h. and-then u32 _ number32 λ n i. and-then _ _ (many anything entry an-entry n) λ es j. ends _ tt
 
 in-scope : Reads Fits scopeLayout
 unfolding scopeLayout Fits
@@ -169,10 +162,6 @@ in-restrict =
     and-then u32 _ number32 λ a h. and-then u32 _ number32 λ m hm. and-then u64 _ number64 λ r hr. and-then u32 _ number32 λ n hn. and-then u32 _ number32 λ k hk.
     and-then _ _ (many is32 u32 number32 n) λ deny hd. and-then _ _ (many is32 u32 number32 k) λ sids hs. ends _ hs
 
-in-install : Reads Fits installLayout
-unfolding installLayout Fits
-in-install = and-then u32 _ number32 λ a h. ends _ tt
-
 in-none : Reads Fits unknown
 unfolding unknown Got
 in-none = record { gives = λ bytes b. tt }
@@ -189,8 +178,11 @@ at-number (l ∷ ls) zero h = h .0
 at-number (l ∷ ls) (suc n) h = at-number ls n (h .1)
 
 all-fit : Each layouts
-unfolding layouts Each
-all-fit = (in-none, (in-open, (in-close, (in-create, (in-query, (in-privileges, (in-groups, (in-scope, (in-defaults, (in-duplicate, (in-restrict, (in-install, tt))))))))))))
+unfolding layouts Each Fits
+all-fit =
+    let one : (n : ℕ) → Unit {0} = λ n. tt in
+    let two : (n : ℕ) (es : List Entry) → Unit {0} = λ n es. tt in
+    (in-none, (in-number _ one, (in-number _ one, (in-create, (in-query, (in-entries _ two, (in-entries _ two, (in-scope, (in-defaults, (in-duplicate, (in-restrict, (in-number _ one, tt))))))))))))
 
 pub parsed : (body : List ℕ) → all isByte body ≡ true → Got Fits (parse body)
 unfolding parse

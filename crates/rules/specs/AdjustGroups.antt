@@ -1,30 +1,25 @@
 -- Request 6: groups. Assumes nothing.
 use Prim.Native.Nat.{ℕ, zero, suc, _+_, _*_}
-use mathlib.Core.Bool.{Bool, true, false, not, _&&_, _||_}
+use mathlib.Core.Bool.{Bool, not, _&&_, _||_}
 use mathlib.Core.List.{List, [], _∷_, map}
 use lib.ListN.{length, getD, take, drop}
 use lib.Dec.{eqb, leb, ltb}
-use Rattle.rules.specs.Basic.{if_then_else_, all, distinct, isEmpty, changeAt}
+use Rattle.rules.specs.Basic.{if_then_else_, all, changeAt}
 use Rattle.rules.specs.Number.{encodeAll, max32}
 use Rattle.rules.specs.Mask.{adjustGroups}
 use Rattle.rules.specs.Refusal.{badField, protectedGroup}
 use Rattle.rules.specs.Group.{Group, noGroup, isOn, isOnByDefault, isDenyOnly, isFixed, switched}
 use Rattle.rules.specs.Token.{Token, withGroups, nextModified}
 use Rattle.rules.specs.State.{State, changeToken}
-use Rattle.rules.specs.Request.{Entry, keyOf}
+use Rattle.rules.specs.Entry.{Entry, isOnly, validEntries, applyAll}
 use Rattle.rules.specs.Decision.{Decision, need_else_then_, success, withHandle}
 
 -- the single pair (0xFFFFFFFF, 0)
 unfoldable pub isReset : List Entry → Bool
-isReset [] = false
-isReset (e ∷ []) = eqb e.key max32 && eqb e.value 0
-isReset (e ∷ f ∷ es) = false
+isReset es = isOnly max32 0 es
 
 unfoldable pub validEntry : List Group → Entry → Bool
 validEntry gs e = ltb e.key (length gs) && leb e.value 1
-
-unfoldable pub validEntries : List Group → List Entry → Bool
-validEntries gs es = not (isEmpty es) && all (validEntry gs) es && distinct (map keyOf es)
 
 -- protected: disabling a mandatory, logon or user-SID group that isn't deny-only, and enabling a deny-only one
 unfoldable pub maySwitch : ℕ → ℕ → Group → Bool
@@ -37,16 +32,12 @@ unprotected t e = maySwitch (t .identity .user) e.value (getD t.groups e.key noG
 unfoldable pub applied : Entry → List Group → List Group
 applied e gs = changeAt e.key (switched (eqb e.value 1)) gs
 
-unfoldable pub appliedAll : List Entry → List Group → List Group
-appliedAll [] gs = gs
-appliedAll (e ∷ es) gs = appliedAll es (applied e gs)
-
 -- ENABLED from value 2, but in deny-only groups
 unfoldable pub resetGroup : Group → Group
 resetGroup g = if isDenyOnly g then g else switched (isOnByDefault g) g
 
 unfoldable pub adjusted : List Entry → List Group → List Group
-adjusted es gs = if isReset es then map resetGroup gs else appliedAll es gs
+adjusted es gs = if isReset es then map resetGroup gs else applyAll applied es gs
 
 -- the ENABLED bits, group i at bit i
 unfoldable pub onBits : List Group → ℕ
@@ -67,6 +58,6 @@ adjustedToken es t = nextModified (withGroups (adjusted es t.groups) t)
 unfoldable pub adjust : State → ℕ → ℕ → List Entry → Decision
 adjust σ s n es =
     withHandle σ s n adjustGroups λ h t.
-    need isReset es || validEntries t.groups es else badField then
+    need isReset es || validEntries (validEntry t.groups) es else badField then
     need isReset es || all (unprotected t) es else protectedGroup then
     success (changeToken h.token (adjustedToken es) σ) (encodeAll (onWords reportWords t.groups))

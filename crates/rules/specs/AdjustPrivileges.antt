@@ -1,10 +1,10 @@
 -- Request 5: privileges. Assumes nothing.
 use Prim.Native.Nat.{ℕ, _+_, _^_}
-use mathlib.Core.Bool.{Bool, true, false, not, _&&_, _||_}
-use mathlib.Core.List.{List, [], _∷_, map}
+use mathlib.Core.Bool.{Bool, _&&_, _||_}
+use mathlib.Core.List.{List, [], _∷_}
 use lib.Bits.{bitAnd}
 use lib.Dec.{eqb}
-use Rattle.rules.specs.Basic.{if_then_else_, all, distinct, isEmpty}
+use Rattle.rules.specs.Basic.{if_then_else_}
 use Rattle.rules.specs.Number.{encode}
 use Rattle.rules.specs.Bits.{has}
 use Rattle.rules.specs.Mask.{adjustPrivileges}
@@ -12,21 +12,16 @@ use Rattle.rules.specs.Refusal.{badField}
 use Rattle.rules.specs.Privileges.{Privileges, exists, enable, disable, remove, reset}
 use Rattle.rules.specs.Token.{Token, withPrivileges, nextModified}
 use Rattle.rules.specs.State.{State, changeToken}
-use Rattle.rules.specs.Request.{Entry, keyOf}
+use Rattle.rules.specs.Entry.{Entry, isOnly, validEntries, applyAll}
 use Rattle.rules.specs.Decision.{Decision, need_else_then_, success, withHandle}
 
 -- the single pair (0, 0x80000000)
 unfoldable pub isReset : List Entry → Bool
-isReset [] = false
-isReset (e ∷ []) = eqb e.key 0 && eqb e.value 0x80000000
-isReset (e ∷ f ∷ es) = false
+isReset es = isOnly 0 0x80000000 es
 
 -- 0 disable, 2 enable, 4 remove; an absent one is not enabled
 unfoldable pub validEntry : Privileges → Entry → Bool
 validEntry p e = exists e.key && (eqb e.value 0 || eqb e.value 4 || eqb e.value 2 && has e.key p.present)
-
-unfoldable pub validEntries : Privileges → List Entry → Bool
-validEntries p es = not (isEmpty es) && all (validEntry p) es && distinct (map keyOf es)
 
 unfoldable pub applied : Entry → Privileges → Privileges
 applied e p =
@@ -34,12 +29,8 @@ applied e p =
     if eqb e.value 4 then remove (2 ^ e.key) p else
     disable (2 ^ e.key) p
 
-unfoldable pub appliedAll : List Entry → Privileges → Privileges
-appliedAll [] p = p
-appliedAll (e ∷ es) p = appliedAll es (applied e p)
-
 unfoldable pub adjusted : List Entry → Privileges → Privileges
-adjusted es p = if isReset es then reset p else appliedAll es p
+adjusted es p = if isReset es then reset p else applyAll applied es p
 
 -- the named bits, of distinct entries
 unfoldable pub named : List Entry → ℕ
@@ -56,5 +47,5 @@ adjustedToken es t = nextModified (withPrivileges (adjusted es t.privileges) t)
 unfoldable pub adjust : State → ℕ → ℕ → List Entry → Decision
 adjust σ s n es =
     withHandle σ s n adjustPrivileges λ h t.
-    need isReset es || validEntries t.privileges es else badField then
+    need isReset es || validEntries (validEntry t.privileges) es else badField then
     success (changeToken h.token (adjustedToken es) σ) (encode (previous es t.privileges))

@@ -1,6 +1,6 @@
 -- Request 7: scope. Assumes nothing.
 use Prim.Native.Nat.{ℕ}
-use mathlib.Core.List.{List, []}
+use mathlib.Core.List.{[]}
 use Rattle.rules.specs.Mask.{adjustScope}
 use Rattle.rules.specs.Refusal.{privilegeNotHeld}
 use Rattle.rules.specs.Privileges.{tcb}

@@ -1,41 +1,30 @@
 -- Cases A to L of document 01, 'A first minute at station 0': one table and one claim, proved by computing. Assumes nothing.
 use Prim.Native.Nat.{ℕ, zero, suc, _+_}
 use mathlib.Core.Path.{_≡_}
-use mathlib.Core.List.{List, [], _∷_, _++_}
+use mathlib.Core.List.{List, [], _∷_, _++_, map}
 use lib.ListN.{replicate}
 use Rattle.rules.specs.Token.{nextModified}
 use Rattle.rules.specs.State.{State, start, changeToken}
 use Rattle.rules.specs.Frame.{maxAnswer}
-use Rattle.rules.specs.Model.{feed}
+use Rattle.rules.specs.Run.{Call, feeds, returned, after}
 
--- ---- feeds from the start
+-- ---- feeds
 
-pub record Feed : Type 0 where
-  pub station : ℕ
-  pub chunk : List ℕ
+unfoldable pub at : ℕ → List (List ℕ) → List Call
+at s chunks = map (λ x. feeds s x maxAnswer) chunks
 
-unfoldable pub at : ℕ → List (List ℕ) → List Feed
-at s [] = []
-at s (x ∷ xs) = record { station = s; chunk = x } ∷ at s xs
-
-unfoldable pub afterFrom : State → List Feed → State
-afterFrom σ [] = σ
-afterFrom σ (x ∷ xs) = afterFrom (feed σ x.station x.chunk maxAnswer .after) xs
-
-unfoldable pub answersFrom : State → List Feed → List (List ℕ)
+-- the answer of each, also where there is none
+unfoldable pub answersFrom : State → List Call → List (List ℕ)
 answersFrom σ [] = []
-answersFrom σ (x ∷ xs) = let r = feed σ x.station x.chunk maxAnswer in r .answer ∷ answersFrom (r .after) xs
+answersFrom σ (c ∷ cs) = returned σ c .answer ∷ answersFrom (returned σ c .after) cs
 
-unfoldable pub answers : List Feed → List (List ℕ)
-answers xs = answersFrom start xs
+unfoldable pub answers : List Call → List (List ℕ)
+answers cs = answersFrom start cs
 
 -- ---- requests and answers of the cases
 
 unfoldable pub openWith : ℕ → List ℕ
 openWith mask = 0x02 ∷ 0x01 ∷ mask ∷ []
-
-unfoldable pub openAll : List ℕ
-openAll = 0x03 ∷ 0x01 ∷ 0xEF ∷ 0x03 ∷ []
 
 -- request 5 on handle 1, one pair
 unfoldable pub adjust : ℕ → ℕ → List ℕ
@@ -82,7 +71,7 @@ table =
     -- G: handle 1 from station 1
     ∷ (answers (at 0 (openWith 0x28 ∷ []) ++ at 1 (queryWords 0x40 ∷ [])) gives handle 1 ∷ status 2 ∷ [])
     -- H: mask 0x1EF opens, 0x10 does not
-    ∷ (answers (at 0 (openAll ∷ openWith 0x10 ∷ [])) gives handle 1 ∷ status 5 ∷ [])
+    ∷ (answers (at 0 ((0x03 ∷ 0x01 ∷ 0xEF ∷ 0x03 ∷ []) ∷ openWith 0x10 ∷ [])) gives handle 1 ∷ status 5 ∷ [])
     -- I: privilege 36 passes, 37 does not
     ∷ (answers (at 0 (openWith 0x28 ∷ adjust 36 0 ∷ adjust 37 0 ∷ []))
     gives handle 1 ∷ (0x07 ∷ 0x00 ∷ 0x80 ∷ 0x80 ∷ 0x80 ∷ 0x80 ∷ 0x80 ∷ 0x02 ∷ []) ∷ status 5 ∷ [])
@@ -93,8 +82,8 @@ table =
     -- L: privilege 7 removed twice; the second time only the modified number of token 1 steps
     ∷ (answers (at 0 (openWith 0x28 ∷ adjust 7 4 ∷ adjust 7 4 ∷ []))
     gives handle 1 ∷ (0x03 ∷ 0x00 ∷ 0x80 ∷ 0x01 ∷ []) ∷ (0x02 ∷ 0x00 ∷ 0x00 ∷ []) ∷ [])
-    ∷ (afterFrom start (at 0 (openWith 0x28 ∷ adjust 7 4 ∷ adjust 7 4 ∷ []))
-    is changeToken 1 nextModified (afterFrom start (at 0 (openWith 0x28 ∷ adjust 7 4 ∷ []))))
+    ∷ (after (at 0 (openWith 0x28 ∷ adjust 7 4 ∷ adjust 7 4 ∷ [])) start
+    is changeToken 1 nextModified (after (at 0 (openWith 0x28 ∷ adjust 7 4 ∷ [])) start))
     ∷ []
 
 -- every row is an equation that holds

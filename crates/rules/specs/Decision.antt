@@ -1,7 +1,7 @@
 -- How a request is decided: its checks, lowest refusal first, then its effect. Assumes nothing.
 use Prim.Native.Nat.{ℕ}
 use mathlib.Core.Bool.{Bool, true, false, _&&_}
-use mathlib.Core.List.{List, [], _∷_}
+use mathlib.Core.List.{List, _∷_}
 use Rattle.rules.specs.Number.{encode}
 use Rattle.rules.specs.Mask.{permits}
 use Rattle.rules.specs.Refusal.{Refusal, notALiveHandle, rightMissing}

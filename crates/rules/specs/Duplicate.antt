@@ -1,7 +1,7 @@
 -- Request 9: duplicate. Assumes nothing.
 use Prim.Native.Nat.{ℕ}
-use mathlib.Core.Bool.{Bool, true, false, not, _&&_, _||_}
-use mathlib.Core.List.{List, []}
+use mathlib.Core.Bool.{Bool, not, _&&_, _||_}
+use mathlib.Core.List.{[]}
 use lib.Dec.{eqb, leb}
 use Rattle.rules.specs.Basic.{if_then_else_}
 use Rattle.rules.specs.Bits.{within}
@@ -19,17 +19,7 @@ retyped type level i = record { user = i.user; session = i.session; type = type;
 -- everything but number, modified number and elevation, and the type and level asked for
 unfoldable pub copied : ℕ → ℕ → ℕ → Token → Token
 copied n type level t =
-    record {
-      number = n;
-      modified = n;
-      elevation = 1;
-      identity = retyped type level t.identity;
-      privileges = t.privileges;
-      groups = t.groups;
-      limits = t.limits;
-      defaults = t.defaults;
-      scope = t.scope;
-    }
+    record { number = n; modified = n; elevation = 1; identity = retyped type level t.identity; privileges = t.privileges; groups = t.groups; limits = t.limits; defaults = t.defaults; scope = t.scope }
 
 unfoldable pub nobody : Identity
 nobody = record { user = anonymous; session = 0; type = impersonation; level = 0; integrity = 0 }

@@ -1,6 +1,6 @@
 -- Slots by their index, as code finds them: `found`, `placed` and `exchanged` of Table are `getD` and `set` at these. Assumes nothing.
 use Prim.Native.Nat.{ℕ, zero, suc}
-use mathlib.Core.Bool.{Bool, true, false}
+use mathlib.Core.Bool.{Bool}
 use mathlib.Core.List.{List, [], _∷_}
 use Rattle.rules.specs.Basic.{if_then_else_}
 use Rattle.rules.specs.Table.{Slot, free, live}

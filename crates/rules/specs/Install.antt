@@ -1,7 +1,7 @@
 -- Request 11: install. Assumes nothing.
 use Prim.Native.Nat.{ℕ}
-use mathlib.Core.Bool.{Bool, true, false, _&&_, _||_}
-use mathlib.Core.List.{List, []}
+use mathlib.Core.Bool.{Bool, _&&_, _||_}
+use mathlib.Core.List.{[]}
 use lib.Dec.{eqb}
 use Rattle.rules.specs.Basic.{if_then_else_}
 use Rattle.rules.specs.Mask.{assignPrimary}

@@ -1,8 +1,7 @@
--- The ladder of refusals, of every request: the status is 0 exactly when all checks pass, and else the lowest number whose check fails.
--- Assumes nothing.
+-- The ladder: a status is 0 exactly when all checks pass, and else the lowest number whose check fails. Assumes nothing.
 use Prim.Native.Nat.{ℕ, min}
 use mathlib.Core.Path.{_≡_}
-use mathlib.Core.Bool.{Bool, true, false}
+use mathlib.Core.Bool.{true, false}
 use mathlib.Core.List.{List, [], _∷_}
 use lib.ListN.{getD}
 use Rattle.rules.specs.State.{State}

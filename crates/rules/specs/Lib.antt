@@ -10,6 +10,7 @@ pub mod Index
 pub mod Handle
 pub mod Station
 pub mod State
+pub mod Entry
 pub mod Refusal
 pub mod Decision
 pub mod Request
@@ -32,5 +33,4 @@ pub mod Run
 pub mod Growth
 pub mod Memory
 pub mod Throughout
-pub mod Computes
 pub mod Cases

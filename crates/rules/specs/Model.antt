@@ -1,13 +1,11 @@
 -- The model of the broker (document 01: 'the plain desk'): what a byte, a feed and a reconnect do. Assumes nothing.
 use Prim.Native.Nat.{ℕ, _+_}
-use mathlib.Core.Bool.{Bool, true, false}
 use mathlib.Core.List.{List, [], _∷_, _++_}
 use lib.Dec.{ltb, leb}
 use Rattle.rules.specs.Basic.{if_then_else_}
 use Rattle.rules.specs.Refusal.{streamBroken, noStation, shortBuffer}
 use Rattle.rules.specs.Station.{Station, withPending, cleared, brokenOff}
 use Rattle.rules.specs.State.{State, stationCount, stationAt, changeStation}
-use Rattle.rules.specs.Decision.{Served}
 use Rattle.rules.specs.Serve.{serve}
 use Rattle.rules.specs.Frame.{Framed, part, broken, whole, framed, frame, maxAnswer}
 
@@ -63,6 +61,5 @@ feed σ s chunk room =
 -- the part request and the break are dropped, nothing else
 unfoldable pub reconnect : State → ℕ → Result
 reconnect σ s =
-    if leb stationCount s
-    then refused noStation σ
-    else record { refusal = 0; used = 0; answer = []; after = changeStation s cleared σ }
+    if leb stationCount s then refused noStation σ else
+    record { refusal = 0; used = 0; answer = []; after = changeStation s cleared σ }

@@ -1,10 +1,8 @@
--- Numbers on the line: the low seven bits, then, if anything is left, the top bit set and the rest written the same way.
--- Assumes nothing.
+-- Numbers on the line: low seven bits, then, if anything is left, the top bit set and the rest the same way. Assumes nothing.
 use Prim.Native.Nat.{ℕ, zero, suc, _+_, _*_, _-_, _/_, _%_}
 use mathlib.Core.Bool.{Bool, true, false, _||_}
 use mathlib.Core.List.{List, [], _∷_, _++_}
 use lib.Dec.{leb, ltb, eqb}
-use lib.ListN.{length}
 use Rattle.rules.specs.Basic.{if_then_else_}
 
 -- the largest values of the fields' widths

@@ -1,6 +1,6 @@
 -- Requests 1 and 2: open own, close. Neither asks for a right. Assumes nothing.
 use Prim.Native.Nat.{ℕ}
-use mathlib.Core.List.{List, []}
+use mathlib.Core.List.{[]}
 use Rattle.rules.specs.Number.{encode}
 use Rattle.rules.specs.Mask.{validMask}
 use Rattle.rules.specs.Refusal.{notALiveHandle, badField, tableFull}

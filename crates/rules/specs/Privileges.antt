@@ -43,12 +43,7 @@ disable w p = record { present = p.present; enabled = without p.enabled w; byDef
 -- used stays
 unfoldable pub remove : ℕ → Privileges → Privileges
 remove w p =
-    record {
-      present = without p.present w;
-      enabled = without p.enabled w;
-      byDefault = without p.byDefault w;
-      used = p.used;
-    }
+    record { present = without p.present w; enabled = without p.enabled w; byDefault = without p.byDefault w; used = p.used }
 
 unfoldable pub reset : Privileges → Privileges
 reset p = record { present = p.present; enabled = p.byDefault; byDefault = p.byDefault; used = p.used }

@@ -4,14 +4,7 @@ use mathlib.Core.List.{List, [], _∷_}
 use lib.ListN.{getD}
 use Rattle.rules.specs.Number.{Read, got, bad, readNumber, max16, max32, max64}
 use Rattle.rules.specs.Group.{Group}
-
--- an entry of request 5 or 6: a privilege or a group's index, and what is asked of it
-pub record Entry : Type 0 where
-  pub key : ℕ
-  pub value : ℕ
-
-unfoldable pub keyOf : Entry → ℕ
-keyOf e = e.key
+use Rattle.rules.specs.Entry.{Entry}
 
 pub data Request : Type 0 where
   openOwn : ℕ → Request
@@ -75,17 +68,21 @@ entry = do
   v ← u32
   give (record { key = k; value = v })
 
--- ---- the layouts, in the order of the request numbers
+-- ---- the layouts
 
-unfoldable pub openLayout : Reader Request
-openLayout = do
-  mask ← u32
-  end (openOwn mask)
+-- one number: a mask or a handle (1, 2, 11)
+unfoldable pub numberLayout : (ℕ → Request) → Reader Request
+numberLayout request = do
+  n ← u32
+  end (request n)
 
-unfoldable pub closeLayout : Reader Request
-closeLayout = do
+-- a handle and counted entries (5, 6)
+unfoldable pub entriesLayout : (ℕ → List Entry → Request) → Reader Request
+entriesLayout request = do
   h ← u32
-  end (close h)
+  count ← u32
+  es ← times count entry
+  end (request h es)
 
 unfoldable pub createLayout : Reader Request
 createLayout = do
@@ -104,20 +101,6 @@ queryLayout = do
   class ← u32
   capacity ← u32
   end (query h class capacity)
-
-unfoldable pub privilegesLayout : Reader Request
-privilegesLayout = do
-  h ← u32
-  count ← u32
-  es ← times count entry
-  end (privileges h es)
-
-unfoldable pub groupsLayout : Reader Request
-groupsLayout = do
-  h ← u32
-  count ← u32
-  es ← times count entry
-  end (groups h es)
 
 unfoldable pub scopeLayout : Reader Request
 scopeLayout = do
@@ -154,11 +137,6 @@ restrictLayout = do
   sids ← times sidCount u32
   end (restrict h mark removed deny sids)
 
-unfoldable pub installLayout : Reader Request
-installLayout = do
-  h ← u32
-  end (install h)
-
 -- a request number that is none
 unfoldable pub unknown : Reader Request
 unknown bytes = bad
@@ -166,17 +144,17 @@ unknown bytes = bad
 unfoldable pub layouts : List (Reader Request)
 layouts =
     unknown
-    ∷ openLayout
-    ∷ closeLayout
+    ∷ numberLayout openOwn
+    ∷ numberLayout close
     ∷ createLayout
     ∷ queryLayout
-    ∷ privilegesLayout
-    ∷ groupsLayout
+    ∷ entriesLayout privileges
+    ∷ entriesLayout groups
     ∷ scopeLayout
     ∷ defaultsLayout
     ∷ duplicateLayout
     ∷ restrictLayout
-    ∷ installLayout
+    ∷ numberLayout install
     ∷ []
 
 -- the request that a body is

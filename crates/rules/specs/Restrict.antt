@@ -31,25 +31,11 @@ deniedAll (i ∷ is) gs = deniedAll is (changeAt i denied gs)
 -- 1 sets both marks, 0 keeps them
 unfoldable pub limited : ℕ → List ℕ → Limits → Limits
 limited mark sids x =
-    record {
-      restricting = x.restricting ++ sids;
-      writeRestricted = eqb mark 1 || x.writeRestricted;
-      userDenyOnly = eqb mark 1 || x.userDenyOnly;
-    }
+    record { restricting = x.restricting ++ sids; writeRestricted = eqb mark 1 || x.writeRestricted; userDenyOnly = eqb mark 1 || x.userDenyOnly }
 
 unfoldable pub restricted : ℕ → ℕ → ℕ → List ℕ → List ℕ → Token → Token
 restricted n mark removed deny sids t =
-    record {
-      number = n;
-      modified = n;
-      elevation = 1;
-      identity = t.identity;
-      privileges = remove removed t.privileges;
-      groups = deniedAll deny t.groups;
-      limits = limited mark sids t.limits;
-      defaults = t.defaults;
-      scope = t.scope;
-    }
+    record { number = n; modified = n; elevation = 1; identity = t.identity; privileges = remove removed t.privileges; groups = deniedAll deny t.groups; limits = limited mark sids t.limits; defaults = t.defaults; scope = t.scope }
 
 unfoldable pub restrict : State → ℕ → ℕ → ℕ → ℕ → List ℕ → List ℕ → Decision
 restrict σ s n mark removed deny sids =

@@ -1,12 +1,12 @@
 -- Lists of calls, and what counts of them: the used bytes and the reconnects, with their stations. Assumes nothing.
 use Prim.Native.Nat.{ℕ, zero, suc}
-use mathlib.Core.Bool.{Bool, true, false}
+use mathlib.Core.Bool.{Bool, true}
 use mathlib.Core.List.{List, [], _∷_, _++_, map}
 use lib.ListN.{take, drop}
 use lib.Dec.{leb}
 use Rattle.rules.specs.Basic.{if_then_else_, all}
 use Rattle.rules.specs.Frame.{Framed, part, broken, whole, framed}
-use Rattle.rules.specs.Station.{Station, cleared}
+use Rattle.rules.specs.Station.{cleared}
 use Rattle.rules.specs.State.{State, stationCount, stationAt, changeStation}
 use Rattle.rules.specs.Model.{Result, Step, silent, answers, step, feed, reconnect}
 use Rattle.rules.specs.Valid.{isByte}

@@ -1,7 +1,7 @@
 -- What the broker keeps (document 01: 'What the desk keeps'). Assumes nothing.
 use Prim.Native.Nat.{ℕ, _^_}
 use mathlib.Core.Bool.{Bool}
-use mathlib.Core.List.{List, [], _∷_, _++_, map}
+use mathlib.Core.List.{List, [], _++_, map}
 use lib.ListN.{getD, replicate}
 use lib.Dec.{eqb}
 use Rattle.rules.specs.Basic.{member, changeAt}

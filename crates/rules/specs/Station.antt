@@ -1,5 +1,4 @@
--- A station: the number of its primary token (KACS: its real token), the pending bytes of its stream (document 01's 'kept bytes'),
--- and whether the stream is broken. Assumes nothing.
+-- A station: its primary (KACS: real) token's number, its stream's pending ('kept') bytes, and whether the stream is broken. Assumes nothing.
 use Prim.Native.Nat.{ℕ}
 use mathlib.Core.Bool.{Bool, true, false}
 use mathlib.Core.List.{List, []}

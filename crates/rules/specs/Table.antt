@@ -1,7 +1,6 @@
--- Tables of numbered records: tokens and handles alike. A new record takes the lowest free slot (document 01's 'place') and the next number.
--- Assumes nothing.
+-- Tables of numbered records, tokens and handles alike: a new one takes the lowest free slot ('place') and the next number. Assumes nothing.
 use Prim.Native.Nat.{ℕ, _+_}
-use mathlib.Core.Bool.{Bool, true, false, _&&_, _||_}
+use mathlib.Core.Bool.{Bool, true, false, _&&_}
 use mathlib.Core.List.{List, [], _∷_}
 use lib.Dec.{ltb}
 use Rattle.rules.specs.Basic.{if_then_else_}

@@ -1,7 +1,7 @@
 -- A token. Assumes nothing.
 use Prim.Native.Nat.{ℕ, zero, suc, _+_, _%_, _^_}
-use mathlib.Core.Bool.{Bool, true, false}
-use mathlib.Core.List.{List, [], _∷_}
+use mathlib.Core.Bool.{Bool, false}
+use mathlib.Core.List.{List, []}
 use lib.ListN.{getD}
 use Rattle.rules.specs.Privileges.{Privileges, existing, granted}
 use Rattle.rules.specs.Group.{Group, noGroup}
@@ -46,14 +46,12 @@ maxRestricting = 16
 abbrev pub maxDacl : ℕ
 maxDacl = 256
 
--- types
 abbrev pub primary : ℕ
 primary = 1
 
 abbrev pub impersonation : ℕ
 impersonation = 2
 
--- SIDs
 abbrev pub anonymous : ℕ
 anonymous = 7
 

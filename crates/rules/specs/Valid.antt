@@ -1,7 +1,7 @@
 -- What a valid state is: document 01's 'memory is in order', of the values that the memory stands for. Assumes nothing.
 use Prim.Native.Nat.{ℕ, _-_, _^_}
 use mathlib.Core.Bool.{Bool, true, false, not, _&&_}
-use mathlib.Core.List.{List, [], _∷_, map}
+use mathlib.Core.List.{List, map}
 use lib.ListN.{length}
 use lib.Dec.{eqb, leb, ltb}
 use Rattle.rules.specs.Basic.{all, member, distinct, isEmpty, implies, bothOrNeither}

@@ -1,0 +1,109 @@
+-- The slots that the code's handles stand for, as its loops and stores see them. Assumes nothing.
+use mathlib.Core.Path.{_≡_, refl, sym, ap, _∙_}
+use mathlib.Core.Bool.{Bool, true, false, not, _&&_, _||_}
+use mathlib.Core.List.{List, [], _∷_, map}
+use Prim.Native.Nat.{ℕ, zero, suc, _≤_}
+use native.Mathlib.Omega.{arith}
+use borrow.Author.Tests.{ne-eqb}
+use lib.Dec.{eqb}
+use lib.ListN.{length, getD, set, List·getD-map, length-map}
+use lib.Seq.{set-out}
+use Rattle.rules.specs.Basic.{if_then_else_, member}
+use Rattle.rules.specs.Table.{free, live, lives, found, placed, exchanged}
+use Rattle.rules.specs.Index.{freeIndex, foundIndex}
+use Rattle.rules.specs.Handle as rules
+use Rattle.rules.specs.State.{handleToken, handleSlots}
+use Rattle.rules.specs.Memory.{handleAt}
+use Rattle.rules.proofs.Index.{placed-set, found-at, exchanged-set}
+use Rattle.handle.specs.declared.Handle.{Handle}
+use Rattle.handle.specs.Meaning.{handleOf, slotsOf, none, isFree, isNamed, refersTo}
+use Rattle.handle.proofs.Rest.{First, Some}
+
+-- ---- what find, free_slot and refers give, element by element
+
+abbrev pub findIndex : ℕ → ℕ → List Handle → ℕ
+findIndex s n hs = foundIndex (rules.isHandle s n) (slotsOf hs)
+
+abbrev pub freeSlot : List Handle → ℕ
+freeSlot hs = freeIndex (slotsOf hs)
+
+abbrev pub isReferred : ℕ → List Handle → Bool
+isReferred t hs = member t (map handleToken (lives (slotsOf hs)))
+
+pub first-found : (s n : ℕ) → First (isNamed s n) (findIndex s n)
+unfolding foundIndex handleAt rules.isHandle
+first-found s n = record { none = refl; step = λ h hs. by (eqb (h .number) 0) h hs }
+  where
+    by : (b : Bool) (h : Handle) (hs : List Handle)
+        → foundIndex (rules.isHandle s n) ((if b then free else live (handleOf h)) ∷ slotsOf hs)
+        ≡ (if not b && (eqb (h .number) n && eqb (h .station) s) then zero else suc (findIndex s n hs))
+    by true h hs = refl
+    by false h hs = refl
+
+pub first-free : First isFree freeSlot
+unfolding freeIndex handleAt
+first-free = record { none = refl; step = λ h hs. by (eqb (h .number) 0) h hs }
+  where
+    by : (b : Bool) (h : Handle) (hs : List Handle)
+        → freeIndex ((if b then free else live (handleOf h)) ∷ slotsOf hs) ≡ (if b then zero else suc (freeSlot hs))
+    by true h hs = refl
+    by false h hs = refl
+
+pub some-refers : (t : ℕ) → Some (refersTo t) (isReferred t)
+unfolding lives member handleAt handleToken
+some-refers t = record { none = refl; step = λ h hs. by (eqb (h .number) 0) h hs }
+  where
+    by : (b : Bool) (h : Handle) (hs : List Handle)
+        → member t (map handleToken (lives ((if b then free else live (handleOf h)) ∷ slotsOf hs)))
+        ≡ (not b && eqb t (h .token) || isReferred t hs)
+    by true h hs = refl
+    by false h hs = refl
+
+-- ---- arrays
+
+-- the length of an array in a struct, as its type says
+pub long : {A B : Type 0} (f : A → B) (xs : List A) {n : ℕ} → length (map f xs) ≡ n → length xs ≡ n
+long f xs e = sym (length-map xs f) ∙ e
+
+-- a slot past the end
+pub kept : {hs : List Handle} {i : ℕ} (h : Handle) → length hs ≡ handleSlots → handleSlots ≤ i → hs ≡ set hs i h
+kept {hs} {i} h l past = sym (set-out hs i h (omega arith))
+
+pub map-set : {A B : Type 0} (f : A → B) (xs : List A) (i : ℕ) (x : A) → map f (set xs i x) ≡ set (map f xs) i (f x)
+map-set f [] i x = refl
+map-set f (y ∷ ys) zero x = refl
+map-set f (y ∷ ys) (suc i) x = ap (λ zs. f y ∷ zs) (map-set f ys i x)
+
+-- ---- what stands at those indexes, and what a store there is
+
+-- the handle at the index that find gives
+pub found-item : (s n : ℕ) (hs : List Handle) {i : ℕ} → i ≡ findIndex s n hs → found (rules.isHandle s n) (slotsOf hs) ≡ handleAt (handleOf (getD hs i none))
+unfolding handleAt rules.noHandle
+found-item s n hs {i} e =
+    found-at (rules.isHandle s n) (slotsOf hs)
+    ∙ ap (λ (k : ℕ). getD (slotsOf hs) k free) (sym e)
+    ∙ List·getD-map handleAt (map handleOf hs) i rules.noHandle
+    ∙ ap handleAt (List·getD-map handleOf hs i none)
+
+slots-set : (hs : List Handle) {i j : ℕ} (h : Handle) {out : List Handle} → i ≡ j → out ≡ set hs i h
+    → slotsOf out ≡ set (slotsOf hs) j (handleAt (handleOf h))
+slots-set hs {i} h p e =
+    ap slotsOf e
+    ∙ ap (map handleAt) (map-set handleOf hs i h)
+    ∙ map-set handleAt (map handleOf hs) i (handleOf h)
+    ∙ ap (λ (k : ℕ). set (slotsOf hs) k (handleAt (handleOf h))) p
+
+-- a handle with a number, placed at the index that free_slot gives
+pub placed-free : (hs : List Handle) (h : Handle) {i : ℕ} {out : List Handle} → (h .number ≡ 0 → ⊥) → i ≡ freeSlot hs → out ≡ set hs i h
+    → slotsOf out ≡ placed (handleOf h) (slotsOf hs)
+unfolding handleAt
+placed-free hs h numbered p e =
+    slots-set hs h p e
+    ∙ ap (λ (b : Bool). set (slotsOf hs) (freeSlot hs) (if b then free else live (handleOf h))) (ne-eqb (h .number) 0 numbered)
+    ∙ sym (placed-set (handleOf h) (slotsOf hs))
+
+-- the slot at the index that find gives, cleared
+pub cleared-found : (s n : ℕ) (hs : List Handle) {i : ℕ} {out : List Handle} → i ≡ findIndex s n hs → out ≡ set hs i none
+    → slotsOf out ≡ exchanged (rules.isHandle s n) free (slotsOf hs)
+unfolding handleAt
+cleared-found s n hs p e = slots-set hs none p e ∙ sym (exchanged-set (rules.isHandle s n) free (slotsOf hs))

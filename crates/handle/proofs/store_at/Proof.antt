@@ -1,0 +1,19 @@
+-- handle::store_at meets its contract: the row that is lent comes back in its table. Assumes nothing.
+use borrow.Author.Needs.{needs}
+use Rattle.table.specs.Table.{put-lent}
+use Rattle.handle.proofs.store_at.Statement.{statement}
+use Rattle.handle.proofs.store_at.Tie as tie
+
+pub store-at-spec : {M : Type 1} → statement M
+store-at-spec =
+    tie.close
+    (tie.spec
+    (λ c. search needs)
+    (λ c. search needs)
+    (λ c. search needs)
+    (λ c. search needs)
+    (λ c. search needs)
+    (λ c. search needs)
+    (λ c κs. search needs)
+    (λ c. search needs)
+    (λ c. search (needs, put-lent)))
