@@ -1,0 +1,4 @@
+pub mod Over
+pub mod Reading
+pub mod Cursors
+pub mod Fields

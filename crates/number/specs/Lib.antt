@@ -1,0 +1,4 @@
+pub mod Over
+pub mod Answer
+pub mod Rest
+pub mod Meaning

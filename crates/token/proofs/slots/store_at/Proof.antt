@@ -1,0 +1,24 @@
+use borrow.Author.Needs.{needs}
+use Rattle.table.specs.Table.{put-lent}
+use Rattle.token.proofs.slots.store_at.Statement.{statement}
+use Rattle.token.proofs.slots.store_at.Tie as tie
+
+pub store-at-spec : {M : Type 1} → statement M
+store-at-spec =
+    tie.close
+    (tie.spec
+    (λ c. search needs)
+    (λ c. search needs)
+    (λ c. search needs)
+    (λ c. search needs)
+    (λ c. search needs)
+    (λ c. search needs)
+    (λ c. search needs)
+    (λ c. search needs)
+    (λ c. search needs)
+    (λ c. search needs)
+    (λ c. search needs)
+    (λ c κs. search needs)
+    (λ c. search needs)
+    (λ c. search needs)
+    (λ c. search (needs, put-lent)))

@@ -1,0 +1,25 @@
+use Prim.Native.Nat.{ℕ, _-_}
+use native.Mathlib.Omega.{arith}
+use borrow.Author.Needs.{needs}
+use Rattle.table.specs.Filling.{Filling, filling-none, copied-more, filling-done}
+use Rattle.rules.specs.Token.{maxDacl}
+use Rattle.token.proofs.words.load_bytes.Statement.{statement}
+use Rattle.token.proofs.words.load_bytes.Tie as tie
+
+abbrev Inv : tie.InvT-loop
+Inv bytes out₀ i₀ out i = Filling maxDacl bytes out i
+
+abbrev μ : tie.MeasureT-loop
+μ bytes out₀ i₀ out i = maxDacl - i
+
+pub load-bytes-spec : {M : Type 1} → statement M
+load-bytes-spec =
+    tie.close
+    (tie.spec Inv μ
+    (λ c. search (needs, filling-none))
+    (λ c. omega arith)
+    (λ c. omega arith)
+    (λ c. omega arith)
+    (λ c. omega arith)
+    (λ c. search (needs, copied-more))
+    (λ c. search (needs, filling-done)))

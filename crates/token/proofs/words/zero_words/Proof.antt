@@ -1,0 +1,26 @@
+use Prim.Native.Nat.{_-_}
+use native.Mathlib.Omega.{arith}
+use borrow.Author.Needs.{needs}
+use lib.ListN.{replicate}
+use Rattle.table.specs.Filling.{Filling, zeros-none, zeros-more, filling-done}
+use Rattle.token.proofs.words.zero_words.Statement.{statement}
+use Rattle.token.proofs.words.zero_words.Tie as tie
+
+abbrev Inv : tie.InvT-loop
+Inv n out₀ i₀ out i = Filling n (replicate n 0) out i
+
+abbrev μ : tie.MeasureT-loop
+μ n out₀ i₀ out i = n - i
+
+pub zero-words-spec : {M : Type 1} → statement M
+zero-words-spec =
+    tie.close
+    (tie.spec Inv μ
+    (λ c. search (needs, zeros-none))
+    (λ c. omega arith)
+    (λ c. omega arith)
+    (λ c. omega arith)
+    (λ c. omega arith)
+    (λ c. search (needs, zeros-more))
+    (λ c. omega arith)
+    (λ c. search (needs, filling-done)))

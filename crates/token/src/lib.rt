@@ -1,0 +1,86 @@
+// A token by value, and the changes that requests make to its scalars.
+ghost use mathlib.Core.Path.{_≡_};
+ghost use Rattle.rules.specs.Token.{nextModified, withPrivileges, withScope};
+ghost use Rattle.privilege.specs.Meaning.{privilegesOf};
+ghost use Rattle.token.specs.Meaning.{tokenOf, Sized};
+use privilege::privileges::Privileges;
+pub mod words;
+pub mod row;
+pub mod slots;
+
+pub const MAX_GROUPS: usize = 64;
+pub const MAX_RESTRICTING: usize = 16;
+pub const MAX_DACL: usize = 256;
+
+pub struct Group {
+    pub sid: u32,
+    pub attributes: u32,
+}
+
+// What a token keeps as long as it lives; `kind` is its type.
+pub struct Identity {
+    pub user: u32,
+    pub session: u64,
+    pub kind: u8,
+    pub level: u8,
+    pub integrity: u32,
+}
+
+// What a restricted copy has beside its restricting SIDs.
+pub struct Limits {
+    pub write_restricted: bool,
+    pub user_deny_only: bool,
+}
+
+// What new objects get beside the DACL: the indexes of their owner and of their primary group.
+pub struct Defaults {
+    pub owner: u32,
+    pub primary_group: u32,
+}
+
+// Of each array only the elements below its count are the token's.
+pub struct Token {
+    pub number: u64,
+    pub modified: u64,
+    pub elevation: u8,
+    pub scope: u32,
+    pub identity: Identity,
+    pub privileges: Privileges,
+    pub limits: Limits,
+    pub defaults: Defaults,
+    pub group_count: usize,
+    pub groups: [Group; MAX_GROUPS],
+    pub restricting_count: usize,
+    pub restricting: [u32; MAX_RESTRICTING],
+    pub dacl_count: usize,
+    pub dacl: [u8; MAX_DACL],
+}
+
+// The modified number steps: from 2^64 - 1 back to 0.
+pub fn next_modified(t: Token) -> Token
+    requires { ⌜ Sized t ⌝ }
+    ensures { λ r. ⌜ (tokenOf r ≡ nextModified (tokenOf t)) × Sized r ⌝ }
+{
+    let modified = std::num::wrapping_add_u64(t.modified, 1);
+    let mut next = t;
+    next.modified = modified;
+    next
+}
+
+pub fn with_privileges(t: Token, p: Privileges) -> Token
+    requires { ⌜ Sized t ⌝ }
+    ensures { λ r. ⌜ (tokenOf r ≡ withPrivileges (privilegesOf p) (tokenOf t)) × Sized r ⌝ }
+{
+    let mut next = t;
+    next.privileges = p;
+    next
+}
+
+pub fn with_scope(t: Token, scope: u32) -> Token
+    requires { ⌜ Sized t ⌝ }
+    ensures { λ r. ⌜ (tokenOf r ≡ withScope scope (tokenOf t)) × Sized r ⌝ }
+{
+    let mut next = t;
+    next.scope = scope;
+    next
+}
