@@ -7,6 +7,7 @@ use mathlib.Core.List.{List, [], _∷_}
 use lib.Dec.{eqb}
 use borrow.Author.Tests.{eqb-true, eqb-false}
 use Rattle.rules.specs.Basic.{if_then_else_, member, distinct}
+use Rattle.rules.specs.Index.{freedOne}
 use Rattle.rules.specs.Growth.{Mem, here, there}
 use Rattle.rules.specs.Handle.{isHandle, Handle}
 use Rattle.rules.specs.State.{withTokens, withHandles, withStations, stationAt, changeStation, setToken, numberOf, isNumbered, callerNumber, findHandle, dropHandle, handleToken, stationToken, references, isReferred, released, State}
@@ -18,10 +19,6 @@ use Rattle.rules.proofs.Tables.{on-if, numbers}
 use Rattle.rules.proofs.Facts.{Loose, StateFacts, is-referred, referred-is}
 use Rattle.rules.proofs.Changes.{by-handle, by-station, by-either, drop-loose}
 use Rattle.rules.proofs.Steps.{_then_}
-
--- token n is freed if nothing refers to it
-unfoldable pub freedOne : ℕ → State → State
-freedOne n d = if member n (references d) then d else withTokens (withSlots (exchanged (isNumbered n) free (d .tokens .slots)) (d .tokens)) d
 
 module _ {A : Type 0} (number : A → ℕ) (n : ℕ) (f : A → Bool) where
   retained-all : (ps : List (Slot A)) → ((a : A) → Mem a (lives ps) → f a ≡ true) → retained f ps ≡ ps

@@ -6,10 +6,10 @@ pub mod Privileges
 pub mod Group
 pub mod Token
 pub mod Table
-pub mod Index
 pub mod Handle
 pub mod Station
 pub mod State
+pub mod Index
 pub mod Entry
 pub mod Refusal
 pub mod Decision

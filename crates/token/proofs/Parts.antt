@@ -97,5 +97,9 @@ head-stored t z =
     let g : length (map groupOf (take (t .«group_count») (t .groups))) ≡ t .«group_count» =
     length-map (take (t .«group_count») (t .groups)) groupOf ∙ length-take-le (t .«group_count») (t .groups) (omega arith) in
     cc (
-      g, mark-byte (t .limits .«write_restricted»), mark-byte (t .limits .«user_deny_only»),
-      length-take-le (t .«restricting_count») (t .restricting) (omega arith), length-take-le (t .«dacl_count») (t .dacl) (omega arith))
+      g,
+      mark-byte (t .limits .«write_restricted»),
+      mark-byte (t .limits .«user_deny_only»),
+      length-take-le (t .«restricting_count») (t .restricting) (omega arith),
+      length-take-le (t .«dacl_count») (t .dacl) (omega arith),
+    )

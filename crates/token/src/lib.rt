@@ -4,12 +4,15 @@ ghost use Rattle.rules.specs.Token.{nextModified, withPrivileges, withScope};
 ghost use Rattle.privilege.specs.Meaning.{privilegesOf};
 ghost use Rattle.token.specs.Meaning.{tokenOf, Sized};
 use privilege::privileges::Privileges;
-pub mod words;
+
 pub mod row;
 pub mod slots;
+pub mod words;
 
 pub const MAX_GROUPS: usize = 64;
+
 pub const MAX_RESTRICTING: usize = 16;
+
 pub const MAX_DACL: usize = 256;
 
 pub struct Group {

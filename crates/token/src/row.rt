@@ -19,7 +19,9 @@ use privilege::privileges::Privileges;
 
 // The scalars and the counts come first, then the groups, then the restricting SIDs.
 pub const HEAD_WORDS: usize = 20;
+
 pub const GROUPS_END: usize = HEAD_WORDS + MAX_GROUPS;
+
 pub const TOKEN_WORDS: usize = GROUPS_END + MAX_RESTRICTING;
 
 // ---- reading
@@ -152,7 +154,11 @@ fn store_words(t: Token, words: &mut [u64])
     let head = head_of(t);
     words::copy_words(&head, &mut words[0..HEAD_WORDS]);
     words::store_groups(groups, group_count, &mut words[HEAD_WORDS..GROUPS_END]);
-    words::store_sids(restricting, restricting_count, &mut words[GROUPS_END..TOKEN_WORDS]);
+    words::store_sids(
+        restricting,
+        restricting_count,
+        &mut words[GROUPS_END..TOKEN_WORDS],
+    );
 }
 
 fn store_dacl(t: Token, bytes: &mut [u8])

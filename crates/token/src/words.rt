@@ -35,7 +35,11 @@ fn packed(g: Group, i: usize, n: usize) -> u64
 {
     let sid = g.sid as u64;
     let attributes = g.attributes as u64;
-    if i < n { sid + attributes * 4294967296 } else { 0 }
+    if i < n {
+        sid + attributes * 4294967296
+    } else {
+        0
+    }
 }
 
 fn widened(sid: u32, i: usize, n: usize) -> u64
