@@ -1,15 +1,15 @@
 -- A row that is loaded stands for the token that the rules read in it, and one that is stored is as they write it. Assumes nothing.
 use mathlib.Core.Path.{_≡_, refl, sym, ap, ap₂, _∙_}
-use mathlib.Core.List.{List, [], _∷_, _++_, map, map-map}
+use mathlib.Core.List.{List, map, map-map}
 use mathlib.Core.Bool.{Bool, true, false}
 use Prim.Native.Nat.{ℕ, _+_, min}
 use native.Mathlib.Omega.{arith}
 use mir.Val.{boolByte}
 use lib.ListN.{length, take, drop, getD, length-map, length-drop}
 use lib.Seq.{length-take-le, take-all}
-use Rattle.table.specs.Lists.{pad, take-map, take-least}
+use Rattle.table.specs.Lists.{take-map, take-least}
 use Rattle.rules.specs.Token.{maxGroups, maxRestricting, maxDacl}
-use Rattle.rules.specs.Memory.{headWords, tokenWords, low8, low32, mark, pack, unpack, head, tokenRow, tokenAt, identityAt, privilegesAt, groupsAt, limitsAt, defaultsAt}
+use Rattle.rules.specs.Memory.{headWords, tokenWords, low8, low32, mark, pack, unpack, head, tokenAt, identityAt, privilegesAt, groupsAt, limitsAt, defaultsAt}
 use Rattle.rules.specs.Group as Rules
 use Rattle.token.specs.Meaning.{tokenOf, groupOf, Sized}
 use Rattle.token.specs.Row.{groupIn, identityIn, privilegesIn, limitsIn, defaultsIn, wordOf, headOf}

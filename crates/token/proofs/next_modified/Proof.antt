@@ -1,3 +1,4 @@
+-- The token with its modified number stepped. Assumes nothing.
 use borrow.Author.Needs.{needs}
 use Rattle.rules.specs.Token.{nextModified}
 use Rattle.token.proofs.next_modified.Statement.{statement}

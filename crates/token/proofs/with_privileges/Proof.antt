@@ -1,3 +1,4 @@
+-- The token with other privileges. Assumes nothing.
 use borrow.Author.Needs.{needs}
 use Rattle.rules.specs.Token.{withPrivileges}
 use Rattle.token.proofs.with_privileges.Statement.{statement}

@@ -1,3 +1,4 @@
+-- The token with another scope. Assumes nothing.
 use borrow.Author.Needs.{needs}
 use Rattle.rules.specs.Token.{withScope}
 use Rattle.token.proofs.with_scope.Statement.{statement}

@@ -1,3 +1,4 @@
+-- A free slot is all zero. Assumes nothing.
 use borrow.Author.Needs.{needs}
 use Rattle.rules.specs.Memory.{slotRow, slotDacl}
 use Rattle.token.proofs.row.clear.Statement.{statement}

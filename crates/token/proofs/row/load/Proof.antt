@@ -1,3 +1,4 @@
+-- Each part of the token is what the row has there. Assumes nothing.
 use mathlib.Core.Path.{refl}
 use borrow.Author.Needs.{needs}
 use Rattle.token.proofs.Parts.{loaded}
@@ -30,8 +31,10 @@ load-spec =
     (λ c κs. search needs)
     (λ c κs. search needs)
     (λ c κs. search needs)
-    (λ c. let s = c .before .before .before .before .before .before .before .before .before .before .before .before .before .before .before .before .before .before in
-    loaded _ _ _ (s .pre .0) (s .pre .1) (record {
+    (λ c. let lists = c .before .before .before .before .before .before .before .before in
+    let counts = lists .before .before .before .before .before in
+    let entry = counts .before .before .before .before .before in
+    loaded _ _ _ (entry .pre .0) (entry .pre .1) (record {
       number = refl;
       modified = refl;
       elevation = refl;
@@ -40,10 +43,10 @@ load-spec =
       privileges = c .before .before .privileges-in .ensures;
       limits = c .before .limits-in .ensures;
       defaults = c .defaults-in .ensures;
-      group-count = c .before .before .before .before .before .before .before .before .before .before .before .before .before .before .before .count-in .ensures;
-      groups = c .before .before .before .before .before .before .before .before .before .before .before .load-groups .ensures;
-      restricting-count = c .before .before .before .before .before .before .before .before .before .before .before .before .before .before .count-in2 .ensures;
-      restricting = c .before .before .before .before .before .before .before .before .before .load-sids .ensures;
-      dacl-count = c .before .before .before .before .before .before .before .before .before .before .before .before .before .count-in3 .ensures;
-      dacl = c .before .before .before .before .before .before .before .before .load-bytes .ensures;
+      group-count = counts .before .before .count-in .ensures;
+      groups = lists .before .before .before .load-groups .ensures;
+      restricting-count = counts .before .count-in2 .ensures;
+      restricting = lists .before .load-sids .ensures;
+      dacl-count = counts .count-in3 .ensures;
+      dacl = lists .load-bytes .ensures;
     })))

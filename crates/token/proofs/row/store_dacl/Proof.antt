@@ -1,3 +1,4 @@
+-- The DACL, padded. Assumes nothing.
 use borrow.Author.Needs.{needs}
 use Rattle.rules.specs.Memory.{daclRow}
 use Rattle.token.proofs.row.store_dacl.Statement.{statement}

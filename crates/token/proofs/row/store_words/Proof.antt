@@ -1,3 +1,4 @@
+-- The row is its head, its groups and its restricting SIDs, one after the other. Assumes nothing.
 use mathlib.Core.Path.{refl, ap, _∙_}
 use borrow.Author.Needs.{needs}
 use lib.ListN.{take}

@@ -1,3 +1,4 @@
+-- By the first words of the rows; no token has number 0. Assumes nothing.
 use borrow.Author.Needs.{needs}
 use Rattle.token.proofs.Finding.{found-slot, no-slot}
 use Rattle.token.proofs.slots.find.Statement.{statement}

@@ -1,3 +1,4 @@
+-- By the first words of the rows. Assumes nothing.
 use borrow.Author.Needs.{needs}
 use Rattle.token.proofs.Finding.{free-slot}
 use Rattle.token.proofs.slots.free_slot.Statement.{statement}

@@ -1,3 +1,4 @@
+-- The parts that are lent are the slot's rows. Assumes nothing.
 use borrow.Author.Needs.{needs}
 use Rattle.table.specs.Table.{part-at}
 use Rattle.token.proofs.slots.load_at.Statement.{statement}

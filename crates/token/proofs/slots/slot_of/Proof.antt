@@ -1,3 +1,4 @@
+-- After i turns the number is in none of the first i rows. Assumes nothing.
 use Prim.Native.Nat.{_-_}
 use native.Mathlib.Omega.{arith}
 use borrow.Author.Needs.{needs}

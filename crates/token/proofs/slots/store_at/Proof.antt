@@ -1,3 +1,4 @@
+-- The parts that were lent come back as the slot's rows. Assumes nothing.
 use borrow.Author.Needs.{needs}
 use Rattle.table.specs.Table.{put-lent}
 use Rattle.token.proofs.slots.store_at.Statement.{statement}

@@ -1,4 +1,5 @@
-use Prim.Native.Nat.{ℕ, _-_}
+-- After i turns the first i words are copied. Assumes nothing.
+use Prim.Native.Nat.{_-_}
 use native.Mathlib.Omega.{arith}
 use borrow.Author.Needs.{needs}
 use lib.ListN.{length}

@@ -1,7 +1,9 @@
-use Prim.Native.Nat.{ℕ, _-_}
+-- After i turns the first i groups are unpacked. Assumes nothing.
+use Prim.Native.Nat.{_-_}
+use mathlib.Core.Path.{refl}
 use native.Mathlib.Omega.{arith}
 use borrow.Author.Needs.{needs}
-use Rattle.table.specs.Filling.{Mapping, mapping-none, mapping-more, mapping-done}
+use Rattle.table.specs.Filling.{Mapping, mapping-none, mapping-more, mapping-all}
 use Rattle.rules.specs.Token.{maxGroups}
 use Rattle.token.specs.Row.{groupIn}
 use Rattle.token.proofs.words.load_groups.Statement.{statement}
@@ -17,7 +19,7 @@ pub load-groups-spec : {M : Type 1} → statement M
 load-groups-spec =
     tie.close
     (tie.spec Inv μ
-    (λ c. search (needs, mapping-none))
+    (λ c. mapping-none _ _ _ _ (omega arith) refl)
     (λ c. omega arith)
     (λ c. omega arith)
     (λ c κs. search needs)
@@ -26,4 +28,4 @@ load-groups-spec =
     (λ c. omega arith)
     (λ c. omega arith)
     (λ c. search (needs, mapping-more))
-    (λ c. search (needs, mapping-done)))
+    (λ c. search (needs, mapping-all)))

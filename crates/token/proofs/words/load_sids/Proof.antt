@@ -1,7 +1,9 @@
-use Prim.Native.Nat.{ℕ, _-_}
+-- After i turns the first i SIDs are cut to their width. Assumes nothing.
+use Prim.Native.Nat.{_-_}
+use mathlib.Core.Path.{refl}
 use native.Mathlib.Omega.{arith}
 use borrow.Author.Needs.{needs}
-use Rattle.table.specs.Filling.{Mapping, mapping-none, mapping-more, mapping-done}
+use Rattle.table.specs.Filling.{Mapping, mapping-none, mapping-more, mapping-all}
 use Rattle.rules.specs.Token.{maxRestricting}
 use Rattle.rules.specs.Memory.{low32}
 use Rattle.token.proofs.words.load_sids.Statement.{statement}
@@ -17,7 +19,7 @@ pub load-sids-spec : {M : Type 1} → statement M
 load-sids-spec =
     tie.close
     (tie.spec Inv μ
-    (λ c. search (needs, mapping-none))
+    (λ c. mapping-none _ _ _ _ (omega arith) refl)
     (λ c. omega arith)
     (λ c. omega arith)
     (λ c κs. search needs)
@@ -26,4 +28,4 @@ load-sids-spec =
     (λ c. omega arith)
     (λ c. omega arith)
     (λ c. search (needs, mapping-more))
-    (λ c. search (needs, mapping-done)))
+    (λ c. search (needs, mapping-all)))

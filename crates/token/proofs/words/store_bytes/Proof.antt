@@ -1,4 +1,5 @@
-use Prim.Native.Nat.{ℕ, _-_}
+-- After i turns the first i bytes are those of the padded list. Assumes nothing.
+use Prim.Native.Nat.{_-_}
 use native.Mathlib.Omega.{arith}
 use borrow.Author.Needs.{needs}
 use Rattle.table.specs.Filling.{Padding, padding-none, padding-more, padding-copied}

@@ -1,3 +1,4 @@
+-- After i turns the first i bytes are 0. Assumes nothing.
 use Prim.Native.Nat.{_-_}
 use native.Mathlib.Omega.{arith}
 use borrow.Author.Needs.{needs}
