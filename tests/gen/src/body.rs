@@ -1,0 +1,92 @@
+//! Bodies of requests: mostly as wished, sometimes damaged.
+
+use model::{Model, MAX_BODY};
+
+use crate::fields::{fields, flat, Field};
+use crate::rng::Rng;
+use crate::wishes::Wish;
+
+/// The body of a random request for the station, of 1 to 2,048 bytes.
+pub fn body(rng: &mut Rng, model: &Model, station: usize) -> Vec<u8> {
+    let request = Wish { rng, model, station }.request();
+    let fields = fields(&request);
+    let mut body = if rng.percent(8) { damaged(rng, fields) } else { flat(&fields) };
+    body.truncate(MAX_BODY);
+    body
+}
+
+/// The fields with one thing wrong with them, most of the time.
+fn damaged(rng: &mut Rng, mut fields: Vec<Field>) -> Vec<u8> {
+    match rng.below(8) {
+        0 => {
+            let mut body = flat(&fields);
+            body.truncate(1 + rng.below(body.len()));
+            body
+        }
+        1 => {
+            let rest = (0..1 + rng.below(3)).map(|_| rng.word() as u8).collect();
+            [flat(&fields), rest].concat()
+        }
+        2 => {
+            let at = rng.below(fields.len());
+            fields[at] = long_form(rng, &fields[at]);
+            flat(&fields)
+        }
+        3 => {
+            let at = rng.below(fields.len());
+            fields[at] = other_value(rng, &fields[at]);
+            flat(&fields)
+        }
+        4 => {
+            fields.remove(rng.below(fields.len()).max(1));
+            flat(&fields)
+        }
+        5 => {
+            fields[0] = Field::Number(rng.pick(&[0, 12, 13, 200, u64::MAX]));
+            flat(&fields)
+        }
+        6 => {
+            let length = if rng.percent(20) { MAX_BODY } else { 1 + rng.below(20) };
+            (0..length).map(|_| rng.word() as u8 >> rng.below(8)).collect()
+        }
+        _ => {
+            let at = rng.below(fields.len());
+            let copy = fields[at].clone();
+            fields.insert(at, copy);
+            flat(&fields)
+        }
+    }
+}
+
+/// The number in a longer form than the shortest.
+fn long_form(rng: &mut Rng, field: &Field) -> Field {
+    let mut bytes = field.bytes();
+    for _ in 0..1 + rng.below(2) {
+        if let Some(last) = bytes.last_mut() {
+            *last |= 0x80;
+        }
+        bytes.push(0);
+    }
+    Field::Bytes(bytes)
+}
+
+/// A count one off, a value at a limit or beyond the field's width.
+fn other_value(rng: &mut Rng, field: &Field) -> Field {
+    let Field::Number(number) = *field else {
+        return field.clone();
+    };
+    let values = [
+        number.wrapping_add(1),
+        number.wrapping_sub(1),
+        0,
+        64,
+        65,
+        0xFFFF,
+        0x1_0000,
+        0xFFFF_FFFF,
+        0x1_0000_0000,
+        number.wrapping_add(0x1_0000_0000),
+        u64::MAX,
+    ];
+    Field::Number(rng.pick(&values))
+}

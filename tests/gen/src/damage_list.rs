@@ -1,0 +1,330 @@
+//! For each rule of valid memory the damages that break this rule and, but for one, no other.
+
+use model::{
+    Group, Handle, Memory, Model, Token, TokenType, ALL_PRIVILEGES, PENDING_ROW, TOKEN_ROW,
+};
+
+use crate::damage::{references, Target};
+use crate::rng::Rng;
+
+type Apply = fn(&mut Target) -> Option<()>;
+
+/// A damage to a memory.
+pub struct Damage {
+    /// The name of the rule that it breaks.
+    pub rule: &'static str,
+    /// What is wrong then.
+    pub what: &'static str,
+    apply: Apply,
+}
+
+impl Damage {
+    /// The damaged memory of a valid state; `None` when the state leaves no place for it.
+    pub fn apply(&self, rng: &mut Rng, model: &Model) -> Option<Memory> {
+        let mut target = Target { rng, model, memory: model.memory() };
+        (self.apply)(&mut target)?;
+        Some(target.memory)
+    }
+}
+
+const fn damage(rule: &'static str, what: &'static str, apply: Apply) -> Damage {
+    Damage { rule, what, apply }
+}
+
+/// All the damages.
+pub const DAMAGES: &[Damage] = &[
+    damage("size", "a part is longer", |t| resize(t, 1)),
+    damage("size", "a part is shorter", |t| resize(t, -1)),
+    damage("size", "a part is empty", |t| resize(t, isize::MIN)),
+    damage("next numbers", "the next token number is 0", |t| {
+        t.memory.stations[0] = 0;
+        Some(())
+    }),
+    damage("next numbers", "the next handle number is 0", |t| {
+        t.memory.stations[1] = 0;
+        t.model.handles.iter().all(Option::is_none).then_some(())
+    }),
+    damage("numbers", "two tokens have one number", two_tokens_with_one_number),
+    damage("numbers", "two handles have one number", two_handles_with_one_number),
+    damage("numbers", "a token number is not below the next", |t| {
+        let highest = t.model.tokens.iter().flatten().map(|token| token.number).max()?;
+        t.memory.stations[0] = t.rng.pick(&[highest, 1]);
+        Some(())
+    }),
+    damage("numbers", "a handle number is not below the next", |t| {
+        let highest = t.model.handles.iter().flatten().map(|handle| handle.number).max()?;
+        t.memory.stations[1] = t.rng.pick(&[highest, 1]).into();
+        Some(())
+    }),
+    damage("references", "a handle's token is not live", |t| {
+        let model = t.model;
+        let at = t.handle_slot(|handle| {
+            handle.is_some_and(|handle| references(model, handle.token) > 1)
+        })?;
+        t.memory.handles[at].token = t.dead_number();
+        Some(())
+    }),
+    damage("references", "a station's token is not live", |t| {
+        let at = replaceable_station(t)?;
+        *t.station(at, 0) = t.dead_number();
+        Some(())
+    }),
+    damage("station tokens", "a station's token is for impersonation", |t| {
+        let at = replaceable_station(t)?;
+        let slot = t.slot(|token| token.kind == TokenType::Impersonation)?;
+        *t.station(at, 0) = t.token(slot)?.number;
+        Some(())
+    }),
+    damage("referred to", "a token lost its handles", |t| {
+        let model = t.model;
+        let of_station = |number| model.stations.iter().any(|station| station.token == number);
+        let slot = t.slot(|token| !of_station(token.number))?;
+        let number = t.token(slot)?.number;
+        for handle in t.memory.handles.iter_mut().filter(|handle| handle.token == number) {
+            *handle = Handle::default();
+        }
+        Some(())
+    }),
+    damage("referred to", "a token more", |t| {
+        let (slot, other) = (t.free_slot()?, t.slot(|_| true)?);
+        let (from, to) = (other * TOKEN_ROW, slot * TOKEN_ROW);
+        t.memory.tokens.copy_within(from..from + TOKEN_ROW, to);
+        *t.word(slot, 0) = t.model.next_token;
+        *t.word(slot, 19) = 0;
+        t.memory.stations[0] = t.model.next_token.checked_add(1)?;
+        Some(())
+    }),
+    damage("free", "a word of a free token slot", |t| {
+        let (slot, word) = (t.free_slot()?, 1 + t.rng.below(TOKEN_ROW - 1));
+        *t.word(slot, word) = 1 << t.rng.below(64);
+        Some(())
+    }),
+    damage("free", "a byte of a free DACL row", |t| {
+        let (slot, at) = (t.free_slot()?, t.rng.below(256));
+        *t.dacl(slot, at) = 1 << t.rng.below(8);
+        Some(())
+    }),
+    damage("free", "a group past the count", |t| {
+        let slot = t.slot(|token| token.groups.len() < 64)?;
+        let count = t.token(slot)?.groups.len();
+        let at = t.rng.pick(&[count, 63]);
+        *t.group(slot, at) = 1 << t.rng.below(64);
+        Some(())
+    }),
+    damage("free", "a restricting SID past the count", |t| {
+        let slot = t.slot(|token| token.restricting.len() < 16)?;
+        let count = t.token(slot)?.restricting.len();
+        let at = t.rng.pick(&[count, 15]);
+        *t.restricting(slot, at) = 1 << t.rng.below(64);
+        Some(())
+    }),
+    damage("free", "a DACL byte past the length", |t| {
+        let slot = t.slot(|token| token.dacl.len() < 256)?;
+        let length = t.token(slot)?.dacl.len();
+        let at = t.rng.pick(&[length, 255]);
+        *t.dacl(slot, at) = 1;
+        Some(())
+    }),
+    damage("free", "a field of a free handle", |t| {
+        let at = t.handle_slot(|handle| handle.is_none())?;
+        let handle = &mut t.memory.handles[at];
+        match t.rng.below(3) {
+            0 => handle.station = 1,
+            1 => handle.token = 1,
+            _ => handle.mask = 8,
+        }
+        Some(())
+    }),
+    damage("free", "a pending byte past the count", |t| {
+        let at = t.some_station(|_| true)?;
+        let count = t.model.stations[at].pending.len();
+        let byte = t.rng.pick(&[count, PENDING_ROW - 1]);
+        *t.pending(at, byte) = 1;
+        Some(())
+    }),
+    damage("ranges", "user", |t| in_slot(t, any, 3, &[1 << 32, u64::MAX])),
+    damage("ranges", "type", |t| in_slot(t, impersonation, 4, &[0, 3, (1 << 32) + 2])),
+    damage("ranges", "level", |t| in_slot(t, impersonation, 5, &[4, 1 << 32])),
+    damage("ranges", "elevation", |t| in_slot(t, any, 6, &[0, 4, (1 << 32) + 1])),
+    damage("ranges", "write-restricted mark", |t| in_slot(t, any, 7, &[2, 1 << 32])),
+    damage("ranges", "user-deny-only mark", |t| in_slot(t, any, 8, &[2, 1 << 32])),
+    damage("ranges", "scope", |t| in_slot(t, any, 11, &[1 << 32, u64::MAX])),
+    damage("ranges", "integrity", |t| {
+        in_slot(t, any, 12, &[1, 4095, 20480, (1 << 32) + 4096, u64::MAX])
+    }),
+    damage("ranges", "group count", |t| in_slot(t, any, 17, &[65, 1 << 32, u64::MAX])),
+    damage("ranges", "restricting count", |t| in_slot(t, any, 18, &[17, 1 << 32, u64::MAX])),
+    damage("ranges", "DACL length", |t| in_slot(t, any, 19, &[257, 1 << 32, u64::MAX])),
+    damage("ranges", "restricting SID", |t| {
+        let slot = t.slot(|token| !token.restricting.is_empty())?;
+        let at = t.rng.below(t.token(slot)?.restricting.len());
+        *t.restricting(slot, at) |= 1 << (32 + t.rng.below(32));
+        Some(())
+    }),
+    damage("ranges", "a handle's station", |t| {
+        let at = t.handle_slot(|handle| handle.is_some())?;
+        t.memory.handles[at].station = t.rng.pick(&[8, 256, u32::MAX]);
+        Some(())
+    }),
+    damage("ranges", "a handle's mask", |t| {
+        let at = t.handle_slot(|handle| handle.is_some())?;
+        t.memory.handles[at].mask = t.rng.pick(&[0, 0x10, 0x200, 0x1FF, u32::MAX]);
+        Some(())
+    }),
+    damage("ranges", "next handle number", |t| {
+        t.memory.stations[1] = t.rng.pick(&[1 << 32, u64::MAX]);
+        Some(())
+    }),
+    damage("ranges", "broken mark", |t| {
+        let model = t.model;
+        let at = t.some_station(|at| model.stations[at].pending.is_empty())?;
+        *t.station(at, 2) = t.rng.pick(&[2, 1 << 32, u64::MAX]);
+        Some(())
+    }),
+    damage("within present", "enabled but absent", |t| absent_bit(t, 14)),
+    damage("within present", "default but absent", |t| absent_bit(t, 15)),
+    damage("existing privileges", "present", |t| unknown_bit(t, 13)),
+    damage("existing privileges", "used", |t| unknown_bit(t, 16)),
+    damage("attributes", "an unknown bit", |t| {
+        let (slot, at) = grouped(t, |_| true)?;
+        *t.group(slot, at) |= 1 << (32 + 5 + t.rng.below(25));
+        Some(())
+    }),
+    damage("attributes", "one logon bit", |t| {
+        let (slot, at) = grouped(t, |_| true)?;
+        *t.group(slot, at) ^= t.rng.pick(&[1 << 62, 1 << 63]);
+        Some(())
+    }),
+    damage("primary level", "a primary token with a level", |t| {
+        in_slot(t, |token| token.kind == TokenType::Primary, 5, &[1, 2, 3])
+    }),
+    damage("indexes", "owner past the groups", |t| past_groups(t, 9)),
+    damage("indexes", "primary group past the groups", |t| past_groups(t, 10)),
+    damage("indexes", "owner without the attribute", |t| {
+        let (slot, at) = grouped(t, |group| !group.has(Group::OWNER))?;
+        *t.word(slot, 9) = at as u64 + 1;
+        Some(())
+    }),
+    damage("deny-only", "a deny-only group is enabled", |t| {
+        let (slot, at) = grouped(t, |group| group.has(Group::DENY_ONLY))?;
+        *t.group(slot, at) |= u64::from(Group::ENABLED) << 32;
+        Some(())
+    }),
+    damage("deny-only", "an enabled group is deny-only", |t| {
+        let (slot, at) = grouped(t, |group| group.has(Group::ENABLED))?;
+        *t.group(slot, at) |= u64::from(Group::DENY_ONLY) << 32;
+        Some(())
+    }),
+    damage("pending", "broken with pending bytes", |t| {
+        let model = t.model;
+        let at = t.some_station(|at| !model.stations[at].pending.is_empty())?;
+        *t.station(at, 2) = 1;
+        Some(())
+    }),
+    damage("pending", "length 0", |t| t.set_pending(&[0])),
+    damage("pending", "second length byte 0", |t| t.set_pending(&[0x85, 0])),
+    damage("pending", "second length byte with top bit", |t| t.set_pending(&[0x85, 0x80])),
+    damage("pending", "length 2,049", |t| t.set_pending(&[0x81, 0x10, 1])),
+    damage("pending", "length 2,176", |t| t.set_pending(&[0x80, 0x11])),
+    damage("pending", "a whole frame", |t| t.set_pending(&[2, 1, 8])),
+    damage("pending", "more than a frame", |t| t.set_pending(&[2, 1, 8, 2])),
+    damage("pending", "the longest frame, whole", |t| {
+        t.set_pending(&[vec![0x80, 0x10], vec![7; 2048]].concat())
+    }),
+    damage("pending", "a count past the row", |t| {
+        let at = t.some_station(|_| true)?;
+        *t.station(at, 2) = 0;
+        *t.station(at, 1) += t.rng.pick(&[PENDING_ROW as u64 + 1, 1 << 32]);
+        Some(())
+    }),
+];
+
+fn any(_: &Token) -> bool {
+    true
+}
+
+fn impersonation(token: &Token) -> bool {
+    token.kind == TokenType::Impersonation
+}
+
+fn resize(t: &mut Target, by: isize) -> Option<()> {
+    let size = |length: usize| length.saturating_add_signed(by);
+    let memory = &mut t.memory;
+    match t.rng.below(5) {
+        0 => memory.tokens.resize(size(memory.tokens.len()), 0),
+        1 => memory.dacls.resize(size(memory.dacls.len()), 0),
+        2 => memory.handles.resize(size(memory.handles.len()), Handle::default()),
+        3 => memory.stations.resize(size(memory.stations.len()), 0),
+        _ => memory.pending.resize(size(memory.pending.len()), 0),
+    }
+    Some(())
+}
+
+/// Both of one type, and the references go to the number that is left.
+fn two_tokens_with_one_number(t: &mut Target) -> Option<()> {
+    let first = t.slot(any)?;
+    let (kept, kind) = (t.token(first)?.number, t.token(first)?.kind);
+    let second = t.slot(|token| token.number != kept && token.kind == kind)?;
+    let lost = t.token(second)?.number;
+    *t.word(second, 0) = kept;
+    for handle in t.memory.handles.iter_mut().filter(|handle| handle.token == lost) {
+        handle.token = kept;
+    }
+    for station in 0..t.model.stations.len() {
+        if t.model.stations[station].token == lost {
+            *t.station(station, 0) = kept;
+        }
+    }
+    Some(())
+}
+
+fn two_handles_with_one_number(t: &mut Target) -> Option<()> {
+    let first = t.handle_slot(|handle| handle.is_some())?;
+    let number = t.memory.handles[first].number;
+    let second = t.handle_slot(|handle| handle.is_some_and(|handle| handle.number != number))?;
+    t.memory.handles[second].number = number;
+    Some(())
+}
+
+/// A station whose token is referred to elsewhere too.
+fn replaceable_station(t: &mut Target) -> Option<usize> {
+    let model = t.model;
+    t.some_station(|at| references(model, model.stations[at].token) > 1)
+}
+
+/// One of the values in a word of such a token.
+fn in_slot(t: &mut Target, fits: fn(&Token) -> bool, word: usize, values: &[u64]) -> Option<()> {
+    let slot = t.slot(fits)?;
+    *t.word(slot, word) = t.rng.pick(values);
+    Some(())
+}
+
+/// A slot and the index of such a group in it.
+fn grouped(t: &mut Target, fits: fn(&Group) -> bool) -> Option<(usize, usize)> {
+    let slot = t.slot(|token| token.groups.iter().any(fits))?;
+    let groups = t.token(slot)?.groups.iter().enumerate();
+    let indexes: Vec<usize> = groups.filter(|(_, group)| fits(group)).map(|(at, _)| at).collect();
+    Some((slot, t.rng.pick_any(&indexes)?))
+}
+
+fn past_groups(t: &mut Target, word: usize) -> Option<()> {
+    let slot = t.slot(any)?;
+    let count = t.token(slot)?.groups.len() as u64;
+    *t.word(slot, word) = t.rng.pick(&[count + 1, 0xFFFF, 1 << 16, 1 << 32, u64::MAX]);
+    Some(())
+}
+
+fn absent_bit(t: &mut Target, word: usize) -> Option<()> {
+    let slot = t.slot(any)?;
+    let present = t.token(slot)?.privileges.present;
+    let absent: Vec<u32> = (0..64).filter(|bit| present >> bit & 1 == 0).collect();
+    *t.word(slot, word) |= 1 << t.rng.pick_any(&absent)?;
+    Some(())
+}
+
+fn unknown_bit(t: &mut Target, word: usize) -> Option<()> {
+    let slot = t.slot(any)?;
+    let unknown: Vec<u32> = (0..64).filter(|bit| ALL_PRIVILEGES >> bit & 1 == 0).collect();
+    *t.word(slot, word) |= 1 << t.rng.pick(&unknown);
+    Some(())
+}

@@ -1,0 +1,78 @@
+//! A request as a list of fields, to be written or damaged field by field.
+
+use model::{write_number, Request};
+
+/// One field of a body.
+#[derive(Clone, Debug, PartialEq, Eq)]
+pub enum Field {
+    /// A number in its shortest form.
+    Number(u64),
+    /// Bytes as they are.
+    Bytes(Vec<u8>),
+}
+
+impl Field {
+    /// The field's bytes.
+    pub fn bytes(&self) -> Vec<u8> {
+        match self {
+            Field::Bytes(bytes) => bytes.clone(),
+            Field::Number(number) => {
+                let mut bytes = Vec::new();
+                write_number(*number, &mut bytes);
+                bytes
+            }
+        }
+    }
+}
+
+/// The bytes of all the fields.
+pub fn flat(fields: &[Field]) -> Vec<u8> {
+    fields.iter().flat_map(Field::bytes).collect()
+}
+
+/// The fields of a request, its number first.
+pub fn fields(request: &Request) -> Vec<Field> {
+    match request {
+        Request::Open { mask } => numbers(&[1, (*mask).into()]),
+        Request::Close { handle } => numbers(&[2, (*handle).into()]),
+        Request::Create { user, session, integrity, present, default, groups } => {
+            let head = [3, (*user).into(), *session, (*integrity).into(), *present, *default];
+            [numbers(&head), counted(groups)].concat()
+        }
+        Request::Query { handle, class, capacity } => {
+            numbers(&[4, (*handle).into(), (*class).into(), (*capacity).into()])
+        }
+        Request::Privileges { handle, entries } => {
+            [numbers(&[5, (*handle).into()]), counted(entries)].concat()
+        }
+        Request::Groups { handle, entries } => {
+            [numbers(&[6, (*handle).into()]), counted(entries)].concat()
+        }
+        Request::Scope { handle, value } => numbers(&[7, (*handle).into(), (*value).into()]),
+        Request::Default { handle, owner, group, flag, dacl } => {
+            let indexes = [8, (*handle).into(), (*owner).into(), (*group).into()];
+            let dacl_head = numbers(&[(*flag).into(), dacl.len() as u64]);
+            [numbers(&indexes), dacl_head, vec![Field::Bytes(dacl.clone())]].concat()
+        }
+        Request::Duplicate { handle, kind, level, mask } => {
+            numbers(&[9, (*handle).into(), (*kind).into(), (*level).into(), (*mask).into()])
+        }
+        Request::Restrict { handle, write_restricted, remove, deny, sids } => {
+            let head = [10, (*handle).into(), (*write_restricted).into(), *remove];
+            let counts = [deny.len() as u64, sids.len() as u64];
+            let lists = deny.iter().chain(sids).map(|&item| Field::Number(item.into()));
+            [numbers(&head), numbers(&counts), lists.collect()].concat()
+        }
+        Request::Install { handle } => numbers(&[11, (*handle).into()]),
+    }
+}
+
+fn numbers(numbers: &[u64]) -> Vec<Field> {
+    numbers.iter().map(|&number| Field::Number(number)).collect()
+}
+
+fn counted(pairs: &[(u32, u32)]) -> Vec<Field> {
+    let flat = pairs.iter().flat_map(|&(first, second)| [first.into(), second.into()]);
+    let all: Vec<u64> = [pairs.len() as u64].into_iter().chain(flat).collect();
+    numbers(&all)
+}

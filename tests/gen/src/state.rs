@@ -1,0 +1,166 @@
+//! Random valid states, also such as no list of requests leads to.
+
+use model::{
+    framed, Elevation, Group, Handle, Level, Mask, Model, Privileges, Station, Token, TokenType,
+    ALL_PRIVILEGES, HANDLES, INTEGRITY_LEVELS, STATIONS, TOKENS,
+};
+
+use crate::rng::Rng;
+
+/// A random valid state.
+pub fn state(rng: &mut Rng) -> Model {
+    let mut model = Model::start();
+    place_tokens(rng, &mut model);
+    let primaries: Vec<u64> = live(&model)
+        .filter(|token| token.kind == TokenType::Primary)
+        .map(|token| token.number)
+        .collect();
+    let few = rng.some(&primaries, 3);
+    for station in &mut model.stations {
+        let token = rng.pick_any(&few).unwrap_or_else(|| rng.pick(&primaries));
+        *station = random_station(rng, token);
+    }
+    place_handles(rng, &mut model);
+    model
+}
+
+/// A start whose next numbers are near the last usable ones.
+pub fn near_the_last_numbers(rng: &mut Rng) -> Model {
+    Model {
+        next_token: u64::MAX - rng.below(12) as u64,
+        next_handle: u32::MAX - rng.below(20) as u32,
+        ..Model::start()
+    }
+}
+
+fn live(model: &Model) -> impl Iterator<Item = &Token> {
+    model.tokens.iter().flatten()
+}
+
+/// Tokens in random slots with random numbers, one of them primary at least.
+fn place_tokens(rng: &mut Rng, model: &mut Model) {
+    let slots: Vec<usize> = (0..TOKENS).collect();
+    let most = rng.pick(&[3, 8, TOKENS]);
+    let mut chosen = rng.some(&slots, most);
+    if chosen.is_empty() {
+        chosen.push(rng.below(TOKENS));
+    }
+    let base = rng.pick(&[0, 0, 1 << 32, u64::MAX - 200]);
+    let numbers: Vec<u64> = (1..=100).map(|number| base + number).collect();
+    model.tokens = [const { None }; TOKENS];
+    let mut highest = 0;
+    for (&slot, number) in chosen.iter().zip(distinct(rng, &numbers, chosen.len())) {
+        let mut token = random_token(rng, number);
+        if slot == chosen[0] {
+            token.kind = TokenType::Primary;
+            token.level = Level::Anonymous;
+        }
+        highest = highest.max(number);
+        model.tokens[slot] = Some(token);
+    }
+    model.next_token = rng.pick(&[highest + 1, highest + 1, highest + 9, u64::MAX]);
+}
+
+/// So many distinct items.
+fn distinct<T: Copy>(rng: &mut Rng, items: &[T], count: usize) -> Vec<T> {
+    let mut rest = items.to_vec();
+    (0..count).map(|_| rest.swap_remove(rng.below(rest.len()))).collect()
+}
+
+/// A handle on each token that no station has, and some more.
+fn place_handles(rng: &mut Rng, model: &mut Model) {
+    let base = rng.pick(&[0, 0, 1 << 20, u32::MAX - 200]);
+    let numbers: Vec<u32> = (1..=100).map(|number| base + number).collect();
+    let mut unreferred: Vec<u64> = live(model)
+        .map(|token| token.number)
+        .filter(|&number| !model.is_referred_to(number))
+        .collect();
+    let all: Vec<u64> = live(model).map(|token| token.number).collect();
+    let more = if rng.percent(15) { HANDLES } else { rng.below(HANDLES - unreferred.len() + 1) };
+    let more = if rng.percent(15) { 0 } else { more.min(HANDLES - unreferred.len()) };
+    unreferred.extend((0..more).map(|_| rng.pick(&all)));
+    let slots: Vec<usize> = (0..HANDLES).collect();
+    let places = distinct(rng, &slots, unreferred.len());
+    let given = distinct(rng, &numbers, unreferred.len());
+    let highest = given.iter().copied().max().unwrap_or(base);
+    for ((slot, number), token) in places.into_iter().zip(given).zip(unreferred) {
+        model.handles[slot] = Some(random_handle(rng, number, token));
+    }
+    model.next_handle = rng.pick(&[highest + 1, highest + 1, highest + 9, u32::MAX]);
+}
+
+fn random_handle(rng: &mut Rng, number: u32, token: u64) -> Handle {
+    let mask = rng.pick(&[Mask::ALL.0, Mask::ALL.0, rng.clone().word() as u32 & Mask::ALL.0]);
+    Handle { station: rng.below(STATIONS) as u32, number, token, mask: mask.max(1) }
+}
+
+fn random_token(rng: &mut Rng, number: u64) -> Token {
+    let kind = rng.pick(&[TokenType::Primary, TokenType::Primary, TokenType::Impersonation]);
+    let levels = [Level::Anonymous, Level::Identification, Level::Impersonation, Level::Delegation];
+    let level = match kind {
+        TokenType::Primary => Level::Anonymous,
+        TokenType::Impersonation => rng.pick(&levels),
+    };
+    let present = (rng.bits() | rng.pick(&[0, 0x8C])) & ALL_PRIVILEGES;
+    let mut token = Token {
+        modified: rng.pick(&[number, 0, u64::MAX]),
+        kind,
+        level,
+        elevation: rng.pick(&[Elevation::Default, Elevation::Full, Elevation::Limited]),
+        privileges: Privileges {
+            present,
+            enabled: (rng.bits() | 0x8C) & present,
+            default: rng.bits() & present,
+            used: rng.bits() & ALL_PRIVILEGES,
+        },
+        restricting: small_list(rng, 16).iter().map(|_| rng.word() as u32).collect(),
+        write_restricted: rng.percent(30),
+        user_deny_only: rng.percent(30),
+        dacl: small_list(rng, 256).iter().map(|_| rng.word() as u8).collect(),
+        scope: rng.pick(&[0, 1, u32::MAX]),
+        integrity: rng.pick(&INTEGRITY_LEVELS),
+        ..Token::bare(number, rng.pick(&[18, 50, 60, u32::MAX]), rng.pick(&[999, 9, u64::MAX]))
+    };
+    token.groups = small_list(rng, 64).iter().map(|_| random_group(rng)).collect();
+    place_indexes(rng, &mut token);
+    token
+}
+
+/// A list of mostly few items, sometimes none or as many as there may be.
+fn small_list(rng: &mut Rng, most: usize) -> Vec<()> {
+    let count = match rng.below(8) {
+        0 => most,
+        1 => rng.below(most + 1),
+        2 => 0,
+        _ => rng.below(6),
+    };
+    vec![(); count]
+}
+
+fn random_group(rng: &mut Rng) -> Group {
+    let logon = if rng.percent(15) { Group::LOGON_ID } else { 0 };
+    let mut attributes = rng.word() as u32 & 0x1F | logon;
+    if attributes & Group::DENY_ONLY != 0 {
+        attributes &= !Group::ENABLED;
+    }
+    Group { sid: rng.pick(&[18, 50, 60, 61, 0, u32::MAX]), attributes }
+}
+
+fn place_indexes(rng: &mut Rng, token: &mut Token) {
+    let indexes: Vec<u16> = (0..=token.groups.len() as u16).collect();
+    let owners: Vec<u16> = indexes.iter().copied().filter(|&index| token.may_own(index)).collect();
+    token.owner = rng.pick(&owners);
+    token.primary_group = rng.pick(&indexes);
+}
+
+fn random_station(rng: &mut Rng, token: u64) -> Station {
+    let broken = rng.percent(15);
+    let mut pending = Vec::new();
+    if !broken && rng.percent(40) {
+        let length = rng.pick(&[1, 5, 127, 128, 300, 2048]);
+        let frame = framed(&(0..length).map(|_| rng.word() as u8).collect::<Vec<_>>());
+        let cut = rng.pick(&[1, 2, frame.len() / 2, frame.len() - 1]).min(frame.len() - 1);
+        pending = frame[..cut].to_vec();
+    }
+    Station { token, pending, broken }
+}

@@ -1,0 +1,348 @@
+//! Requests that make sense in a state, with a bad value now and then.
+
+use model::{
+    Group, Handle, Mask, Model, Reader, Request, Token, TokenType, ALL_PRIVILEGES,
+    INTEGRITY_LEVELS, NO_CHANGE, RESET_GROUPS, RESET_PRIVILEGES,
+};
+
+use crate::fields::{fields, flat};
+use crate::rng::Rng;
+
+/// What a request is drawn from.
+pub(crate) struct Wish<'a> {
+    pub rng: &'a mut Rng,
+    pub model: &'a Model,
+    pub station: usize,
+}
+
+const SIDS: [u32; 9] = [7, 18, 50, 51, 60, 61, 62, 0, u32::MAX];
+const RIGHTS: [Mask; 12] = [
+    Mask(0),
+    Mask(0),
+    Mask(0),
+    Mask(0),
+    Mask::QUERY,
+    Mask::ADJUST_PRIVILEGES,
+    Mask::ADJUST_GROUPS,
+    Mask::ADJUST_SCOPE,
+    Mask::ADJUST_DEFAULT,
+    Mask::DUPLICATE,
+    Mask::DUPLICATE,
+    Mask::ASSIGN_PRIMARY,
+];
+
+/// Whether a request of this number has something to do on the token.
+fn suits(kind: usize, token: &Token) -> bool {
+    match kind {
+        6 | 8 => !token.groups.is_empty(),
+        11 => token.kind == TokenType::Primary,
+        _ => true,
+    }
+}
+
+impl Wish<'_> {
+    /// A request of the kind that the state lets choose.
+    pub fn request(&mut self) -> Request {
+        let kind = self.kind();
+        self.request_of(kind)
+    }
+
+    /// A request of this number.
+    pub fn request_of(&mut self, kind: usize) -> Request {
+        let wanted = self.handle(kind);
+        let handle = wanted.number;
+        match kind {
+            1 => Request::Open { mask: self.mask(Mask::ALL.0) },
+            2 => Request::Close { handle },
+            3 => self.create(),
+            4 => self.query(handle),
+            5 => Request::Privileges { handle, entries: self.privilege_entries(wanted) },
+            6 => Request::Groups { handle, entries: self.group_entries(wanted) },
+            7 => Request::Scope { handle, value: self.rng.word() as u32 >> self.rng.below(32) },
+            8 => self.default(wanted),
+            9 => self.duplicate(wanted),
+            10 => self.restrict(wanted),
+            _ => Request::Install { handle },
+        }
+    }
+
+    /// A request's number: open without handles, close when slots run out.
+    fn kind(&mut self) -> usize {
+        let mut weights = [0, 16, 6, 10, 14, 14, 16, 8, 12, 14, 14, 10];
+        if self.own_handles().len() < 2 {
+            weights[1] = 60;
+        }
+        if self.model.handles.iter().flatten().count() > 29 {
+            weights[2] += 8;
+        }
+        if self.model.tokens.iter().flatten().count() > 14 {
+            weights[2] += 14;
+        }
+        self.rng.weighted(&weights)
+    }
+
+    fn own_handles(&self) -> Vec<Handle> {
+        let live = self.model.handles.iter().flatten().copied();
+        live.filter(|handle| handle.station as usize == self.station).collect()
+    }
+
+    /// Mostly an own handle that suits the request; now and then one without the right,
+    /// another's, or none at all.
+    fn handle(&mut self, kind: usize) -> Handle {
+        let right = RIGHTS[kind];
+        let own = self.own_handles();
+        let (granting, lacking): (Vec<_>, Vec<_>) =
+            own.iter().partition(|handle| right.within(Mask(handle.mask)));
+        let wanted = self.rng.percent(80);
+        let suits =
+            |handle: &Handle| self.token(*handle).is_some_and(|token| suits(kind, token) == wanted);
+        let suiting: Vec<_> = granting.iter().copied().filter(suits).collect();
+        let all: Vec<_> = self.model.handles.iter().flatten().copied().collect();
+        let found = match self.rng.below(100) {
+            0..=62 => self.rng.pick_any(&suiting).or_else(|| self.rng.pick_any(&granting)),
+            63..=79 => self.rng.pick_any(&granting),
+            80..=92 => self.rng.pick_any(&lacking).or_else(|| self.rng.pick_any(&granting)),
+            93..=96 => self.rng.pick_any(&all),
+            _ => None,
+        };
+        found.unwrap_or_else(|| self.no_handle())
+    }
+
+    /// A handle number that is mostly not live.
+    fn no_handle(&mut self) -> Handle {
+        let next = self.model.next_handle;
+        let odd = self.rng.word() as u32;
+        let number = self.rng.pick(&[0, next, next.wrapping_sub(1), odd, u32::MAX, 1]);
+        Handle { station: self.station as u32, number, token: 0, mask: Mask::ALL.0 }
+    }
+
+    fn token(&self, handle: Handle) -> Option<&Token> {
+        self.model.token(handle.token)
+    }
+
+    /// Mostly a valid mask within the limit.
+    fn mask(&mut self, limit: u32) -> u32 {
+        let (mask, odd) = (self.rng.bits() as u32 & limit, self.rng.word() as u32);
+        match self.rng.below(20) {
+            0..=6 => limit,
+            7..=15 => mask,
+            16 => limit & !(1 << self.rng.below(9)),
+            17 => Mask::ALL.0,
+            _ => self.rng.pick(&[0, 0x10, 0x200, 0x1FF, odd]),
+        }
+    }
+
+    fn create(&mut self) -> Request {
+        let user = self.rng.pick(&SIDS);
+        let session = self.rng.pick(&[999, 999, 9, 0, u64::MAX]);
+        let mut integrity = self.rng.pick(&INTEGRITY_LEVELS);
+        let mut present = (self.rng.bits() | 0x8C) & ALL_PRIVILEGES;
+        let kept = self.rng.pick(&[0x8C, 0x8C, 0x0C, 0x0C, 0x0C, 0]);
+        let mut default = (self.rng.bits() & !0x8C | kept) & present;
+        let mut groups = self.new_groups(user);
+        match self.rng.below(30) {
+            0 => integrity = self.rng.pick(&[1, 4095, 16385, 20480, u32::MAX]),
+            1 => present |= self.rng.pick(&[1, 2, 1 << 37, 1 << 63]),
+            2 => default = self.rng.word(),
+            3 => groups.extend([(60, 2); 65]),
+            _ => {}
+        }
+        Request::Create { user, session, integrity, present, default, groups }
+    }
+
+    fn new_groups(&mut self, user: u32) -> Vec<(u32, u32)> {
+        let count = match self.rng.below(12) {
+            0 => 0,
+            1 => 63 + self.rng.below(2),
+            2 => self.rng.below(64),
+            _ => 1 + self.rng.below(6),
+        };
+        let bad = self.rng.percent(6);
+        let mut groups: Vec<_> = (0..count).map(|_| self.new_group(user)).collect();
+        if let (true, Some(group)) = (bad, groups.last_mut()) {
+            group.1 = self.rng.pick(&[1, 4, 6, 0x12, 0x20, 0x4000_0002, 0x8000_0002, 0xC000_0000]);
+        }
+        groups
+    }
+
+    fn new_group(&mut self, user: u32) -> (u32, u32) {
+        let sid = self.rng.pick(&SIDS);
+        if sid == user {
+            return (sid, self.rng.pick(&[2, 2, 3, 10, 0xC000_0002]));
+        }
+        (sid, self.rng.pick(&[0, 2, 2, 3, 8, 10, 11, 0x10, 0x18, 0xC000_0002, 0xC000_000B]))
+    }
+
+    fn query(&mut self, handle: u32) -> Request {
+        let class = match self.rng.below(25) {
+            0 => self.rng.pick(&[0, 14, 15, 128, u32::MAX]),
+            _ => 1 + self.rng.below(13) as u32,
+        };
+        let capacity = match self.rng.below(4) {
+            0 => self.report_size(handle, class).saturating_sub(1),
+            1 => self.report_size(handle, class),
+            2 => self.rng.pick(&[0, 1, 640, 641, u32::MAX]),
+            _ => 640 + self.rng.below(4) as u32,
+        };
+        Request::Query { handle, class, capacity }
+    }
+
+    /// The size of a report, as a query without capacity tells it; 0 if it is refused.
+    fn report_size(&self, handle: u32, class: u32) -> u32 {
+        let query = flat(&fields(&Request::Query { handle, class, capacity: 0 }));
+        let answer = self.model.clone().serve(self.station, &query);
+        match answer.split_first() {
+            Some((9, size)) => Reader::new(size).u32().unwrap_or_default(),
+            _ => 0,
+        }
+    }
+
+    fn privilege_entries(&mut self, handle: Handle) -> Vec<(u32, u32)> {
+        if self.rng.percent(12) {
+            return vec![RESET_PRIVILEGES];
+        }
+        let present = self.token(handle).map_or(0, |token| token.privileges.present);
+        let all: Vec<u32> = [2, 3, 7].into_iter().chain(2..37).collect();
+        let mut named = self.rng.some(&all, 4);
+        named.push(self.rng.pick(&all));
+        if !self.rng.percent(4) {
+            named.sort_unstable();
+            named.dedup();
+        }
+        let mut entries: Vec<_> =
+            named.into_iter().map(|named| (named, self.privilege_action(named, present))).collect();
+        match self.rng.below(30) {
+            0 => entries.clear(),
+            1 => entries[0].0 = self.rng.pick(&[0, 1, 37, 64, u32::MAX]),
+            2 => entries[0].1 = self.rng.pick(&[1, 3, 6, 0x8000_0000, u32::MAX]),
+            3 => entries.push(RESET_PRIVILEGES),
+            _ => {}
+        }
+        entries
+    }
+
+    /// Seldom removes what the other requests need.
+    fn privilege_action(&mut self, named: u32, present: u64) -> u32 {
+        let is_needed = [2, 3, 7].contains(&named);
+        let is_present = present >> named & 1 == 1;
+        match self.rng.below(10) {
+            0 if !is_needed || self.rng.percent(20) => 4,
+            1..=3 if !is_needed || named == 7 || self.rng.percent(60) => 0,
+            _ if is_present || self.rng.percent(10) => 2,
+            _ => 0,
+        }
+    }
+
+    fn group_entries(&mut self, handle: Handle) -> Vec<(u32, u32)> {
+        let groups = self.token(handle).map_or(Vec::new(), |token| token.groups.clone());
+        if self.rng.percent(15) || (groups.is_empty() && self.rng.percent(80)) {
+            return vec![RESET_GROUPS];
+        }
+        let user = self.token(handle).map_or(0, |token| token.user);
+        let indexes: Vec<usize> = (0..groups.len()).collect();
+        let most = if self.rng.percent(10) { 64 } else { 4 };
+        let mut entries: Vec<_> = self
+            .rng
+            .some(&indexes, most)
+            .into_iter()
+            .map(|index| (index as u32, self.group_action(groups[index], user)))
+            .collect();
+        match self.rng.below(30) {
+            0 => entries.clear(),
+            1 => entries.push((groups.len() as u32, 0)),
+            2 => entries.push((0, 2)),
+            3 => entries.push(RESET_GROUPS),
+            4 => entries.extend(entries.clone().first()),
+            _ => {}
+        }
+        entries
+    }
+
+    /// Mostly what the group allows.
+    fn group_action(&mut self, group: Group, user: u32) -> u32 {
+        let any = self.rng.below(2) as u32;
+        if self.rng.percent(25) {
+            any
+        } else if group.has(Group::DENY_ONLY) {
+            0
+        } else if group.is_fixed(user) {
+            1
+        } else {
+            any
+        }
+    }
+
+    fn default(&mut self, handle: Handle) -> Request {
+        let count = self.token(handle).map_or(0, |token| token.groups.len()) as u16;
+        let owners: Vec<u16> = match self.token(handle) {
+            Some(token) => (0..=count).filter(|&index| token.may_own(index)).collect(),
+            None => vec![0],
+        };
+        let mut owner = if self.rng.percent(30) { NO_CHANGE } else { self.rng.pick(&owners) };
+        let any_group = self.rng.below(usize::from(count) + 1) as u16;
+        let mut group = if self.rng.percent(30) { NO_CHANGE } else { any_group };
+        match self.rng.below(20) {
+            0 => owner = any_group,
+            1 => owner = self.rng.pick(&[count + 1, 0xFFFE]),
+            2 => group = self.rng.pick(&[count + 1, 0xFFFE]),
+            _ => {}
+        }
+        let (flag, dacl) = self.dacl();
+        Request::Default { handle: handle.number, owner, group, flag, dacl }
+    }
+
+    fn dacl(&mut self) -> (u32, Vec<u8>) {
+        let length = match self.rng.below(6) {
+            0 => 0,
+            1 => self.rng.pick(&[127, 128, 255, 256]),
+            _ => self.rng.below(40),
+        };
+        let bytes = (0..length).map(|_| self.rng.word() as u8).collect();
+        match self.rng.below(20) {
+            0 => (1, vec![7; 257 + self.rng.below(3)]),
+            1 => (self.rng.pick(&[0, 2, u32::MAX]), bytes),
+            2..=7 => (0, vec![]),
+            _ => (1, bytes),
+        }
+    }
+
+    fn duplicate(&mut self, handle: Handle) -> Request {
+        let source = self.token(handle).map(|token| (token.kind, token.level as usize));
+        let mut kind = 1 + self.rng.below(2) as u32;
+        let highest = match source {
+            Some((TokenType::Impersonation, level)) if kind == 2 => level,
+            _ => 3,
+        };
+        let mut level = self.rng.below(highest + 1) as u32;
+        match self.rng.below(25) {
+            0 => kind = self.rng.pick(&[0, 3, u32::MAX]),
+            1 => level = self.rng.pick(&[4, 5, u32::MAX]),
+            2 => level = 3,
+            _ => {}
+        }
+        let mask = self.mask(handle.mask);
+        Request::Duplicate { handle: handle.number, kind, level, mask }
+    }
+
+    fn restrict(&mut self, handle: Handle) -> Request {
+        let groups = self.token(handle).map_or(0, |token| token.groups.len());
+        let indexes: Vec<u32> = (0..groups as u32).collect();
+        let most = if self.rng.percent(10) { 64 } else { 3 };
+        let mut deny = self.rng.some(&indexes, most);
+        let count = if self.rng.percent(12) { self.rng.below(18) } else { self.rng.below(3) };
+        let sids = (0..count).map(|_| self.rng.pick(&SIDS)).collect();
+        let mut write_restricted = u32::from(self.rng.percent(25));
+        let mut remove = self.rng.word() & self.rng.bits() & ALL_PRIVILEGES;
+        if self.rng.percent(85) {
+            remove &= !0x8C;
+        }
+        match self.rng.below(30) {
+            0 => write_restricted = 2,
+            1 => remove |= self.rng.pick(&[1, 2, 1 << 37, 1 << 63]),
+            2 => deny.push(groups as u32),
+            3 => deny.extend(deny.clone().first()),
+            _ => {}
+        }
+        Request::Restrict { handle: handle.number, write_restricted, remove, deny, sids }
+    }
+}

@@ -1,0 +1,206 @@
+//! Demand 3 on the model itself: what never grows, what stays, and that cuts change nothing.
+
+use gen::{state, Call, Rng, Script};
+use model::{Fed, Group, Model, Request, Token};
+
+/// What a call gave back: a feed's result or a reconnect's refusal.
+fn make(model: &mut Model, call: &Call) -> Fed {
+    match call {
+        Call::Feed { station, chunk, buffer_len } => model.feed(*station, chunk, *buffer_len),
+        Call::Reconnect { station } => Fed { refusal: model.reconnect(*station), ..Fed::default() },
+    }
+}
+
+/// Runs a script and hands each call, the state before and after it and its result to `check`.
+fn run(seed: u64, mut model: Model, calls: usize, check: impl Fn(&Call, &Model, &Model, &Fed)) {
+    let mut script = Script::new(seed);
+    for _ in 0..calls {
+        let call = script.next(&model);
+        let before = model.clone();
+        let fed = make(&mut model, &call);
+        if let (Call::Feed { station, .. }, 0) = (&call, fed.refusal) {
+            script.sent(*station, fed.used);
+        }
+        check(&call, &before, &model, &fed);
+    }
+}
+
+/// Many scripts, from the start and from random states.
+fn run_all(check: impl Fn(&Call, &Model, &Model, &Fed) + Copy) {
+    for seed in 0..20 {
+        println!("seed {seed} from the start");
+        run(seed, Model::start(), 500, check);
+    }
+    for seed in 100..200 {
+        println!("seed {seed} from a random state");
+        run(seed, state(&mut Rng::new(seed)), 100, check);
+    }
+}
+
+fn tokens(model: &Model) -> impl Iterator<Item = &Token> {
+    model.tokens.iter().flatten()
+}
+
+/// Each token that lives before and after, in both states.
+fn pairs<'a>(before: &'a Model, after: &'a Model) -> Vec<(&'a Token, &'a Token)> {
+    tokens(before).filter_map(|old| Some((old, after.token(old.number)?))).collect()
+}
+
+/// The state without the streams' places.
+fn without_streams(model: &Model) -> Model {
+    let mut model = model.clone();
+    for station in 0..8 {
+        model.reconnect(station);
+    }
+    model
+}
+
+/// The status of an answer, if there is one.
+fn status(fed: &Fed) -> Option<u8> {
+    let first = *fed.answer.first()?;
+    fed.answer.get(1 + usize::from(first >= 0x80)).copied()
+}
+
+#[test]
+fn the_memory_always_holds_the_state() {
+    run_all(|call, _, after, _| {
+        assert_eq!(after.memory().model().as_ref(), Some(after), "{call:?}");
+    });
+}
+
+#[test]
+fn present_privileges_never_grow_and_enabled_ones_are_among_them() {
+    run_all(|call, before, after, _| {
+        for (old, new) in pairs(before, after) {
+            assert_eq!(new.privileges.present & !old.privileges.present, 0, "{call:?}");
+        }
+        for token in tokens(after) {
+            let words = token.privileges;
+            assert_eq!((words.enabled | words.default) & !words.present, 0, "{call:?}");
+        }
+    });
+}
+
+#[test]
+fn used_and_deny_only_marks_stay() {
+    run_all(|call, before, after, _| {
+        for (old, new) in pairs(before, after) {
+            assert_eq!(old.privileges.used & !new.privileges.used, 0, "{call:?}");
+            assert!(!old.user_deny_only || new.user_deny_only, "{call:?}");
+            assert_eq!(old.groups.len(), new.groups.len(), "{call:?}");
+            for (old, new) in old.groups.iter().zip(&new.groups) {
+                assert!(!old.has(Group::DENY_ONLY) || new.has(Group::DENY_ONLY), "{call:?}");
+            }
+        }
+    });
+}
+
+#[test]
+fn identity_never_changes() {
+    run_all(|call, before, after, _| {
+        let identity = |token: &Token| {
+            let limits = (token.restricting.clone(), token.write_restricted, token.user_deny_only);
+            (token.user, token.session, token.kind, token.level, token.integrity, limits)
+        };
+        for (old, new) in pairs(before, after) {
+            assert_eq!(identity(old), identity(new), "{call:?}");
+            assert_eq!(old.elevation, new.elevation, "{call:?}");
+        }
+    });
+}
+
+/// The request that a feed ended, read off the bytes before and in the chunk.
+fn ended_request(call: &Call, before: &Model, fed: &Fed) -> Option<(usize, Request)> {
+    let Call::Feed { station, chunk, .. } = call else { return None };
+    let station = *station as usize;
+    status(fed)?;
+    let frame = [&before.stations[station].pending, &chunk[..fed.used]].concat();
+    let head = 1 + usize::from(frame[0] >= 0x80);
+    Some((station, Request::read(&frame[head..])?))
+}
+
+#[test]
+fn a_copy_begins_with_no_privilege_that_its_source_lacked() {
+    run_all(|call, before, after, fed| {
+        let Some((station, request)) = ended_request(call, before, fed) else { return };
+        let (Request::Duplicate { handle, .. } | Request::Restrict { handle, .. }) = request else {
+            return;
+        };
+        if status(fed) != Some(0) {
+            return;
+        }
+        let mut handles = before.handles.iter().flatten();
+        let source = handles
+            .find(|live| live.number == handle && live.station as usize == station)
+            .and_then(|live| before.token(live.token))
+            .expect("a success has a source");
+        let copy = after.token(before.next_token).expect("a success has a copy");
+        assert_eq!(copy.privileges.present & !source.privileges.present, 0);
+        assert_eq!(copy.privileges.used, source.privileges.used);
+        assert_eq!(source, after.token(source.number).expect("the source stays"));
+    });
+}
+
+#[test]
+fn refusals_alter_only_the_stream() {
+    run_all(|call, before, after, fed| {
+        if fed.refusal != 0 {
+            assert_eq!(before, after, "{call:?}");
+            assert_eq!((fed.used, fed.answer.len()), (0, 0), "{call:?}");
+        }
+        if status(fed) != Some(0) {
+            assert_eq!(without_streams(before), without_streams(after), "{call:?}");
+        }
+    });
+}
+
+#[test]
+fn other_stations_streams_are_left_alone() {
+    run_all(|call, before, after, _| {
+        let (Call::Feed { station, .. } | Call::Reconnect { station }) = call;
+        for other in (0..8).filter(|&other| other != *station as usize) {
+            assert_eq!(before.stations[other], after.stations[other], "{call:?}");
+        }
+    });
+}
+
+#[test]
+fn numbers_go_up_and_tokens_stay_in_their_slots() {
+    run_all(|call, before, after, _| {
+        assert!(before.next_token <= after.next_token, "{call:?}");
+        assert!(before.next_handle <= after.next_handle, "{call:?}");
+        for (old, new) in before.tokens.iter().zip(&after.tokens) {
+            if let (Some(old), Some(new)) = (old, new) {
+                assert_eq!(old.number, new.number, "{call:?}");
+            }
+        }
+        let fresh = |token: &&Token| before.token(token.number).is_none();
+        for token in tokens(after).filter(fresh) {
+            assert_eq!((token.number, token.modified), (before.next_token, token.number));
+        }
+    });
+}
+
+#[test]
+fn modified_steps_by_one_on_the_adjusted_token_only() {
+    run_all(|call, before, after, fed| {
+        let request = ended_request(call, before, fed).map(|(_, request)| request);
+        let is_adjustment = matches!(
+            request,
+            Some(
+                Request::Privileges { .. }
+                    | Request::Groups { .. }
+                    | Request::Scope { .. }
+                    | Request::Default { .. }
+            )
+        ) && status(fed) == Some(0);
+        let stepped: Vec<_> = pairs(before, after)
+            .into_iter()
+            .filter(|(old, new)| old.modified != new.modified)
+            .collect();
+        assert_eq!(stepped.len(), usize::from(is_adjustment), "{call:?}");
+        for (old, new) in stepped {
+            assert_eq!(old.modified.wrapping_add(1), new.modified, "{call:?}");
+        }
+    });
+}

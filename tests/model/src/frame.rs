@@ -1,0 +1,50 @@
+//! Frames: a body length of one or two bytes, then the body.
+
+use crate::number::write_number;
+
+/// The longest body of a frame.
+pub const MAX_BODY: usize = 2048;
+
+/// What the first bytes of a stream, from a frame's begin on, amount to.
+#[derive(Debug, PartialEq, Eq)]
+pub(crate) enum Progress<'a> {
+    /// A part of a frame, or nothing at all.
+    Partial,
+    /// One whole frame, with this body.
+    Whole(&'a [u8]),
+    /// The length bytes rule out every valid length.
+    Broken,
+}
+
+/// Judges bytes that hold at most one frame.
+pub(crate) fn progress(bytes: &[u8]) -> Progress<'_> {
+    let (length, body) = match *bytes {
+        [] => return Progress::Partial,
+        [first, ref body @ ..] if first < 0x80 => (usize::from(first), body),
+        [_] => return Progress::Partial,
+        [_, 0 | 0x80..=0xFF, ..] => return Progress::Broken,
+        [first, second, ref body @ ..] => {
+            (usize::from(first & 0x7F) + 128 * usize::from(second), body)
+        }
+    };
+    if length == 0 || length > MAX_BODY {
+        Progress::Broken
+    } else if body.len() < length {
+        Progress::Partial
+    } else {
+        Progress::Whole(body)
+    }
+}
+
+/// Whether a station may keep these bytes: a part of a frame, not yet whole.
+pub(crate) fn may_be_pending(bytes: &[u8]) -> bool {
+    progress(bytes) == Progress::Partial
+}
+
+/// The body with its length before it.
+pub fn framed(body: &[u8]) -> Vec<u8> {
+    let mut frame = Vec::with_capacity(body.len() + 2);
+    write_number(body.len() as u64, &mut frame);
+    frame.extend_from_slice(body);
+    frame
+}

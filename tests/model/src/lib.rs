@@ -1,0 +1,41 @@
+//! A model of the rights broker, written from documents 000 to 004 and 01 alone.
+//!
+//! [`Model`] is document 01's plain desk: it is fed chunks of bytes, station by station, and
+//! gives the answers. [`Memory`] is the lent memory that holds the same state.
+//! The model favours being plainly right over being quick; it shares no code with the broker.
+
+mod adjust;
+mod feed;
+mod frame;
+mod memory;
+mod number;
+mod privileges;
+mod query;
+mod refusal;
+mod request;
+mod rights;
+mod serve;
+mod state;
+#[cfg(test)]
+mod tests;
+mod token;
+mod tokens;
+mod valid;
+
+pub use feed::Fed;
+pub use frame::{framed, MAX_BODY};
+pub use memory::{
+    Memory, DACL_BYTES, DACL_ROW, GROUP_WORD, HANDLE_ROWS, PENDING_BYTES, PENDING_ROW,
+    RESTRICTING_WORD, STATION_WORD, STATION_WORDS, TOKEN_ROW, TOKEN_WORDS,
+};
+pub use number::{write_number, Reader};
+pub use privileges::{Privileges, ALL_PRIVILEGES, ASSIGN_PRIMARY, CREATE_TOKEN, IMPERSONATE, TCB};
+pub use refusal::Refusal;
+pub use request::{Request, NO_CHANGE, RESET_GROUPS, RESET_PRIVILEGES};
+pub use rights::Mask;
+pub use state::{Handle, Model, Station, HANDLES, STATIONS, TOKENS};
+pub use token::{
+    Elevation, Group, Level, Token, TokenType, ANONYMOUS_SID, INTEGRITY_LEVELS, MAX_DACL,
+    MAX_GROUPS, MAX_RESTRICTING, SYSTEM_SID,
+};
+pub use valid::{Rule, RULES};

@@ -1,0 +1,66 @@
+//! The four privilege words of a token. Privilege n is bit n.
+
+/// Privileges 2 to 36.
+pub const ALL_PRIVILEGES: u64 = (1 << 37) - (1 << 2);
+/// Create tokens.
+pub const CREATE_TOKEN: u32 = 2;
+/// Install primary tokens.
+pub const ASSIGN_PRIMARY: u32 = 3;
+/// Act as part of the trusted base.
+pub const TCB: u32 = 7;
+/// Impersonate; no request needs it.
+pub const IMPERSONATE: u32 = 29;
+
+/// A token's privileges.
+#[derive(Clone, Copy, Debug, Default, PartialEq, Eq)]
+pub struct Privileges {
+    /// The privileges that the token has.
+    pub present: u64,
+    /// Those in effect.
+    pub enabled: u64,
+    /// Those that a reset enables.
+    pub default: u64,
+    /// Those ever used.
+    pub used: u64,
+}
+
+impl Privileges {
+    /// Present as given, with the default ones enabled and none used.
+    pub fn new(present: u64, default: u64) -> Self {
+        Privileges { present, enabled: default, default, used: 0 }
+    }
+
+    /// Enables the named ones that are present.
+    #[must_use]
+    pub fn enable(self, named: u64) -> Self {
+        Privileges { enabled: self.enabled | (named & self.present), ..self }
+    }
+
+    /// Disables the named ones.
+    #[must_use]
+    pub fn disable(self, named: u64) -> Self {
+        Privileges { enabled: self.enabled & !named, ..self }
+    }
+
+    /// Removes the named ones for good; `used` stays.
+    #[must_use]
+    pub fn remove(self, named: u64) -> Self {
+        Privileges {
+            present: self.present & !named,
+            enabled: self.enabled & !named,
+            default: self.default & !named,
+            used: self.used,
+        }
+    }
+
+    /// Enables the default ones and no others.
+    #[must_use]
+    pub fn reset(self) -> Self {
+        Privileges { enabled: self.default, ..self }
+    }
+
+    /// Whether the privilege is enabled.
+    pub fn holds(self, privilege: u32) -> bool {
+        self.enabled >> privilege & 1 == 1
+    }
+}

@@ -1,0 +1,63 @@
+//! The refusals, by name and number.
+
+/// Refusals 1 to 9 answer a request, 10 answers the byte that breaks a stream, and 11 to 13
+/// refuse a whole call.
+#[derive(Clone, Copy, Debug, PartialEq, Eq)]
+pub enum Refusal {
+    /// Unknown request, or a body not in its layout, or bytes left.
+    Layout,
+    /// The handle is not a live one of this station.
+    Handle,
+    /// The handle's mask lacks the right.
+    Right,
+    /// The privilege is not held.
+    Privilege,
+    /// A bad field or entry, an unknown class, or installing a non-primary token.
+    Field,
+    /// A protected group.
+    Protected,
+    /// The token to install is of another user or session.
+    Mismatch,
+    /// No slot is free, no number is left, or there are too many restricting SIDs.
+    Full,
+    /// The query's answer, of this size, is larger than the given capacity.
+    Capacity(u32),
+    /// The stream is broken.
+    Broken,
+    /// There is no such station.
+    Station,
+    /// The answer buffer is too short.
+    Buffer,
+    /// The memory is not valid.
+    Memory,
+}
+
+impl Refusal {
+    /// The number that document 01 gives the refusal.
+    pub fn number(self) -> u32 {
+        match self {
+            Refusal::Layout => 1,
+            Refusal::Handle => 2,
+            Refusal::Right => 3,
+            Refusal::Privilege => 4,
+            Refusal::Field => 5,
+            Refusal::Protected => 6,
+            Refusal::Mismatch => 7,
+            Refusal::Full => 8,
+            Refusal::Capacity(_) => 9,
+            Refusal::Broken => 10,
+            Refusal::Station => 11,
+            Refusal::Buffer => 12,
+            Refusal::Memory => 13,
+        }
+    }
+
+    /// `Ok` when the check passes, else this refusal.
+    pub(crate) fn unless(self, passes: bool) -> Result<(), Refusal> {
+        if passes {
+            Ok(())
+        } else {
+            Err(self)
+        }
+    }
+}

@@ -1,0 +1,177 @@
+//! What the model keeps: tokens, handles, stations and the next numbers.
+
+use crate::refusal::Refusal;
+use crate::rights::Mask;
+use crate::token::Token;
+
+/// How many stations there are.
+pub const STATIONS: usize = 8;
+/// How many slots for tokens.
+pub const TOKENS: usize = 16;
+/// How many slots for handles.
+pub const HANDLES: usize = 32;
+
+/// A handle record; a free one is all zero.
+#[derive(Clone, Copy, Debug, Default, PartialEq, Eq)]
+pub struct Handle {
+    /// Whose handle it is.
+    pub station: u32,
+    /// Its own number, never 0 on a live one.
+    pub number: u32,
+    /// The number of its token.
+    pub token: u64,
+    /// What it grants.
+    pub mask: u32,
+}
+
+/// A station and its stream.
+#[derive(Clone, Debug, Default, PartialEq, Eq)]
+pub struct Station {
+    /// The number of its primary ("real") token.
+    pub token: u64,
+    /// The bytes of a frame not yet whole, its length bytes among them.
+    pub pending: Vec<u8>,
+    /// Whether its stream is broken.
+    pub broken: bool,
+}
+
+/// The whole state: the papers' plain desk.
+#[derive(Clone, Debug, PartialEq, Eq)]
+pub struct Model {
+    /// Token slots.
+    pub tokens: [Option<Token>; TOKENS],
+    /// Handle slots.
+    pub handles: [Option<Handle>; HANDLES],
+    /// The stations.
+    pub stations: [Station; STATIONS],
+    /// The next token number.
+    pub next_token: u64,
+    /// The next handle number.
+    pub next_handle: u32,
+}
+
+impl Model {
+    /// The start: every station has token 1, and there are no handles.
+    pub fn start() -> Self {
+        let mut tokens = [const { None }; TOKENS];
+        tokens[0] = Some(Token::first());
+        Model {
+            tokens,
+            handles: [None; HANDLES],
+            stations: std::array::from_fn(|_| Station { token: 1, ..Station::default() }),
+            next_token: 2,
+            next_handle: 1,
+        }
+    }
+
+    /// The live token of this number.
+    pub fn token(&self, number: u64) -> Option<&Token> {
+        self.tokens.iter().flatten().find(|token| token.number == number)
+    }
+
+    /// The token of this number, which something refers to.
+    pub(crate) fn live(&self, number: u64) -> &Token {
+        self.token(number).expect("references are live")
+    }
+
+    /// The same, to be changed.
+    pub(crate) fn live_mut(&mut self, number: u64) -> &mut Token {
+        let mut tokens = self.tokens.iter_mut().flatten();
+        tokens.find(|token| token.number == number).expect("references are live")
+    }
+
+    /// The primary token of a station.
+    pub fn primary(&self, station: usize) -> &Token {
+        self.live(self.stations[station].token)
+    }
+
+    /// The station's live handle of this number, or refusal 2.
+    pub(crate) fn handle(&self, station: usize, number: u32) -> Result<Handle, Refusal> {
+        let mut handles = self.handles.iter().flatten().copied();
+        handles
+            .find(|handle| handle.number == number && handle.station as usize == station)
+            .ok_or(Refusal::Handle)
+    }
+
+    /// The same handle when it grants the right; refusal 2, then 3.
+    pub(crate) fn granted(
+        &self,
+        station: usize,
+        number: u32,
+        right: Mask,
+    ) -> Result<Handle, Refusal> {
+        let handle = self.handle(station, number)?;
+        Refusal::Right.unless(right.within(Mask(handle.mask)))?;
+        Ok(handle)
+    }
+
+    /// Refusal 4 unless the privilege is held.
+    pub(crate) fn check_held(&self, station: usize, privilege: u32) -> Result<(), Refusal> {
+        Refusal::Privilege.unless(self.primary(station).privileges.holds(privilege))
+    }
+
+    /// Sets a used bit on the station's primary token.
+    pub(crate) fn mark_used(&mut self, station: usize, privilege: u32) {
+        let number = self.stations[station].token;
+        self.live_mut(number).privileges.used |= 1 << privilege;
+    }
+
+    /// The lowest free handle slot, when the next number is usable; else refusal 8.
+    fn free_handle(&self) -> Result<usize, Refusal> {
+        Refusal::Full.unless(self.next_handle < u32::MAX)?;
+        self.handles.iter().position(Option::is_none).ok_or(Refusal::Full)
+    }
+
+    /// The lowest free token slot, when the next number is usable; else refusal 8.
+    fn free_token(&self) -> Result<usize, Refusal> {
+        Refusal::Full.unless(self.next_token < u64::MAX)?;
+        self.tokens.iter().position(Option::is_none).ok_or(Refusal::Full)
+    }
+
+    /// A new handle of the station on a live token.
+    pub(crate) fn add_handle(
+        &mut self,
+        station: usize,
+        token: u64,
+        mask: u32,
+    ) -> Result<u32, Refusal> {
+        let slot = self.free_handle()?;
+        let number = self.next_handle;
+        self.handles[slot] = Some(Handle { station: station as u32, number, token, mask });
+        self.next_handle += 1;
+        Ok(number)
+    }
+
+    /// A new token, given the next number, and a handle on it.
+    pub(crate) fn add_token(
+        &mut self,
+        station: usize,
+        token: Token,
+        mask: u32,
+    ) -> Result<u32, Refusal> {
+        let slot = self.free_token()?;
+        let number = self.next_token;
+        let handle = self.add_handle(station, number, mask)?;
+        self.tokens[slot] = Some(Token { number, modified: number, ..token });
+        self.next_token += 1;
+        Ok(handle)
+    }
+
+    /// Whether a handle or a station refers to the token.
+    pub fn is_referred_to(&self, number: u64) -> bool {
+        self.handles.iter().flatten().any(|handle| handle.token == number)
+            || self.stations.iter().any(|station| station.token == number)
+    }
+
+    /// Frees the token that just lost a reference, if that was its last one.
+    pub(crate) fn free_if_last(&mut self, number: u64) {
+        if self.is_referred_to(number) {
+            return;
+        }
+        for slot in &mut self.tokens {
+            if slot.as_ref().is_some_and(|token| token.number == number) {
+                *slot = None;
+            }
+        }
+    }
+}

@@ -1,0 +1,201 @@
+//! Valid memory, the papers' "memory in order": one function for each rule of that paragraph.
+
+use std::collections::HashSet;
+
+use crate::frame::may_be_pending;
+use crate::memory::{
+    Memory, TokenRow, DACL_BYTES, HANDLE_ROWS, PENDING_BYTES, STATION_WORDS, TOKEN_WORDS,
+};
+use crate::privileges::ALL_PRIVILEGES;
+use crate::rights::Mask;
+use crate::state::{Handle, STATIONS};
+use crate::token::{
+    Elevation, Group, Level, TokenType, INTEGRITY_LEVELS, MAX_DACL, MAX_GROUPS, MAX_RESTRICTING,
+};
+
+/// A rule's name and its check; all but the first are for memory of the right size.
+pub type Rule = (&'static str, fn(&Memory) -> bool);
+
+/// The rules in the paragraph's order.
+pub const RULES: [Rule; 15] = [
+    ("size", size_is_right),
+    ("next numbers", next_numbers_are_not_0),
+    ("numbers", numbers_are_distinct_and_below_next),
+    ("references", references_are_live),
+    ("station tokens", station_tokens_are_primary),
+    ("referred to", every_token_is_referred_to),
+    ("free", free_slots_are_zero),
+    ("ranges", values_are_in_range),
+    ("within present", default_and_enabled_are_within_present),
+    ("existing privileges", present_and_used_exist),
+    ("attributes", attributes_are_known),
+    ("primary level", primary_tokens_have_level_0),
+    ("indexes", index_targets_are_allowed),
+    ("deny-only", deny_only_groups_are_not_enabled),
+    ("pending", pending_could_have_come_from_a_stream),
+];
+
+impl Memory {
+    /// Whether the memory is valid.
+    pub fn is_valid(&self) -> bool {
+        RULES.iter().all(|(_, holds)| holds(self))
+    }
+
+    /// The names of the rules that the memory breaks.
+    pub fn broken_rules(&self) -> Vec<&'static str> {
+        if !size_is_right(self) {
+            return vec![RULES[0].0];
+        }
+        RULES.iter().filter(|(_, holds)| !holds(self)).map(|&(name, _)| name).collect()
+    }
+
+    fn live_tokens(&self) -> impl Iterator<Item = TokenRow<'_>> {
+        self.token_rows().filter(|row| row.number() != 0)
+    }
+
+    fn live_handles(&self) -> impl Iterator<Item = &Handle> {
+        self.handles.iter().filter(|handle| handle.number != 0)
+    }
+
+    /// Every token number that a handle or a station refers to.
+    fn references(&self) -> HashSet<u64> {
+        let stations = self.station_rows().map(|row| row.token);
+        self.live_handles().map(|handle| handle.token).chain(stations).collect()
+    }
+}
+
+fn size_is_right(memory: &Memory) -> bool {
+    memory.tokens.len() == TOKEN_WORDS
+        && memory.dacls.len() == DACL_BYTES
+        && memory.handles.len() == HANDLE_ROWS
+        && memory.stations.len() == STATION_WORDS
+        && memory.pending.len() == PENDING_BYTES
+}
+
+fn next_numbers_are_not_0(memory: &Memory) -> bool {
+    memory.stations[0] != 0 && memory.stations[1] != 0
+}
+
+fn numbers_are_distinct_and_below_next(memory: &Memory) -> bool {
+    let tokens: Vec<u64> = memory.live_tokens().map(|row| row.number()).collect();
+    let handles: Vec<u64> = memory.live_handles().map(|handle| handle.number.into()).collect();
+    let all_below = |numbers: &[u64], next| numbers.iter().all(|&number| number < next);
+    are_distinct(&tokens)
+        && are_distinct(&handles)
+        && all_below(&tokens, memory.stations[0])
+        && all_below(&handles, memory.stations[1])
+}
+
+fn are_distinct(numbers: &[u64]) -> bool {
+    numbers.iter().collect::<HashSet<_>>().len() == numbers.len()
+}
+
+fn references_are_live(memory: &Memory) -> bool {
+    let live: HashSet<u64> = memory.live_tokens().map(|row| row.number()).collect();
+    memory.references().is_subset(&live)
+}
+
+fn station_tokens_are_primary(memory: &Memory) -> bool {
+    let of_stations: HashSet<u64> = memory.station_rows().map(|row| row.token).collect();
+    memory
+        .live_tokens()
+        .filter(|row| of_stations.contains(&row.number()))
+        .all(|row| row.kind() == TokenType::Primary as u64)
+}
+
+fn every_token_is_referred_to(memory: &Memory) -> bool {
+    let references = memory.references();
+    memory.live_tokens().all(|row| references.contains(&row.number()))
+}
+
+fn free_slots_are_zero(memory: &Memory) -> bool {
+    let token_is_clean = |row: TokenRow| {
+        if row.number() == 0 {
+            all_zero(row.words) && all_zero(row.dacl)
+        } else {
+            all_zero(row.group_words().1)
+                && all_zero(row.restricting_words().1)
+                && all_zero(row.dacl_bytes().1)
+        }
+    };
+    memory.token_rows().all(token_is_clean)
+        && memory.handles.iter().all(|handle| handle.number != 0 || *handle == Handle::default())
+        && memory.station_rows().all(|row| all_zero(row.past_pending()))
+}
+
+fn all_zero<T: Default + PartialEq>(items: &[T]) -> bool {
+    items.iter().all(|item| *item == T::default())
+}
+
+fn values_are_in_range(memory: &Memory) -> bool {
+    memory.live_tokens().all(|row| token_is_in_range(&row))
+        && memory
+            .live_handles()
+            .all(|handle| (handle.station as usize) < STATIONS && Mask(handle.mask).is_valid())
+        && memory.station_rows().all(|row| row.broken <= 1)
+        && memory.stations[1] <= u32::MAX.into()
+}
+
+fn token_is_in_range(row: &TokenRow) -> bool {
+    let is_u32 = |word: u64| word <= u32::MAX.into();
+    is_u32(row.user())
+        && is_u32(row.scope())
+        && TokenType::from_number(row.kind()).is_some()
+        && Level::from_number(row.level()).is_some()
+        && Elevation::from_number(row.elevation()).is_some()
+        && row.marks().iter().all(|&mark| mark <= 1)
+        && INTEGRITY_LEVELS.iter().any(|&integrity| row.integrity() == integrity.into())
+        && row.group_count() <= MAX_GROUPS as u64
+        && row.restricting_count() <= MAX_RESTRICTING as u64
+        && row.restricting_words().0.iter().all(|&sid| is_u32(sid))
+        && row.dacl_length() <= MAX_DACL as u64
+}
+
+fn default_and_enabled_are_within_present(memory: &Memory) -> bool {
+    memory
+        .live_tokens()
+        .map(|row| row.privileges())
+        .all(|privileges| (privileges.default | privileges.enabled) & !privileges.present == 0)
+}
+
+fn present_and_used_exist(memory: &Memory) -> bool {
+    memory
+        .live_tokens()
+        .map(|row| row.privileges())
+        .all(|privileges| (privileges.present | privileges.used) & !ALL_PRIVILEGES == 0)
+}
+
+fn attributes_are_known(memory: &Memory) -> bool {
+    memory.live_tokens().flat_map(|row| row.groups()).all(|group| {
+        group.attributes & !(Group::GIVEN | Group::ENABLED) == 0 && group.logon_is_whole()
+    })
+}
+
+fn primary_tokens_have_level_0(memory: &Memory) -> bool {
+    memory.live_tokens().all(|row| row.kind() != TokenType::Primary as u64 || row.level() == 0)
+}
+
+fn index_targets_are_allowed(memory: &Memory) -> bool {
+    memory.live_tokens().all(|row| {
+        let groups = row.groups();
+        let owner_is_allowed = match usize::try_from(row.owner()) {
+            Ok(0) => true,
+            Ok(k) => groups.get(k - 1).is_some_and(|group| group.has(Group::OWNER)),
+            Err(_) => false,
+        };
+        owner_is_allowed && row.primary_group() <= groups.len() as u64
+    })
+}
+
+fn deny_only_groups_are_not_enabled(memory: &Memory) -> bool {
+    let mut groups = memory.live_tokens().flat_map(|row| row.groups());
+    groups.all(|group| !group.has(Group::DENY_ONLY | Group::ENABLED))
+}
+
+fn pending_could_have_come_from_a_stream(memory: &Memory) -> bool {
+    memory.station_rows().all(|row| {
+        let count_is_whole = row.pending().len() as u64 == row.count;
+        let broken_keeps_none = row.broken == 0 || row.count == 0;
+        count_is_whole && broken_keeps_none && may_be_pending(row.pending())
+    })
+}
