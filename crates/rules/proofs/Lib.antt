@@ -23,4 +23,5 @@ pub mod Throughout
 pub mod Same
 pub mod Rows
 pub mod Memory
+pub mod WholeList
 pub mod Cases

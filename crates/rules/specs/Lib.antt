@@ -33,4 +33,6 @@ pub mod Run
 pub mod Growth
 pub mod Memory
 pub mod Throughout
+pub mod Calls
+pub mod WholeList
 pub mod Cases

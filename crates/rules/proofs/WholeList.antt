@@ -1,0 +1,114 @@
+-- Demand 3 over lent memory: each call does to the memory what the model does to the state that it stands for. Assumes nothing.
+use Prim.Native.Nat.{ℕ, _+_}
+use native.Mathlib.Omega.{arith}
+use mathlib.Core.Path.{_≡_, refl, sym, ap, ap₂, _∙_, subst}
+use mathlib.Core.Bool.{Bool, true, false}
+use mathlib.Core.List.{List, [], _∷_}
+use lib.Dec.{leb, ltb}
+use Rattle.rules.specs.Basic.{if_then_else_, all}
+use Rattle.rules.specs.Refusal.{noStation, shortBuffer, invalidMemory}
+use Rattle.rules.specs.State.{State, start, stationCount}
+use Rattle.rules.specs.Frame.{maxAnswer}
+use Rattle.rules.specs.Model.{Result, Step, silent, answers, step, refused, fedOn, fedFrom, feed, reconnect}
+use Rattle.rules.specs.Valid as Valid
+use Rattle.rules.specs.Memory.{Memory, encode, decode, valid}
+use Rattle.rules.specs.Run.{Call, feeds, reconnects, returned, after, ofBytes, events}
+use Rattle.rules.specs.Growth.{Mem, here, there}
+use Rattle.rules.specs.Calls.{Done, refusedOn, written, feedOn, reconnectOn}
+use Rattle.rules.specs.WholeList.{Return, doneBy, memoryAfter, returnsOn, returnsOf, WholeList}
+use Rattle.rules.proofs.Logic.{and-l, and-r, and-i, mem-none}
+use Rattle.rules.proofs.Tables.{on-if}
+use Rattle.rules.proofs.Facts.{StateFacts, valid-facts, facts-valid}
+use Rattle.rules.proofs.Always.{run-step, start-facts}
+use Rattle.rules.proofs.Runs.{cutting}
+use Rattle.rules.proofs.Memory.{read-back, written-valid}
+use Rattle.rules.proofs.Throughout.{throughout}
+
+-- ---- one call, on the memory of a valid state
+
+module _ (σ : State) (v : Valid.valid σ ≡ true) where
+  on-valid : (r : State → Result) → (if valid (encode σ) then written (r (decode (encode σ))) else refusedOn invalidMemory (encode σ)) ≡ written (r σ)
+  on-valid r = rw (written-valid σ v) (rw (read-back σ v))
+
+  refuses : (n : ℕ) → refusedOn n (encode σ) ≡ written (refused n σ)
+  unfolding refusedOn written refused
+  refuses n = refl
+
+  no-station : (s : ℕ) → leb stationCount s ≡ true → reconnect σ s ≡ refused noStation σ
+  unfolding reconnect
+  no-station s e = rw e
+
+  call-done : (c : Call) → doneBy (encode σ) c ≡ written (returned σ c)
+  unfolding doneBy returned feedOn feed reconnectOn
+  call-done (feeds s chunk room) = feeding (leb stationCount s) (ltb room maxAnswer)
+    where
+      feeding : (a b : Bool) → (if a then refusedOn noStation (encode σ) else if b then refusedOn shortBuffer (encode σ) else if valid (encode σ) then written (fedFrom 0 s chunk (decode (encode σ))) else refusedOn invalidMemory (encode σ))
+          ≡ written (if a then refused noStation σ else if b then refused shortBuffer σ else fedFrom 0 s chunk σ)
+      feeding true b = refuses noStation
+      feeding false true = refuses shortBuffer
+      feeding false false = on-valid (fedFrom 0 s chunk)
+  call-done (reconnects s) = reconnecting (leb stationCount s) refl
+    where
+      reconnecting : (a : Bool) → leb stationCount s ≡ a → (if a then refusedOn noStation (encode σ) else if valid (encode σ) then written (reconnect (decode (encode σ)) s) else refusedOn invalidMemory (encode σ)) ≡ written (reconnect σ s)
+      reconnecting true e = refuses noStation ∙ ap written (sym (no-station s e))
+      reconnecting false e = on-valid (λ τ. reconnect τ s)
+
+-- ---- a list of calls, from any valid state
+
+call-valid : (σ : State) (c : Call) → ofBytes c ≡ true → StateFacts σ → StateFacts (returned σ c .after)
+unfolding after all
+call-valid σ c w f = run-step (c ∷ []) σ (and-i w refl) f .facts
+
+memory-is : (cs : List Call) (σ : State) → all ofBytes cs ≡ true → StateFacts σ → memoryAfter cs (encode σ) ≡ encode (after cs σ)
+unfolding memoryAfter after all written
+memory-is [] σ w f = refl
+memory-is (c ∷ cs) σ w f =
+    ap (λ (d : Done). memoryAfter cs (d .memory)) (call-done σ (facts-valid σ f) c)
+    ∙ memory-is cs (returned σ c .after) (and-r (ofBytes c) (all ofBytes cs) w) (call-valid σ c (and-l (ofBytes c) (all ofBytes cs) w) f)
+
+returns-are : (cs : List Call) (σ : State) → all ofBytes cs ≡ true → StateFacts σ → returnsOn cs (encode σ) ≡ returnsOf cs σ
+unfolding returnsOn returnsOf all written
+returns-are [] σ w f = refl
+returns-are (c ∷ cs) σ w f =
+    let r = returned σ c in
+    ap (λ (d : Done). record { refusal = d .refusal; used = d .used; answer = d .answer } ∷ returnsOn cs (d .memory)) (call-done σ (facts-valid σ f) c)
+    ∙ ap (λ rs. record { refusal = r .refusal; used = r .used; answer = r .answer } ∷ rs)
+    (returns-are cs (r .after) (and-r (ofBytes c) (all ofBytes cs) w) (call-valid σ c (and-l (ofBytes c) (all ofBytes cs) w) f))
+
+-- ---- no call of the model is refused by 13
+
+Returns : Result → Type 0
+Returns r = r .refusal ≡ invalidMemory → ⊥
+
+fed-returns : (bytes : List ℕ) (n s : ℕ) (σ : State) → Returns (fedFrom n s bytes σ)
+unfolding fedFrom fedOn Returns
+fed-returns [] n s σ = λ e. omega arith
+fed-returns (b ∷ bytes) n s σ = on-step (step σ s b) (fed-returns bytes (n + 1) s)
+  where
+    on-step : (x : Step) → ((τ : State) → Returns (fedFrom (n + 1) s bytes τ)) → Returns (fedOn (n + 1) (λ τ. fedFrom (n + 1) s bytes τ) x)
+    on-step (silent τ) ih = ih τ
+    on-step (answers a τ) ih = λ e. omega arith
+
+call-returns : (σ : State) (c : Call) → Returns (returned σ c)
+unfolding returned feed reconnect refused Returns
+call-returns σ (feeds s chunk room) =
+    on-if Returns (leb stationCount s) _ _ (λ t e. omega arith) (λ t. on-if Returns (ltb room maxAnswer) _ _ (λ u e. omega arith) (λ u. fed-returns chunk 0 s σ))
+call-returns σ (reconnects s) = on-if Returns (leb stationCount s) _ _ (λ t e. omega arith) (λ t e. omega arith)
+
+not13 : (cs : List Call) (σ : State) (r : Return) → Mem r (returnsOf cs σ) → r .refusal ≡ invalidMemory → ⊥
+unfolding returnsOf Returns
+not13 [] σ r m q = mem-none m
+not13 (c ∷ cs) σ r (here e) q = call-returns σ c (sym (ap (λ (x : Return). x .refusal) e) ∙ q)
+not13 (c ∷ cs) σ r (there m) q = not13 cs (returned σ c .after) r m q
+
+-- every list of calls, of bytes
+pub whole-list : (cs : List Call) → all ofBytes cs ≡ true → WholeList cs
+whole-list cs w =
+    let mine = memory-is cs start w start-facts in
+    record {
+      memory = mine;
+      returns = returns-are cs start w start-facts;
+      never13 = λ r m. not13 cs start r (subst (Mem r) (returns-are cs start w start-facts) m);
+      sameMemory = λ ds v e. memory-is ds start v start-facts ∙ ap encode (cutting ds cs start e .end) ∙ sym mine;
+      throughout = throughout cs w;
+    }

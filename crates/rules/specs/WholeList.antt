@@ -1,0 +1,55 @@
+-- Demand 3, over lent memory: every list of feeds and reconnects, refused ones included, from the start's memory. Assumes nothing.
+use Prim.Native.Nat.{ℕ}
+use mathlib.Core.Path.{_≡_}
+use mathlib.Core.List.{List, [], _∷_}
+use Rattle.rules.specs.Refusal.{invalidMemory}
+use Rattle.rules.specs.State.{State, start}
+use Rattle.rules.specs.Model.{Result}
+use Rattle.rules.specs.Memory.{Memory, encode}
+use Rattle.rules.specs.Run as Run
+use Rattle.rules.specs.Run.{Call, feeds, reconnects, returned, ofBytes, events}
+use Rattle.rules.specs.Basic.{all}
+use mathlib.Core.Bool.{true}
+use Rattle.rules.specs.Growth.{Mem}
+use Rattle.rules.specs.Calls.{Done, feedOn, reconnectOn}
+use Rattle.rules.specs.Throughout.{Throughout}
+
+-- what one call returns
+pub record Return : Type 0 where
+  pub refusal : ℕ
+  pub used : ℕ
+  pub answer : List ℕ
+
+-- ---- the calls over memory: each gets the memory as the last one left it
+
+unfoldable pub doneBy : Memory → Call → Done
+doneBy m (feeds s chunk room) = feedOn m s chunk room
+doneBy m (reconnects s) = reconnectOn m s
+
+unfoldable pub memoryAfter : List Call → Memory → Memory
+memoryAfter [] m = m
+memoryAfter (c ∷ cs) m = memoryAfter cs (doneBy m c .memory)
+
+unfoldable pub returnsOn : List Call → Memory → List Return
+returnsOn [] m = []
+returnsOn (c ∷ cs) m =
+    let d = doneBy m c in record { refusal = d .refusal; used = d .used; answer = d .answer } ∷ returnsOn cs (d .memory)
+
+-- ---- the calls of the model
+
+unfoldable pub returnsOf : List Call → State → List Return
+returnsOf [] σ = []
+returnsOf (c ∷ cs) σ =
+    let r = returned σ c in record { refusal = r .refusal; used = r .used; answer = r .answer } ∷ returnsOf cs (r .after)
+
+pub record WholeList (cs : List Call) : Type 0 where
+  -- 'after the list the memory holds what the plain desk holds'
+  pub memory : memoryAfter cs (encode start) ≡ encode (Run.after cs start)
+  -- 'each call has returned and answered what the plain desk does'
+  pub returns : returnsOn cs (encode start) ≡ returnsOf cs start
+  -- '13 never comes'
+  pub never13 : (r : Return) → Mem r (returnsOn cs (encode start)) → r .refusal ≡ invalidMemory → ⊥
+  -- 'two lists alike in the order of reconnects and used bytes, with their stations, give the same memory'; the same answers: `alike` below
+  pub sameMemory : (ds : List Call) → all ofBytes ds ≡ true → events ds start ≡ events cs start → memoryAfter ds (encode start) ≡ memoryAfter cs (encode start)
+  -- the order of serving, cutting, growth, and that answers fit
+  pub throughout : Throughout cs
