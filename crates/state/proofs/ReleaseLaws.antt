@@ -1,0 +1,121 @@
+-- The one token that lost a reference is freed, which is what the rules' sweep does. Assumes nothing.
+use Prim.Native.Nat.{ℕ, _≤_, _<_}
+use native.Mathlib.Omega.{arith}
+use mathlib.Core.Path.{_≡_, refl, sym, ap, ap₂, _∙_, subst}
+use mathlib.Core.Bool.{Bool, true, false, _||_}
+use mathlib.Core.List.{List, [], _∷_, _++_, map}
+use lib.Dec.{eqb}
+use lib.ListN.{length, set}
+use lib.Seq.{set-out}
+use Rattle.table.specs.Table.{put-record}
+use Rattle.rules.specs.Basic.{member}
+use Rattle.rules.specs.Token.{maxDacl}
+use Rattle.rules.specs.Table.{free, lives, exchanged, withSlots}
+use Rattle.rules.specs.Index.{foundIndex, freedOne}
+use Rattle.rules.specs.Handle as rules
+use Rattle.rules.specs.State as state
+use Rattle.rules.specs.State.{State, tokenSlots, withTokens, withHandles, withStations, changeStation, isNumbered, setToken, findHandle, dropHandle, handleToken, stationToken, references, released}
+use Rattle.rules.specs.Memory.{tokenWords, slotRow, slotDacl}
+use Rattle.rules.proofs.Tables.{live-slot}
+use Rattle.rules.proofs.Index.{exchanged-set}
+use Rattle.rules.proofs.Facts.{Loose, valid-facts}
+use Rattle.rules.proofs.Changes.{drop-loose, token-loose}
+use Rattle.rules.proofs.Released.{close-frees, token-frees}
+use Rattle.handle.specs.declared.Handle.{Handle}
+use Rattle.handle.proofs.Slots.{isReferred}
+use Rattle.token.specs.Meaning.{slotsOf}
+use Rattle.token.proofs.Laws.{put-words, put-dacls}
+use Rattle.state.specs.Parts.{TokensIn}
+use Rattle.state.specs.Formed.{Formed}
+use Rattle.state.specs.StationFacts.{CallerNumber, TokenSet, StationsRefer}
+use Rattle.state.specs.HandleFacts.{changed, HandleGiven, HandleDropped}
+use Rattle.state.specs.ReleaseFacts.{PartsIn, TokenFreed, Closed, Installed}
+use Rattle.state.specs.declared.handles.Change.{Change}
+use Rattle.state.proofs.FormedLaws.{loose-formed, tokens-back, handles-back, tokens-same, handles-same, stations-same}
+
+-- ---- a token is freed, or stays
+
+member-append : (n : ℕ) (xs ys : List ℕ) → (member n xs || member n ys) ≡ member n (xs ++ ys)
+unfolding member
+member-append n [] ys = refl
+member-append n (x ∷ xs) ys = next (eqb n x) (member-append n xs ys)
+  where
+    next : (b : Bool) → (member n xs || member n ys) ≡ member n (xs ++ ys) → (b || member n xs || member n ys) ≡ (b || member n (xs ++ ys))
+    next true e = refl
+    next false e = e
+
+module _ {token : ℕ} {hs : List Handle} {ss ts ds : List ℕ} {a b : Bool} (by-handle : a ≡ isReferred token hs) (by-station : StationsRefer token ss b) where
+  referred : (σ : State) → Formed σ → PartsIn σ hs ss ts ds → (a || b) ≡ member token (references σ)
+  unfolding references
+  referred σ f p =
+      ap₂ _||_ (by-handle ∙ ap (λ ps. member token (map handleToken (lives ps))) (handles-back σ f hs (p .handles))) (by-station .refer σ (p .stations))
+      ∙ member-append token (map handleToken (lives (σ .handles .slots))) (map stationToken (σ .stations))
+
+  pub token-kept : (a || b) ≡ true → TokenFreed token hs ss ts ds ts ds
+  unfolding freedOne
+  token-kept t = record { tokens = λ σ f p. rw (sym (referred σ f p) ∙ t) (p .tokens) }
+
+  module _ {i : ℕ} (unreferred : (a || b) ≡ false) (found : (bs : List ℕ) → i ≡ foundIndex (isNumbered token) (slotsOf ts bs)) where
+    index : (σ : State) → Formed σ → PartsIn σ hs ss ts ds → exchanged (isNumbered token) free (σ .tokens .slots) ≡ set (σ .tokens .slots) i free
+    index σ f p =
+        exchanged-set (isNumbered token) free (σ .tokens .slots)
+        ∙ ap (λ (k : ℕ). set (σ .tokens .slots) k free) (sym (found ds ∙ ap (foundIndex (isNumbered token)) (tokens-back σ f ts ds (p .tokens))))
+
+    pub token-freed : {ts′ ds′ : List ℕ} → i < tokenSlots → ts′ ≡ put-record tokenWords i (slotRow free) ts → ds′ ≡ put-record maxDacl i (slotDacl free) ds
+        → TokenFreed token hs ss ts ds ts′ ds′
+    unfolding freedOne withTokens withSlots
+    token-freed h ew ed = record {
+      tokens = λ σ f p.
+          let slots = σ .tokens .slots in
+          let low : i < length slots = omega (arith, f .token-slots) in
+          rw (sym (referred σ f p) ∙ unreferred) (rw (index σ f p) (record {
+            words = ew ∙ ap (put-record tokenWords i (slotRow free)) (p .tokens .words) ∙ put-words slots i low free;
+            bytes = ed ∙ ap (put-record maxDacl i (slotDacl free)) (p .tokens .bytes) ∙ put-dacls slots i low free;
+          }));
+    }
+
+    pub token-missing : tokenSlots ≤ i → TokenFreed token hs ss ts ds ts ds
+    unfolding freedOne withTokens withSlots
+    token-missing h = record {
+      tokens = λ σ f p.
+          let out : set (σ .tokens .slots) i free ≡ σ .tokens .slots = set-out (σ .tokens .slots) i free (omega (arith, f .token-slots)) in
+          rw (sym (referred σ f p) ∙ unreferred) (tokens-same (sym (index σ f p ∙ out)) (p .tokens));
+    }
+
+-- ---- the two changes that take a reference away
+
+-- what is freed in the middle state is what the sweep frees
+swept : {token : ℕ} {hs : List Handle} {ss ts ds ts′ ds′ : List ℕ} (σ : State) → Loose σ → released σ ≡ freedOne token σ
+    → TokenFreed token hs ss ts ds ts′ ds′ → PartsIn σ hs ss ts ds → PartsIn (released σ) hs ss ts′ ds′
+unfolding released withTokens withSlots
+swept {ts′ = ts′} {ds′ = ds′} σ l e f p = record {
+  handles = handles-same refl (p .handles);
+  stations = stations-same refl refl refl (p .stations);
+  tokens = subst (λ (τ : State). TokensIn τ ts′ ds′) (sym e) (f .tokens σ (loose-formed σ l) p);
+}
+
+pub closed : (s n : ℕ) (hs : List Handle) {rest : List Handle} {ss ts ds ts′ ds′ : List ℕ} {h : Handle} {x : Change}
+    → HandleGiven s n hs h → HandleDropped s n hs x → rest ≡ changed hs x → TokenFreed (h .token) rest ss ts ds ts′ ds′
+    → Closed s n hs ss ts ds ts′ ds′ x
+unfolding state.handleOf dropHandle withHandles withSlots handleToken
+closed s n hs {h = h} {x = x} g d e f = record {
+  parts = λ σ v p known.
+      let facts = valid-facts σ v in
+      let one = close-frees σ s n (state.handleOf σ s n) facts (live-slot rules.noHandle (findHandle σ s n) known) in
+      let same : state.handleOf σ s n .token ≡ h .token = ap handleToken (sym (g .handle σ v (p .handles))) in
+      swept (dropHandle s n σ) (drop-loose σ s n (facts .loose)) (rw same at one) (rw e at f)
+      (record { handles = d .handles σ v (p .handles); stations = stations-same refl refl refl (p .stations); tokens = tokens-same refl (p .tokens) });
+}
+
+pub installed : (s n : ℕ) {hs : List Handle} {ss ts ds ss′ ts′ ds′ : List ℕ} {before : ℕ}
+    → CallerNumber s ss before → TokenSet s n ss ss′ → TokenFreed before hs ss′ ts ds ts′ ds′
+    → Installed s n hs ss ts ds ss′ ts′ ds′
+unfolding setToken changeStation withStations
+installed s n g k f = record {
+  parts = λ σ v p t m number type.
+      let facts = valid-facts σ v in
+      let loose : Loose (setToken s n σ) = subst (λ (i : ℕ). Loose (setToken s i σ)) number (token-loose σ s t m type (facts .loose)) in
+      let one = token-frees σ s n facts loose in
+      swept (setToken s n σ) loose (rw (sym (g .number σ (p .stations))) at one) f
+      (record { handles = handles-same refl (p .handles); stations = k .stations σ (p .stations); tokens = tokens-same refl (p .tokens) });
+}

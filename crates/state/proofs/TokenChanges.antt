@@ -1,0 +1,92 @@
+-- A token that is stored in its slot, or in a free one, and the used mark. Assumes nothing.
+use Prim.Native.Nat.{ℕ, _+_, _%_, _^_, _≤_, _<_}
+use native.Mathlib.Omega.{arith}
+use mathlib.Core.Path.{_≡_, sym, ap, subst, _∙_}
+use mathlib.Core.Bool.{true}
+use mathlib.Core.List.{List}
+use lib.ListN.{set}
+use lib.Seq.{set-out}
+use Rattle.table.specs.Table.{flat, put-record}
+use Rattle.rules.specs.Privileges as Privileges
+use Rattle.rules.specs.Token as Rules
+use Rattle.rules.specs.Token.{maxDacl, withPrivileges}
+use Rattle.rules.specs.Table.{live, added, withSlots}
+use Rattle.rules.specs.State.{State, tokenSlots, isNumbered, withTokens, putToken, addToken, changeToken, usedOn, used, caller}
+use Rattle.rules.specs.Index.{freeIndex, foundIndex}
+use Rattle.rules.specs.Valid.{valid}
+use Rattle.rules.specs.Memory.{tokenWords, tokenRow, daclRow, slotRow, slotDacl}
+use Rattle.rules.proofs.Bits.{power-inside}
+use Rattle.rules.proofs.Index.{placed-set, exchanged-set}
+use Rattle.privilege.specs.Meaning.{privilegesOf}
+use Rattle.privilege.specs.declared.privileges.Privileges.{Privileges}
+use Rattle.token.specs.Meaning.{tokenOf}
+use Rattle.token.specs.declared.Token.{Token}
+use Rattle.token.proofs.Laws.{put-words, put-dacls}
+use Rattle.state.specs.Parts.{TokensIn}
+use Rattle.state.specs.TokenCalls.{CallerGiven, nextIn, Stored, TokenPut, TokenAdded, Used}
+use Rattle.state.proofs.TokenLooks.{slots-read, slots-long, FoundAt, FreeAt}
+
+-- ---- one slot
+
+module _ {t : Token} {i : ℕ} {ts ds : List ℕ} where
+  pub stored : {ts′ ds′ : List ℕ} → i < tokenSlots
+      → ts′ ≡ put-record tokenWords i (tokenRow (tokenOf t)) ts → ds′ ≡ put-record maxDacl i (daclRow (tokenOf t)) ds
+      → Stored t i ts ds ts′ ds′
+  unfolding slotRow slotDacl
+  stored l a b = record {
+    words = λ ps h e. a ∙ ap (put-record tokenWords i (tokenRow (tokenOf t))) e ∙ put-words ps i (omega arith) (live (tokenOf t));
+    bytes = λ ps h e. b ∙ ap (put-record maxDacl i (daclRow (tokenOf t))) e ∙ put-dacls ps i (omega arith) (live (tokenOf t));
+  }
+
+  pub unstored : tokenSlots ≤ i → Stored t i ts ds ts ds
+  unstored l = record {
+    words = λ ps h e. e ∙ ap (flat slotRow) (sym (set-out ps i (live (tokenOf t)) (omega arith)));
+    bytes = λ ps h e. e ∙ ap (flat slotDacl) (sym (set-out ps i (live (tokenOf t)) (omega arith)));
+  }
+
+-- ---- the slot of a number, and a free one
+
+module _ {t : Token} {i : ℕ} {ts ds ts′ ds′ : List ℕ} (s : Stored t i ts ds ts′ ds′) where
+  changed : (σ τ : State) → valid σ ≡ true → TokensIn σ ts ds → τ .tokens .slots ≡ set (σ .tokens .slots) i (live (tokenOf t)) → TokensIn τ ts′ ds′
+  changed σ τ v h e =
+      let ps = σ .tokens .slots in
+      let long = slots-long σ v in
+      record {
+        words = s .words ps long (h .words) ∙ ap (flat slotRow) (sym e);
+        bytes = s .bytes ps long (h .bytes) ∙ ap (flat slotDacl) (sym e);
+      }
+
+  pub token-put : FoundAt (t .number) ts i → TokenPut t ts ds ts′ ds′
+  unfolding putToken withTokens withSlots
+  token-put at = record {
+    tokens = λ σ v h.
+        let ps = σ .tokens .slots in
+        changed σ (putToken (tokenOf t) σ) v h
+        (exchanged-set (isNumbered (t .number)) (live (tokenOf t)) ps
+        ∙ ap (λ (k : ℕ). set ps k (live (tokenOf t))) (sym (at ds ∙ ap (foundIndex (isNumbered (t .number))) (slots-read v h))));
+  }
+
+  pub token-added : {ss : List ℕ} → FreeAt ts i → TokenAdded t ts ds ss ts′ ds′ (set ss 0 (nextIn ss + 1))
+  unfolding addToken withTokens added
+  token-added at = record {
+    tokens = λ σ v h.
+        let ps = σ .tokens .slots in
+        changed σ (addToken (tokenOf t) σ) v h
+        (placed-set (tokenOf t) ps ∙ ap (λ (k : ℕ). set ps k (live (tokenOf t))) (sym (at ds ∙ ap freeIndex (slots-read v h))));
+    stations = λ σ j. record { words = ap (λ (ws : List ℕ). set ws 0 (nextIn ws + 1)) (j .words) };
+  }
+
+-- ---- the used mark
+
+pub used-on : {n w : ℕ} {q : Privileges} (t u : Token) → n < 64 → w ≡ 2 ^ n % 2 ^ 64 → privilegesOf q ≡ Privileges.markUsed w (privilegesOf (t .privileges))
+    → tokenOf u ≡ withPrivileges (privilegesOf q) (tokenOf t) → tokenOf u ≡ usedOn n (tokenOf t)
+unfolding usedOn
+used-on {n} t u l ew ep eu =
+    eu ∙ ap (λ x. withPrivileges x (tokenOf t)) (ep ∙ ap (λ (k : ℕ). Privileges.markUsed k (privilegesOf (t .privileges))) (ew ∙ power-inside 64 n l))
+
+pub marked-used : {n s : ℕ} {t u : Token} {ts ds ss ts′ ds′ : List ℕ} → CallerGiven s ts ds ss t → tokenOf u ≡ usedOn n (tokenOf t)
+    → TokenPut u ts ds ts′ ds′ → Used n s ts ds ss ts′ ds′
+unfolding used changeToken caller
+marked-used {n} {ts′ = ts′} {ds′ = ds′} c e put = record {
+  tokens = λ σ v i j. subst (λ (x : Rules.Token). TokensIn (putToken x σ) ts′ ds′) (e ∙ ap (usedOn n) (c .token σ v i j)) (put .tokens σ v i);
+}

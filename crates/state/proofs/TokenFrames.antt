@@ -1,0 +1,40 @@
+-- What a change of one part of a state leaves alone in the others. Assumes nothing.
+use Prim.Native.Nat.{ℕ}
+use mathlib.Core.List.{List}
+use Rattle.rules.specs.Token.{Token}
+use Rattle.rules.specs.Table.{Slot, Table, withSlots}
+use Rattle.rules.specs.Handle as Rules
+use Rattle.rules.specs.Station.{Station}
+use Rattle.rules.specs.State.{State, withTokens, withHandles, withStations, putToken, changeToken, used}
+use Rattle.handle.specs.declared.Handle.{Handle}
+use Rattle.state.specs.Parts.{TokensIn, StationsIn, HandlesIn}
+
+-- tokens: addHandle, dropHandle, setToken
+module _ {σ : State} {ts ds : List ℕ} (i : TokensIn σ ts ds) where
+  pub with-handles : (x : Table Rules.Handle) → TokensIn (withHandles x σ) ts ds
+  unfolding withHandles
+  with-handles x = record { words = i .words; bytes = i .bytes }
+
+  pub with-stations : (xs : List Station) → TokensIn (withStations xs σ) ts ds
+  unfolding withStations
+  with-stations xs = record { words = i .words; bytes = i .bytes }
+
+-- stations: putToken and released, which give no number
+module _ {σ : State} {ss : List ℕ} (j : StationsIn σ ss) where
+  pub with-slots : (ps : List (Slot Token)) → StationsIn (withTokens (withSlots ps (σ .tokens)) σ) ss
+  unfolding withTokens withSlots
+  with-slots ps = record { words = j .words }
+
+  pub used-stations : (n s : ℕ) → StationsIn (used n s σ) ss
+  unfolding used changeToken putToken
+  used-stations n s = with-slots _
+
+-- handles: putToken, addToken and released
+module _ {σ : State} {hs : List Handle} (k : HandlesIn σ hs) where
+  pub with-tokens : (x : Table Token) → HandlesIn (withTokens x σ) hs
+  unfolding withTokens
+  with-tokens x = record { records = k .records }
+
+  pub used-handles : (n s : ℕ) → HandlesIn (used n s σ) hs
+  unfolding used changeToken putToken
+  used-handles n s = with-tokens _

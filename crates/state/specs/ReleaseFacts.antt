@@ -1,0 +1,35 @@
+-- What the changes that free a token give, for every state that the parts hold. Assumes nothing.
+use Prim.Native.Nat.{ℕ}
+use mathlib.Core.Path.{_≡_}
+use mathlib.Core.Bool.{true}
+use mathlib.Core.List.{List}
+use Rattle.rules.specs.Growth.{Mem}
+use Rattle.rules.specs.Token.{Token, primary}
+use Rattle.rules.specs.Table.{isLive, lives}
+use Rattle.rules.specs.Valid.{valid}
+use Rattle.rules.specs.Index.{freedOne}
+use Rattle.rules.specs.State.{State, findHandle, dropHandle, setToken, released}
+use Rattle.handle.specs.declared.Handle.{Handle}
+use Rattle.state.specs.Parts.{TokensIn, StationsIn, HandlesIn}
+use Rattle.state.specs.Formed.{Formed}
+use Rattle.state.specs.HandleFacts.{changed}
+use Rattle.state.specs.declared.handles.Change.{Change}
+
+-- all parts hold one state
+pub record PartsIn (σ : State) (hs : List Handle) (ss ts ds : List ℕ) : Type 0 where
+  pub handles : HandlesIn σ hs
+  pub stations : StationsIn σ ss
+  pub tokens : TokensIn σ ts ds
+
+pub record TokenFreed (token : ℕ) (hs : List Handle) (ss ts ds ts′ ds′ : List ℕ) : Type 0 where
+  pub tokens : (σ : State) → Formed σ → PartsIn σ hs ss ts ds → TokensIn (freedOne token σ) ts′ ds′
+
+pub record Closed (station number : ℕ) (hs : List Handle) (ss ts ds ts′ ds′ : List ℕ) (r : Change) : Type 0 where
+  pub parts : (σ : State) → valid σ ≡ true → PartsIn σ hs ss ts ds → isLive (findHandle σ station number) ≡ true
+      → PartsIn (released (dropHandle station number σ)) (changed hs r) ss ts′ ds′
+
+-- where the number is that of a live primary token
+pub record Installed (station number : ℕ) (hs : List Handle) (ss ts ds ss′ ts′ ds′ : List ℕ) : Type 0 where
+  pub parts : (σ : State) → valid σ ≡ true → PartsIn σ hs ss ts ds
+      → (t : Token) → Mem t (lives (σ .tokens .slots)) → t .number ≡ number → t .identity .type ≡ primary
+      → PartsIn (released (setToken station number σ)) hs ss′ ts′ ds′

@@ -1,0 +1,59 @@
+-- What the calls on tokens give: a definition of the rules, for every valid state that the parts hold. Assumes nothing.
+use Prim.Native.Nat.{ℕ, _<_}
+use mathlib.Core.Path.{_≡_}
+use mathlib.Core.Bool.{Bool, true}
+use mathlib.Core.List.{List}
+use lib.ListN.{length, getD, set}
+use Rattle.table.specs.Table.{flat}
+use Rattle.rules.specs.Number.{max64}
+use Rattle.rules.specs.Token as Rules
+use Rattle.rules.specs.Table.{Slot, live}
+use Rattle.rules.specs.State as State
+use Rattle.rules.specs.State.{State, tokenSlots, caller, held, putToken, used, canAddToken, addToken}
+use Rattle.rules.specs.Valid.{valid}
+use Rattle.rules.specs.Memory.{slotRow, slotDacl}
+use Rattle.token.specs.Meaning.{tokenOf, Sized}
+use Rattle.token.specs.declared.Token.{Token}
+use Rattle.state.specs.Parts.{TokensIn, StationsIn}
+
+-- ---- looking
+
+pub record TokenGiven (n : ℕ) (ts ds : List ℕ) (r : Token) : Type 0 where
+  pub sized : Sized r
+  pub token : (σ : State) → valid σ ≡ true → TokensIn σ ts ds → tokenOf r ≡ State.tokenOf σ n
+
+pub record CallerGiven (s : ℕ) (ts ds ss : List ℕ) (r : Token) : Type 0 where
+  pub sized : Sized r
+  pub token : (σ : State) → valid σ ≡ true → TokensIn σ ts ds → StationsIn σ ss → tokenOf r ≡ caller σ s
+
+pub record Held (n s : ℕ) (ts ds ss : List ℕ) (r : Bool) : Type 0 where
+  pub held : (σ : State) → valid σ ≡ true → TokensIn σ ts ds → StationsIn σ ss → r ≡ held σ s n
+
+-- the word that has the next number
+abbrev pub nextIn : List ℕ → ℕ
+nextIn ss = getD ss 0 0
+
+pub record NextToken (ss : List ℕ) (r : ℕ) : Type 0 where
+  pub word : r ≡ nextIn ss
+  pub next : (σ : State) → StationsIn σ ss → r ≡ σ .tokens .next
+
+pub record CanAdd (ts ss : List ℕ) (r : Bool) : Type 0 where
+  pub below : r ≡ true → nextIn ss < max64
+  pub canAdd : (σ : State) → valid σ ≡ true → {ds : List ℕ} → TokensIn σ ts ds → StationsIn σ ss → r ≡ canAddToken σ
+
+-- ---- changes
+
+-- slot i becomes t, whatever the slots are
+pub record Stored (t : Token) (i : ℕ) (ts ds ts′ ds′ : List ℕ) : Type 0 where
+  pub words : (ps : List (Slot Rules.Token)) → length ps ≡ tokenSlots → ts ≡ flat slotRow ps → ts′ ≡ flat slotRow (set ps i (live (tokenOf t)))
+  pub bytes : (ps : List (Slot Rules.Token)) → length ps ≡ tokenSlots → ds ≡ flat slotDacl ps → ds′ ≡ flat slotDacl (set ps i (live (tokenOf t)))
+
+pub record TokenPut (t : Token) (ts ds ts′ ds′ : List ℕ) : Type 0 where
+  pub tokens : (σ : State) → valid σ ≡ true → TokensIn σ ts ds → TokensIn (putToken (tokenOf t) σ) ts′ ds′
+
+pub record TokenAdded (t : Token) (ts ds ss ts′ ds′ ss′ : List ℕ) : Type 0 where
+  pub tokens : (σ : State) → valid σ ≡ true → TokensIn σ ts ds → TokensIn (addToken (tokenOf t) σ) ts′ ds′
+  pub stations : (σ : State) → StationsIn σ ss → StationsIn (addToken (tokenOf t) σ) ss′
+
+pub record Used (n s : ℕ) (ts ds ss ts′ ds′ : List ℕ) : Type 0 where
+  pub tokens : (σ : State) → valid σ ≡ true → TokensIn σ ts ds → StationsIn σ ss → TokensIn (used n s σ) ts′ ds′

@@ -1,0 +1,69 @@
+// A token lives while a handle or a station refers to it: the changes that take a reference away free the token that lost it.
+ghost use Prim.Native.Nat.{_<_};
+ghost use Rattle.rules.specs.State.{stationCount};
+ghost use Rattle.state.specs.Parts.{Lent};
+ghost use Rattle.state.specs.ReleaseFacts.{TokenFreed, Closed, Installed};
+use crate::handles::Change;
+use crate::handles::drop_handle;
+use crate::handles::find_handle;
+use crate::stations;
+use handle::Handles;
+use token::slots;
+
+// The token is freed if neither a handle nor a station refers to it.
+pub fn free_unreferenced(
+    token: u64,
+    handles: Handles,
+    tokens: &mut [u64],
+    dacls: &mut [u8],
+    stations: &[u64],
+)
+    requires { ⌜ Lent (now tokens) (now dacls) (now stations) ⌝ }
+    ensures { λ _. ⌜ TokenFreed token (handles .items) (now (stations .entry)) (now (tokens .entry)) (now (dacls .entry)) (now (tokens .exit)) (now (dacls .exit)) ⌝ }
+{
+    let by_handle = handle::refers(handles, token);
+    let by_station = stations::refers(token, stations);
+    if by_handle | by_station {
+        return;
+    }
+    let slot = slots::find(tokens, token);
+    if slot < slots::TOKEN_SLOTS {
+        slots::clear_at(tokens, dacls, slot);
+    }
+}
+
+// The station's handle of that number is dropped, and its token freed if it was the last reference.
+pub fn close(
+    station: u32,
+    number: u32,
+    handles: Handles,
+    tokens: &mut [u64],
+    dacls: &mut [u8],
+    stations: &[u64],
+) -> Change
+    requires { ⌜ Lent (now tokens) (now dacls) (now stations) ⌝ }
+    ensures { λ r. ⌜ Closed station number (handles .items) (now (stations .entry)) (now (tokens .entry)) (now (dacls .entry)) (now (tokens .exit)) (now (dacls .exit)) r ⌝ }
+{
+    let found = find_handle(station, number, handles);
+    let change = drop_handle(station, number, handles);
+    let rest = handle::place(handles, change.slot, change.handle);
+    free_unreferenced(found.token, rest, tokens, dacls, stations);
+    change
+}
+
+// The station gets another primary token, and the one before is freed if that was its last reference.
+pub fn install(
+    station: u32,
+    number: u64,
+    handles: Handles,
+    tokens: &mut [u64],
+    dacls: &mut [u8],
+    stations: &mut [u64],
+)
+    requires { ⌜ (station < stationCount) × Lent (now tokens) (now dacls) (now stations) ⌝ }
+    ensures { λ _. ⌜ Installed station number (handles .items) (now (stations .entry)) (now (tokens .entry)) (now (dacls .entry)) (now (stations .exit)) (now (tokens .exit)) (now (dacls .exit)) ⌝ }
+{
+    let before = stations::caller_number(station, stations);
+    stations::set_token(station, number, stations);
+    free_unreferenced(before, handles, tokens, dacls, stations);
+}

@@ -1,0 +1,168 @@
+// The state's tokens, in the parts that hold it.
+ghost use mathlib.Core.Path.{_≡_};
+ghost use Prim.Native.Nat.{_+_, _*_, _<_};
+ghost use lib.ListN.{length};
+ghost use Rattle.rules.specs.Number.{max64};
+ghost use Rattle.rules.specs.Token.{maxDacl};
+ghost use Rattle.rules.specs.State.{noToken, usedOn, tokenSlots, stationCount};
+ghost use Rattle.rules.specs.Memory.{tokenWords, counterWords, stationWords};
+ghost use Rattle.token.specs.Meaning.{tokenOf, Sized};
+ghost use Rattle.state.specs.Parts.{Lent};
+ghost use Rattle.state.specs.TokenCalls.{TokenGiven, CallerGiven, Held, nextIn, NextToken, CanAdd, Stored, TokenPut, TokenAdded, Used};
+use crate::stations::NEXT_TOKEN;
+use crate::stations::caller_number;
+use privilege::privileges::Privileges;
+use privilege::words;
+use token::Defaults;
+use token::Group;
+use token::Identity;
+use token::Limits;
+use token::MAX_DACL;
+use token::MAX_GROUPS;
+use token::MAX_RESTRICTING;
+use token::Token;
+use token::slots;
+use token::slots::TOKEN_SLOTS;
+
+// A number that is never given.
+const MAX_NEXT: u64 = 0xFFFF_FFFF_FFFF_FFFF;
+
+// ---- looking
+
+fn no_token() -> Token
+    ensures { λ r. ⌜ (tokenOf r ≡ noToken) × Sized r ⌝ }
+{
+    Token {
+        number: 0,
+        modified: 0,
+        elevation: 1,
+        scope: 0,
+        identity: Identity {
+            user: 0,
+            session: 0,
+            kind: 1,
+            level: 0,
+            integrity: 0,
+        },
+        privileges: Privileges {
+            present: 0,
+            enabled: 0,
+            by_default: 0,
+            used: 0,
+        },
+        limits: Limits {
+            write_restricted: false,
+            user_deny_only: false,
+        },
+        defaults: Defaults {
+            owner: 0,
+            primary_group: 0,
+        },
+        group_count: 0,
+        groups: [Group {
+            sid: 0,
+            attributes: 0,
+        }; MAX_GROUPS],
+        restricting_count: 0,
+        restricting: [0u32; MAX_RESTRICTING],
+        dacl_count: 0,
+        dacl: [0u8; MAX_DACL],
+    }
+}
+
+// The live token of that number.
+pub fn token_of(number: u64, tokens: &[u64], dacls: &[u8]) -> Token
+    requires { ⌜ (length (now tokens) ≡ tokenSlots * tokenWords) × (length (now dacls) ≡ tokenSlots * maxDacl) ⌝ }
+    ensures { λ r. ⌜ TokenGiven number (now (tokens .entry)) (now (dacls .entry)) r ⌝ }
+{
+    let slot = slots::find(tokens, number);
+    if slot < TOKEN_SLOTS {
+        slots::load_at(tokens, dacls, slot)
+    } else {
+        no_token()
+    }
+}
+
+pub fn caller(station: u32, tokens: &[u64], dacls: &[u8], stations: &[u64]) -> Token
+    requires { ⌜ Lent (now tokens) (now dacls) (now stations) × (station < stationCount) ⌝ }
+    ensures { λ r. ⌜ CallerGiven station (now (tokens .entry)) (now (dacls .entry)) (now (stations .entry)) r ⌝ }
+{
+    let number = caller_number(station, stations);
+    token_of(number, tokens, dacls)
+}
+
+// The privilege is enabled on the caller's token.
+pub fn held(privilege: u64, station: u32, tokens: &[u64], dacls: &[u8], stations: &[u64]) -> bool
+    requires { ⌜ Lent (now tokens) (now dacls) (now stations) × (station < stationCount) ⌝ }
+    ensures { λ r. ⌜ Held privilege station (now (tokens .entry)) (now (dacls .entry)) (now (stations .entry)) r ⌝ }
+{
+    let t = caller(station, tokens, dacls, stations);
+    let p = t.privileges;
+    p.holds(privilege)
+}
+
+pub fn next_token(stations: &[u64]) -> u64
+    requires { ⌜ length (now stations) ≡ counterWords + stationCount * stationWords ⌝ }
+    ensures { λ r. ⌜ NextToken (now (stations .entry)) r ⌝ }
+{
+    stations[NEXT_TOKEN]
+}
+
+pub fn can_add_token(tokens: &[u64], stations: &[u64]) -> bool
+    requires { ⌜ (length (now tokens) ≡ tokenSlots * tokenWords) × (length (now stations) ≡ counterWords + stationCount * stationWords) ⌝ }
+    ensures { λ r. ⌜ CanAdd (now (tokens .entry)) (now (stations .entry)) r ⌝ }
+{
+    let slot = slots::free_slot(tokens);
+    let next = next_token(stations);
+    (slot < TOKEN_SLOTS) & (next < MAX_NEXT)
+}
+
+// ---- changes
+
+// A slot past the end changes nothing.
+fn store(t: Token, tokens: &mut [u64], dacls: &mut [u8], slot: usize)
+    requires { ⌜ (length (now tokens) ≡ tokenSlots * tokenWords) × (length (now dacls) ≡ tokenSlots * maxDacl) × Sized t ⌝ }
+    ensures { λ r. ⌜ Stored t slot (now (tokens .entry)) (now (dacls .entry)) (now (tokens .exit)) (now (dacls .exit)) ⌝ }
+{
+    if slot < TOKEN_SLOTS {
+        slots::store_at(t, tokens, dacls, slot);
+    }
+}
+
+// The token of t's number becomes t.
+pub fn put_token(t: Token, tokens: &mut [u64], dacls: &mut [u8])
+    requires { ⌜ (length (now tokens) ≡ tokenSlots * tokenWords) × (length (now dacls) ≡ tokenSlots * maxDacl) × Sized t ⌝ }
+    ensures { λ r. ⌜ TokenPut t (now (tokens .entry)) (now (dacls .entry)) (now (tokens .exit)) (now (dacls .exit)) ⌝ }
+{
+    let slot = slots::find(tokens, t.number);
+    store(t, tokens, dacls, slot);
+}
+
+// A new token, whose number is the next one.
+pub fn add_token(t: Token, tokens: &mut [u64], dacls: &mut [u8], stations: &mut [u64])
+    requires { ⌜ Lent (now tokens) (now dacls) (now stations) × Sized t × (nextIn (now stations) < max64) ⌝ }
+    ensures { λ r. ⌜ TokenAdded t (now (tokens .entry)) (now (dacls .entry)) (now (stations .entry)) (now (tokens .exit)) (now (dacls .exit)) (now (stations .exit)) ⌝ }
+{
+    let slot = slots::free_slot(tokens);
+    store(t, tokens, dacls, slot);
+    stations[NEXT_TOKEN] = stations[NEXT_TOKEN] + 1;
+}
+
+fn used_on(privilege: u64, t: Token) -> Token
+    requires { ⌜ (privilege < 64) × Sized t ⌝ }
+    ensures { λ r. ⌜ (tokenOf r ≡ usedOn privilege (tokenOf t)) × Sized r ⌝ }
+{
+    let p = t.privileges;
+    let marked = p.mark_used(words::bit(privilege));
+    token::with_privileges(t, marked)
+}
+
+// A success needed the privilege: its used bit is set on the caller's token.
+pub fn used(privilege: u64, station: u32, tokens: &mut [u64], dacls: &mut [u8], stations: &[u64])
+    requires { ⌜ Lent (now tokens) (now dacls) (now stations) × (station < stationCount) × (privilege < 64) ⌝ }
+    ensures { λ r. ⌜ Used privilege station (now (tokens .entry)) (now (dacls .entry)) (now (stations .entry)) (now (tokens .exit)) (now (dacls .exit)) ⌝ }
+{
+    let t = caller(station, tokens, dacls, stations);
+    let marked = used_on(privilege, t);
+    put_token(marked, tokens, dacls);
+}
