@@ -1,0 +1,273 @@
+-- A token's row: the tests of its parts come to `tokenTest`. Assumes nothing.
+use mathlib.Core.Path.{_≡_, refl, sym, ap, ap₂, _∙_}
+use mathlib.Core.Bool.{Bool, true, false, not, _&&_, _||_, and-true, and-false, and-assoc, or-false}
+use mathlib.Core.List.{List, [], _∷_, _++_, map}
+use Prim.Native.Nat.{ℕ, zero, suc, _+_, _-_, _*_, _/_, _%_, _^_, _≤_, _<_}
+use native.Mathlib.Nat.{div-add-mod', add-comm}
+use native.Mathlib.Omega.{arith}
+use borrow.Author.Tests.{eq-eqb, ne-eqb, lt-ltb, le-leb, lt-leb, ltb-true, leb-true}
+use lib.Dec.{eqb, leb, ltb}
+use lib.ListN.{length, take, drop, getD, length-take, length-drop, length-map}
+use lib.Seq.{length-take-le, take-take, drop-drop, take-all, take-nil}
+use Rattle.table.specs.Lists.{pad, length-pad, named-take}
+use Rattle.rules.specs.Basic.{all, member, implies}
+use Rattle.rules.specs.Bits.{within}
+use Rattle.rules.specs.Group.{Group}
+use Rattle.rules.specs.Token.{Token, maxGroups, maxRestricting, maxDacl, primary, impersonation}
+use Rattle.rules.specs.Table.{free, live}
+use Rattle.rules.specs.Create.{validIntegrity}
+use Rattle.rules.specs.AdjustDefaults.{validOwner, validGroup}
+use Rattle.rules.specs.Valid.{isByte, is32, is64, between, identityValid, privilegesValid, groupValid, groupsValid, limitsValid, defaultsValid, tokenValid}
+use Rattle.rules.specs.Memory.{same, pack, unpack, low32, low8, word32, head, headWords, tokenRow, daclRow, slotRow, slotDacl, slotAt, tokenAt, identityAt, privilegesAt, groupsAt, limitsAt, defaultsAt, tokenWords}
+use Rattle.rules.proofs.Logic.{and-l, and-r, all-mem, member-mem}
+use Rattle.valid.specs.Tests.{isZero, isNarrow, slotTest, groupTest, headTest, groupsEnd, groupsPart, groupsRest, sidsPart, sidsRest, daclRest, listsTest, Counted, liveTest, tokenTest}
+use Rattle.valid.proofs.Truth.{same-tests, eqb-same, implies-or, uncut, all-holds, all-map, all-below}
+use Rattle.valid.proofs.Same.{same-append, same-zeros, same-pad, same-pad-take, same-map, cut32, cut8, cut-mark, cut-count}
+use Rattle.valid.proofs.Groups.{is32-low}
+
+drop-take : {A : Type 0} (n k : ℕ) (xs : List A) → drop n (take k xs) ≡ take (k - n) (drop n xs)
+drop-take zero k xs = ap (λ (j : ℕ). take j xs) {x = k} {y = k - 0} (omega arith)
+drop-take (suc n) zero xs = ap (λ (j : ℕ). take j (drop (suc n) xs)) {x = 0} {y = 0 - suc n} (omega arith)
+drop-take (suc n) (suc k) [] = sym (take-nil (suc k - suc n))
+drop-take (suc n) (suc k) (x ∷ xs) = drop-take n k xs ∙ ap (λ (j : ℕ). take j (drop n xs)) {x = k - n} {y = suc k - suc n} (omega arith)
+
+pack-unpacks : (ws : List ℕ) → map pack (map unpack ws) ≡ ws
+unfolding pack unpack
+pack-unpacks [] = refl
+pack-unpacks (w ∷ ws) =
+    ap₂ (λ y ys. y ∷ ys) (add-comm (w % word32) (w / word32 * word32) ∙ div-add-mod' w word32) (pack-unpacks ws)
+
+length-head : (t : Token) → length (head t) ≡ headWords
+unfolding head
+length-head t = refl
+
+-- ---- a field's width and its range are one test
+
+between-below : (low high w : ℕ) → between low high w ≡ true → w ≤ high
+unfolding between
+between-below low high w h = leb-true w high (and-r (leb low w) (leb w high) h)
+
+integrity-below : (w : ℕ) → validIntegrity w ≡ true → w < word32
+unfolding validIntegrity all
+integrity-below w h = ltb-true w word32 (all-mem isNarrow (0 ∷ 4096 ∷ 8192 ∷ 12288 ∷ 16384 ∷ []) refl (member-mem w (0 ∷ 4096 ∷ 8192 ∷ 12288 ∷ 16384 ∷ []) h))
+
+integrity-or : (w : ℕ) → (eqb w 0 || (eqb w 4096 || (eqb w 8192 || (eqb w 12288 || eqb w 16384)))) ≡ validIntegrity w
+unfolding validIntegrity member
+integrity-or w = simp or-false
+
+owner-below : (gs : List Group) (o : ℕ) → validOwner gs o ≡ true → o ≤ length gs
+unfolding validOwner
+owner-below gs zero h = omega arith
+owner-below gs (suc k) h = ltb-true k (length gs) (and-l (ltb k (length gs)) _ h)
+
+group-below : (gs : List Group) (i : ℕ) → validGroup gs i ≡ true → i ≤ length gs
+unfolding validGroup
+group-below gs i h = leb-true i (length gs) h
+
+-- type and level
+kind-level : (t l : ℕ)
+    → ((leb 1 t && leb t 2) && (leb l 3 && (not (eqb t 1) || eqb l 0)))
+    ≡ (ltb t 256 && (between primary impersonation (low8 t) && (ltb l 256 && (leb (low8 l) 3 && implies (eqb (low8 t) primary) (eqb (low8 l) 0)))))
+unfolding between
+kind-level t l =
+    ap (λ b. (leb 1 t && leb t 2) && (leb l 3 && b)) (implies-or (eqb t 1) (eqb l 0))
+    ∙ sym (uncut 256 (λ w. (leb 1 w && leb w 2) && (leb l 3 && implies (eqb w 1) (eqb l 0))) (λ w h. omega (arith, leb-true w 2 (and-r (leb 1 w) (leb w 2) (and-l _ _ h)))) t)
+    ∙ ap (λ b. ltb t 256 && ((leb 1 (low8 t) && leb (low8 t) 2) && b))
+    (sym (uncut 256 (λ w. leb w 3 && implies (eqb (low8 t) 1) (eqb w 0)) (λ w h. omega (arith, leb-true w 3 (and-l (leb w 3) _ h))) l))
+
+-- ---- the tests of a row, as they stand in the rules and as they stand in the code
+
+shuffle : (u t l e m n o p s i E I K L M P G O R Z N Y D : Bool) {KLM E′ I′ O′ R′ : Bool}
+    → KLM ≡ (t && (K && (l && (L && M)))) → E′ ≡ (e && E) → I′ ≡ (i && I) → O′ ≡ (o && O) → R′ ≡ (p && R)
+    → ((u && (t && (l && (e && (m && (n && (o && (p && (s && i))))))))) && (Z && (N && Y)) && D && (E && (I && K && L && M) && P && G && (O && R)))
+    ≡ (u && KLM && E′ && m && n && s && I′ && P && G && O′ && R′ && Z && N && Y && D)
+unfolding all member
+shuffle u t l e m n o p s i E I K L M P G O R Z N Y D hk he hi ho hr =
+    simp (hk, he, hi, ho, hr, and-assoc)
+    (simp and-true at
+    (same-tests
+    (u ∷ t ∷ l ∷ e ∷ m ∷ n ∷ o ∷ p ∷ s ∷ i ∷ Z ∷ N ∷ Y ∷ D ∷ E ∷ I ∷ K ∷ L ∷ M ∷ P ∷ G ∷ O ∷ R ∷ [])
+    (0 ∷ 1 ∷ 2 ∷ 3 ∷ 4 ∷ 5 ∷ 6 ∷ 7 ∷ 8 ∷ 9 ∷ 10 ∷ 11 ∷ 12 ∷ 13 ∷ 14 ∷ 15 ∷ 16 ∷ 17 ∷ 18 ∷ 19 ∷ 20 ∷ 21 ∷ 22 ∷ [])
+    (0 ∷ 1 ∷ 16 ∷ 2 ∷ 17 ∷ 18 ∷ 3 ∷ 14 ∷ 4 ∷ 5 ∷ 8 ∷ 9 ∷ 15 ∷ 19 ∷ 20 ∷ 6 ∷ 21 ∷ 7 ∷ 22 ∷ 10 ∷ 11 ∷ 12 ∷ 13 ∷ [])
+    refl refl))
+
+-- the groups' words, as the rules take them
+abbrev groupWords : List ℕ → List ℕ
+groupWords ws = take (getD ws 17 0) (take maxGroups (drop headWords ws))
+
+module _ (ws bs : List ℕ) (lw : length ws ≡ tokenWords) (lb : length bs ≡ maxDacl) where
+  -- ---- a free slot, a live one
+
+  free-test : getD ws 0 0 ≡ 0 → tokenTest ws bs ≡ (all isZero ws && all isZero bs)
+  unfolding tokenTest slotAt slotRow slotDacl slotTest
+  free-test e = rw (eq-eqb (getD ws 0 0) 0 e, and-true) (ap₂ (λ a b. a && b) (same-zeros tokenWords ws lw) (same-zeros maxDacl bs lb))
+
+  pub at-live : {r : Bool} → (getD ws 0 0 ≡ 0 → ⊥) → r ≡ liveTest ws bs → r ≡ tokenTest ws bs
+  unfolding tokenTest liveTest slotAt slotRow slotDacl slotTest
+  at-live h e = e ∙ sym (rw (ne-eqb (getD ws 0 0) 0 h))
+
+  live-parts : liveTest ws bs ≡ (same (tokenRow (tokenAt ws bs)) ws && same (pad maxDacl (take (getD ws 19 0) bs)) bs && tokenValid (tokenAt ws bs))
+  unfolding liveTest daclRow tokenAt defaultsAt
+  live-parts = refl
+
+  pub at-free : {r q : Bool} → getD ws 0 0 ≡ 0 → r ≡ all isZero ws → q ≡ all isZero bs → (r && q) ≡ tokenTest ws bs
+  at-free e er eq = ap₂ (λ a b. a && b) er eq ∙ sym (free-test e)
+
+  -- ---- what the slot is written as
+
+  head-same : same (head (tokenAt ws bs)) (take headWords ws)
+      ≡ ((ltb (getD ws 3 0) word32
+      && (ltb (getD ws 4 0) 256
+      && (ltb (getD ws 5 0) 256
+      && (ltb (getD ws 6 0) 256
+      && (ltb (getD ws 7 0) 2
+      && (ltb (getD ws 8 0) 2
+      && (ltb (getD ws 9 0) word32
+      && (ltb (getD ws 10 0) word32
+      && (ltb (getD ws 11 0) word32
+      && ltb (getD ws 12 0) word32)))))))))
+      && (leb (getD ws 17 0) maxGroups && (leb (getD ws 18 0) maxRestricting && leb (getD ws 19 0) maxDacl)))
+  unfolding same head tokenAt identityAt privilegesAt groupsAt limitsAt defaultsAt
+  head-same =
+      let g : eqb (length (map unpack (groupWords ws))) (getD ws 17 0) ≡ leb (getD ws 17 0) maxGroups =
+      ap (λ (n : ℕ). eqb n (getD ws 17 0)) (length-map (groupWords ws) unpack)
+      ∙ cut-count maxGroups (getD ws 17 0) (take maxGroups (drop headWords ws)) (length-take-le maxGroups (drop headWords ws) (simp length-drop (omega arith))) in
+      let s : eqb (length (map low32 (take (getD ws 18 0) (drop groupsEnd ws)))) (getD ws 18 0) ≡ leb (getD ws 18 0) maxRestricting =
+      ap (λ (n : ℕ). eqb n (getD ws 18 0)) (length-map (take (getD ws 18 0) (drop groupsEnd ws)) low32)
+      ∙ cut-count maxRestricting (getD ws 18 0) (drop groupsEnd ws) (simp length-drop (omega arith)) in
+      let d : eqb (length (take (getD ws 19 0) bs)) (getD ws 19 0) ≡ leb (getD ws 19 0) maxDacl = cut-count maxDacl (getD ws 19 0) bs lb in
+      ap (same (head (tokenAt ws bs))) (sym (named-take headWords 0 ws (omega arith)))
+      ∙ simp (eqb-same, cut32, cut8, cut-mark, g, s, d, and-true, and-assoc)
+
+  row-same : same (tokenRow (tokenAt ws bs)) ws
+      ≡ (same (head (tokenAt ws bs)) (take headWords ws)
+      && (same (pad maxGroups (map pack (groupsAt ws))) (take maxGroups (drop headWords ws))
+      && same (pad maxRestricting (limitsAt ws .restricting)) (drop groupsEnd ws)))
+  unfolding tokenRow tokenAt
+  row-same =
+      same-append headWords (head (tokenAt ws bs)) (pad maxGroups (map pack (groupsAt ws)) ++ pad maxRestricting (limitsAt ws .restricting)) ws (length-head (tokenAt ws bs))
+      ∙ ap (λ b. same (head (tokenAt ws bs)) (take headWords ws) && b)
+      (same-append maxGroups (pad maxGroups (map pack (groupsAt ws))) (pad maxRestricting (limitsAt ws .restricting)) (drop headWords ws) (length-pad maxGroups (map pack (groupsAt ws)))
+      ∙ ap (λ l. same (pad maxGroups (map pack (groupsAt ws))) (take maxGroups (drop headWords ws)) && same (pad maxRestricting (limitsAt ws .restricting)) l) (drop-drop maxGroups headWords ws))
+
+  -- a count beyond its limit
+  bad-count : (getD ws 0 0 ≡ 0 → ⊥) → (leb (getD ws 17 0) maxGroups && (leb (getD ws 18 0) maxRestricting && leb (getD ws 19 0) maxDacl)) ≡ false → false ≡ tokenTest ws bs
+  bad-count h e = at-live h (sym (live-parts ∙ rw (row-same, head-same, e, and-false)))
+
+  pub too-many-groups : (getD ws 0 0 ≡ 0 → ⊥) → maxGroups < getD ws 17 0 → false ≡ tokenTest ws bs
+  too-many-groups h e = bad-count h (rw (lt-leb (getD ws 17 0) maxGroups e))
+
+  pub too-many-sids : (getD ws 0 0 ≡ 0 → ⊥) → maxRestricting < getD ws 18 0 → false ≡ tokenTest ws bs
+  too-many-sids h e = bad-count h (rw (lt-leb (getD ws 18 0) maxRestricting e, and-false))
+
+  pub too-many-bytes : (getD ws 0 0 ≡ 0 → ⊥) → maxDacl < getD ws 19 0 → false ≡ tokenTest ws bs
+  too-many-bytes h e = bad-count h (rw (lt-leb (getD ws 19 0) maxDacl e, and-false, and-false))
+
+  -- the lists' parts, as the code lends them
+  groups-same : getD ws 17 0 ≤ maxGroups → same (pad maxGroups (map pack (groupsAt ws))) (take maxGroups (drop headWords ws))
+      ≡ all isZero (groupsRest ws)
+  unfolding groupsAt
+  groups-same h =
+      let n : ℕ = getD ws 17 0 in
+      let gp : List ℕ = take maxGroups (drop headWords ws) in
+      let lg : length gp ≡ maxGroups = length-take-le maxGroups (drop headWords ws) (simp length-drop (omega arith)) in
+      ap (λ l. same (pad maxGroups l) gp) (pack-unpacks (take n gp))
+      ∙ same-pad-take maxGroups n gp lg h
+      ∙ ap (all isZero)
+      (take-all (maxGroups - n) (drop n gp) (simp length-drop (omega arith))
+      ∙ drop-take n maxGroups (drop headWords ws)
+      ∙ ap₂ (λ (k : ℕ) (l : List ℕ). take k l) {x = maxGroups - n} {y = groupsEnd - (headWords + n)} (omega arith) (drop-drop n headWords ws))
+
+  restricting-same : getD ws 18 0 ≤ maxRestricting → same (pad maxRestricting (limitsAt ws .restricting)) (drop groupsEnd ws)
+      ≡ (all isNarrow (sidsPart ws) && all isZero (sidsRest ws))
+  unfolding limitsAt
+  restricting-same h =
+      let s : ℕ = getD ws 18 0 in
+      let sp : List ℕ = drop groupsEnd ws in
+      same-pad low32 maxRestricting s sp (simp length-drop (omega arith)) h
+      ∙ ap₂ (λ a b. a && b)
+      (same-map low32 isNarrow cut32 (take s sp) ∙ ap (λ (k : ℕ). all isNarrow (take k sp)) {x = s} {y = groupsEnd + s - groupsEnd} (omega arith))
+      (ap (all isZero) (drop-drop s groupsEnd ws ∙ sym (take-all (tokenWords - (groupsEnd + s)) (drop (groupsEnd + s) ws) (simp length-drop (omega arith)))))
+
+-- ---- a token whose counts are within their limits
+
+module _ (ws bs : List ℕ) (kw : (i : ℕ) → getD ws i 0 < 2 ^ 64) (kb : (i : ℕ) → getD bs i 0 < 256) (counted : Counted ws bs) where
+  token-tests : tokenValid (tokenAt ws bs)
+      ≡ (between 1 3 (low8 (getD ws 6 0))
+      && (validIntegrity (low32 (getD ws 12 0))
+      && between primary impersonation (low8 (getD ws 4 0))
+      && leb (low8 (getD ws 5 0)) 3
+      && implies (eqb (low8 (getD ws 4 0)) primary) (eqb (low8 (getD ws 5 0)) 0))
+      && privilegesValid (privilegesAt ws)
+      && all groupValid (map unpack (groupWords ws))
+      && (validOwner (map unpack (groupWords ws)) (low32 (getD ws 9 0)) && validGroup (map unpack (groupWords ws)) (low32 (getD ws 10 0))))
+  unfolding tokenValid tokenAt identityValid identityAt groupsValid groupsAt limitsValid limitsAt defaultsValid defaultsAt is64 isByte
+  token-tests =
+      let sids : List ℕ = take (getD ws 18 0) (drop groupsEnd ws) in
+      let a : ltb (getD ws 1 0) (2 ^ 64) ≡ true = lt-ltb _ (2 ^ 64) (kw 1) in
+      let b : ltb (getD ws 2 0) (2 ^ 64) ≡ true = lt-ltb _ (2 ^ 64) (kw 2) in
+      let c : leb (length (map unpack (groupWords ws))) maxGroups ≡ true =
+      le-leb (length (map unpack (groupWords ws))) maxGroups (omega (arith, length-map (groupWords ws) unpack, length-take (getD ws 17 0) (take maxGroups (drop headWords ws)), length-take maxGroups (drop headWords ws))) in
+      let d : leb (length (map low32 sids)) maxRestricting ≡ true =
+      le-leb (length (map low32 sids)) maxRestricting (omega (arith, length-map sids low32, length-take (getD ws 18 0) (drop groupsEnd ws), length-drop groupsEnd ws)) in
+      let e : leb (length (take (getD ws 19 0) bs)) maxDacl ≡ true = le-leb (length (take (getD ws 19 0) bs)) maxDacl (omega (arith, length-take (getD ws 19 0) bs)) in
+      let f : all is32 (map low32 sids) ≡ true = all-map low32 is32 sids ∙ all-holds (λ w. is32 (low32 w)) is32-low sids in
+      let g : all (λ n. ltb n 256) (take (getD ws 19 0) bs) ≡ true = all-below 256 bs kb (getD ws 19 0) in
+      simp (a, b, c, d, e, f, g, is32-low, and-true)
+
+  counts-hold : (leb (getD ws 17 0) maxGroups && (leb (getD ws 18 0) maxRestricting && leb (getD ws 19 0) maxDacl)) ≡ true
+  counts-hold = rw (le-leb (getD ws 17 0) maxGroups (counted .groups), le-leb (getD ws 18 0) maxRestricting (counted .restricting), le-leb (getD ws 19 0) maxDacl (counted .dacl))
+
+  lent-groups : groupsPart ws ≡ groupWords ws
+  lent-groups =
+      ap (λ (j : ℕ). take j (drop headWords ws)) {x = headWords + getD ws 17 0 - headWords} {y = getD ws 17 0} (omega arith)
+      ∙ sym (take-take (getD ws 17 0) maxGroups (drop headWords ws) (counted .groups))
+
+  long : length (map unpack (groupWords ws)) ≡ getD ws 17 0
+  long = length-map (groupWords ws) unpack ∙ length-take-le (getD ws 17 0) (take maxGroups (drop headWords ws)) (simp (length-take, length-drop) (omega arith))
+
+  row-tests : (headTest ws
+      && all groupValid (map unpack (groupWords ws))
+      && validOwner (map unpack (groupWords ws)) (getD ws 9 0)
+      && validGroup (map unpack (groupWords ws)) (getD ws 10 0)
+      && listsTest ws bs)
+      ≡ liveTest ws bs
+  unfolding privilegesValid privilegesAt within between
+  row-tests =
+      let gs : List Group = map unpack (groupWords ws) in
+      let w : ℕ → ℕ = λ i. getD ws i 0 in
+      let z : Bool = all isZero (groupsRest ws) in
+      let n : Bool = all isNarrow (sidsPart ws) in
+      let y : Bool = all isZero (sidsRest ws) in
+      let d : Bool = all isZero (daclRest ws bs) in
+      let image : same (tokenRow (tokenAt ws bs)) ws
+      ≡ ((ltb (w 3) word32 && (ltb (w 4) 256 && (ltb (w 5) 256 && (ltb (w 6) 256 && (ltb (w 7) 2 && (ltb (w 8) 2 && (ltb (w 9) word32 && (ltb (w 10) word32 && (ltb (w 11) word32 && ltb (w 12) word32)))))))))
+      && (z && (n && y))) = row-same ws bs (counted .words) (counted .bytes) ∙ rw (head-same ws bs (counted .words) (counted .bytes), counts-hold, and-true, groups-same ws bs (counted .words) (counted .bytes) (counted .groups), restricting-same ws bs (counted .words) (counted .bytes) (counted .restricting)) in
+      sym
+      (live-parts ws bs (counted .words) (counted .bytes)
+      ∙ ap₂ (λ a b. a && b) (ap₂ (λ a b. a && b) image (same-pad-take maxDacl (w 19) bs (counted .bytes) (counted .dacl))) token-tests
+      ∙ shuffle
+      (ltb (w 3) word32) (ltb (w 4) 256) (ltb (w 5) 256) (ltb (w 6) 256) (ltb (w 7) 2) (ltb (w 8) 2) (ltb (w 9) word32) (ltb (w 10) word32) (ltb (w 11) word32) (ltb (w 12) word32)
+      (between 1 3 (low8 (w 6))) (validIntegrity (low32 (w 12)))
+      (between primary impersonation (low8 (w 4))) (leb (low8 (w 5)) 3) (implies (eqb (low8 (w 4)) primary) (eqb (low8 (w 5)) 0))
+      (privilegesValid (privilegesAt ws)) (all groupValid gs) (validOwner gs (low32 (w 9))) (validGroup gs (low32 (w 10))) z n y d
+      (kind-level (w 4) (w 5))
+      (sym (uncut 256 (between 1 3) (λ v h. omega (arith, between-below 1 3 v h)) (w 6)))
+      (integrity-or (w 12) ∙ sym (uncut word32 validIntegrity integrity-below (w 12)))
+      (sym (uncut word32 (validOwner gs) (λ v h. omega (arith, owner-below gs v h, long)) (w 9)))
+      (sym (uncut word32 (validGroup gs) (λ v h. omega (arith, group-below gs v h, long)) (w 10)))
+      ∙ simp and-assoc)
+
+  -- with what the code has at its end
+  pub at-end : {h g o l : Bool}
+      → h ≡ headTest ws
+      → g ≡ all groupTest (groupsPart ws)
+      → o ≡ validOwner (map unpack (groupsPart ws)) (getD ws 9 0)
+      → l ≡ listsTest ws bs
+      → (h && g && o && leb (getD ws 10 0) (getD ws 17 0) && l) ≡ liveTest ws bs
+  unfolding groupTest validGroup
+  at-end {h} {g} {o} eh eg eo el =
+      let a : g ≡ all groupValid (map unpack (groupWords ws)) = eg ∙ ap (all groupTest) lent-groups ∙ sym (all-map unpack groupValid (groupWords ws)) in
+      let b : o ≡ validOwner (map unpack (groupWords ws)) (getD ws 9 0) = eo ∙ ap (λ xs. validOwner (map unpack xs) (getD ws 9 0)) lent-groups in
+      let c : leb (getD ws 10 0) (getD ws 17 0) ≡ leb (getD ws 10 0) (length (map unpack (groupWords ws))) = ap (λ (k : ℕ). leb (getD ws 10 0) k) (sym long) in
+      cc row-tests

@@ -1,0 +1,31 @@
+-- valid::numbers_valid meets its contract: as its callees say. Assumes nothing.
+use borrow.Author.Needs.{needs}
+use Rattle.valid.proofs.Whole.{at-numbers}
+use Rattle.valid.proofs.numbers_valid.Statement.{statement}
+use Rattle.valid.proofs.numbers_valid.Tie as tie
+
+pub numbers-valid-spec : {M : Type 1} → statement M
+numbers-valid-spec =
+    tie.close
+    (tie.spec
+    (λ c κs. search needs)
+    (λ c κs. search needs)
+    (λ c. search needs)
+    (λ c κs. search needs)
+    (λ c. search needs)
+    (λ c κs. search needs)
+    (λ c. search needs)
+    (λ c κs. search needs)
+    (λ c. search needs)
+    (λ c κs. search needs)
+    (λ c. search needs)
+    (λ c. search needs)
+    (λ c κs. search needs)
+    (λ c. search needs)
+    (λ c. search needs)
+    (λ c. search needs)
+    (λ c κs. search needs)
+    (λ c. search needs)
+    (λ c. search needs)
+    (λ c κs. search needs)
+    (λ c. search (needs, at-numbers)))

@@ -1,0 +1,77 @@
+// The stations' rows (document 01: kept bytes are a proper part of a frame, and a broken stream keeps none).
+ghost use mathlib.Core.Path.{_≡_};
+ghost use Prim.Native.Nat.{_*_, _<_};
+ghost use lib.ListN.{length};
+ghost use Rattle.table.specs.Rows.{testRows};
+ghost use Rattle.rules.specs.Frame.{framed};
+ghost use Rattle.rules.specs.State.{stationCount};
+ghost use Rattle.rules.specs.Memory.{stationWords, pendingBytes};
+ghost use Rattle.rules.specs.Valid.{isPart};
+ghost use Rattle.valid.specs.Tests.{stationTest};
+use crate::layout::*;
+use crate::words::zero_bytes;
+
+const MAX_BODY: usize = 2048;
+
+fn wide(b: u8) -> usize
+    ensures { λ r. ⌜ (r ≡ b) × (r < 256) ⌝ }
+{
+    b as usize
+}
+
+// A proper part of a frame.
+fn is_part(s: &[u8]) -> bool
+    ensures { λ r. ⌜ r ≡ isPart (framed (now (s .entry))) ⌝ }
+{
+    let n = s.len();
+    if n == 0 {
+        return true;
+    }
+    let a = wide(s[0]);
+    if a == 0 {
+        return false;
+    }
+    if a < 128 {
+        return n - 1 < a;
+    }
+    if n == 1 {
+        return true;
+    }
+    let b = wide(s[1]);
+    let size = a - 128 + 128 * b;
+    !((b == 0) | (128 <= b) | (MAX_BODY < size)) & (n - 2 < size)
+}
+
+// A row: nothing pending, or a proper part of a frame and no break; zeros past it.
+fn station_valid(words: &[u64], bytes: &[u8]) -> bool
+    requires { ⌜ (length (now words) ≡ stationWords) × (length (now bytes) ≡ pendingBytes) ⌝ }
+    ensures { λ r. ⌜ r ≡ stationTest (now (words .entry)) (now (bytes .entry)) ⌝ }
+{
+    let count = words[1];
+    let broken = words[2];
+    if count == 0 {
+        return (broken < 2) & zero_bytes(bytes);
+    }
+    if (PENDING_BYTES as u64) < count {
+        return false;
+    }
+    let n = count as usize;
+    (broken == 0) & is_part(&bytes[0..n]) & zero_bytes(&bytes[n..PENDING_BYTES])
+}
+
+pub fn stations_valid(rows: &[u64], pending: &[u8]) -> bool
+    requires { ⌜ (length (now rows) ≡ stationCount * stationWords) × (length (now pending) ≡ stationCount * pendingBytes) ⌝ }
+    ensures { λ r. ⌜ r ≡ testRows stationTest stationWords pendingBytes stationCount (now (rows .entry)) (now (pending .entry)) ⌝ }
+{
+    let mut ok = true;
+    let mut i: usize = 0;
+    while i < STATIONS {
+        let at = i * STATION_WORDS;
+        let end = at + STATION_WORDS;
+        let from = i * PENDING_BYTES;
+        let till = from + PENDING_BYTES;
+        ok = ok & station_valid(&rows[at..end], &pending[from..till]);
+        i += 1;
+    }
+    ok
+}
