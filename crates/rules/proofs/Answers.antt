@@ -51,7 +51,7 @@ use Rattle.rules.proofs.Steps.{Found, found-handle}
 use Rattle.rules.proofs.Frames.{frame-whole}
 
 -- a word takes at most ten bytes, a number of 32 bits at most five
-word : (n : ℕ) → n < 2 ^ 64 → length (encode n) ≤ 10
+pub word : (n : ℕ) → n < 2 ^ 64 → length (encode n) ≤ 10
 word n h = encode-width 64 9 n (omega arith) h
 
 -- numbers of w bits, one after the other
@@ -210,7 +210,7 @@ module _ (t : Token) (number : t .number < 2 ^ 64) (f : TokenFacts t) where
       each few ok n (here e) = omega arith
       each few ok n (there m) = omega (arith, lt32 n (all-mem is32 (t .limits .restricting) ok m))
 
-  class-fits : (class : ℕ) → length (Query.classBytes t class) ≤ most
+  pub class-fits : (class : ℕ) → length (Query.classBytes t class) ≤ most
   unfolding Query.classBytes Query.classes
   class-fits class =
       let elevation = upTo 1 3 (t .elevation) (omega arith) (f .elevation) in
@@ -331,7 +331,7 @@ some σ (need_else_then_ true r rest) = some σ rest
 some σ (need_else_then_ false r rest) = omega arith
 some σ (success after bytes) = omega arith
 
-frame-fits : (body : List ℕ) → length body ≤ suc most → length (frame body) ≤ maxAnswer
+pub frame-fits : (body : List ℕ) → length body ≤ suc most → length (frame body) ≤ maxAnswer
 unfolding frame
 frame-fits body h = let l = encode-width 14 1 (length body) (omega arith) (omega arith) in simp length-append (omega arith)
 

@@ -1,0 +1,58 @@
+-- From what a decision comes to for every state, to what the code did. Assumes nothing.
+use Prim.Native.Nat.{ℕ, zero, suc, _≤_, _<_}
+use native.Mathlib.Omega.{arith}
+use mathlib.Core.Path.{_≡_, refl, sym, ap, ap₂, _∙_, subst}
+use mathlib.Core.Bool.{true}
+use mathlib.Core.List.{List, [], _∷_, map}
+use lib.ListN.{length, set, length-map}
+use Rattle.rules.specs.State.{State, handleSlots}
+use Rattle.rules.specs.Valid.{valid}
+use Rattle.rules.specs.Decision.{Decision, Served, carriedOut}
+use Rattle.rules.specs.Memory.{slotHandle}
+use Rattle.rules.proofs.Facts.{valid-facts}
+use Rattle.handle.specs.Meaning.{handleOf}
+use Rattle.handle.specs.declared.Handle.{Handle}
+use Rattle.state.specs.Parts.{HandlesIn}
+use Rattle.state.specs.HandleFacts.{changed}
+use Rattle.state.specs.ReleaseFacts.{PartsIn}
+use Rattle.request.specs.declared.answer.Answer.{Answer}
+use Rattle.request.specs.declared.answer.Answer.the-variants as answers
+use Rattle.request.specs.declared.outcome.Outcome.{Outcome}
+use Rattle.request.specs.Answer.{answerOf, Fit}
+use Rattle.request.specs.Carried.{Ends, Carried}
+
+-- a slot past the end changes nothing
+set-past : {A : Type 0} (xs : List A) (i : ℕ) (a : A) → length xs ≤ i → set xs i a ≡ xs
+set-past [] i a h = refl
+set-past (x ∷ xs) zero a h = absurd (omega arith)
+set-past (x ∷ xs) (suc i) a h = ap (λ ys. x ∷ ys) (set-past xs i a (omega arith))
+
+handles-long : (σ : State) (hs : List Handle) → valid σ ≡ true → HandlesIn σ hs → length hs ≡ handleSlots
+handles-long σ hs v i =
+    sym (length-map hs handleOf) ∙ ap length (i .records) ∙ length-map (σ .handles .slots) slotHandle ∙ valid-facts σ v .loose .handles .sized
+
+no-change : (σ : State) (hs : List Handle) (a : Answer) (r : Outcome) → valid σ ≡ true → HandlesIn σ hs → Ends a r → changed hs (r .change) ≡ hs
+no-change σ hs a r v i e = set-past hs (r .change .slot) (r .change .handle) (let l = handles-long σ hs v i in let s = e .slot in omega arith)
+
+module _ {x : State → Decision} {hs : List Handle} {ss ts ds : List ℕ} where
+  -- a refusal: nothing changes
+  pub refuses : (n : ℕ) (r : Outcome) → Ends (answers.Refused n) r → n < 128
+      → ((σ : State) → valid σ ≡ true → PartsIn σ hs ss ts ds → carriedOut σ (x σ) ≡ record { state = σ; answer = n ∷ [] })
+      → Carried x hs ss ts ds ss ts ds r
+  refuses n r e l d = record {
+    parts = λ σ v p. rw (d σ v p) (rw (no-change σ hs (answers.Refused n) r v (p .handles) e) p);
+    answer = λ σ v p. rw (d σ v p) (ap (answerOf ts ds) (e .answer));
+    fit = λ σ v p. subst (Fit ts ds) (sym (e .answer)) l;
+  }
+
+  -- an effect that changes no handle
+  pub ends-with : (a : Answer) (r : Outcome) {ss′ ts′ ds′ : List ℕ} → Ends a r
+      → ((σ : State) → valid σ ≡ true → PartsIn σ hs ss ts ds → Fit ts′ ds′ a)
+      → ((σ : State) → valid σ ≡ true → PartsIn σ hs ss ts ds → PartsIn (carriedOut σ (x σ) .state) hs ss′ ts′ ds′)
+      → ((σ : State) → valid σ ≡ true → PartsIn σ hs ss ts ds → answerOf ts′ ds′ a ≡ carriedOut σ (x σ) .answer)
+      → Carried x hs ss ts ds ss′ ts′ ds′ r
+  ends-with a r {ss′} {ts′} {ds′} e g f d = record {
+    parts = λ σ v p. rw (no-change σ hs a r v (p .handles) e) (f σ v p);
+    answer = λ σ v p. ap (answerOf ts′ ds′) (e .answer) ∙ d σ v p;
+    fit = λ σ v p. subst (Fit ts′ ds′) (sym (e .answer)) (g σ v p);
+  }

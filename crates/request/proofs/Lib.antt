@@ -1,0 +1,16 @@
+pub mod ClassBodies
+pub mod Answers
+pub mod Deciding
+pub mod LookupLaws
+pub mod Regrouped
+pub mod Pairs
+pub mod Passes
+pub mod Adjusting
+pub mod Switching
+pub mod Reports
+pub mod Layouts
+pub mod Bodies
+pub mod Folding
+pub mod Creating
+pub mod Restricting
+pub mod Bytes

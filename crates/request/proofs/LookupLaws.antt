@@ -1,0 +1,98 @@
+-- How a request that names a handle is decided, from what looking the handle up gave. Assumes nothing.
+use Prim.Native.Nat.{ℕ, _<_}
+use native.Mathlib.Omega.{arith}
+use mathlib.Core.Path.{_≡_, refl, sym, ap, ap₂, _∙_}
+use mathlib.Core.Bool.{Bool, true, false, not}
+use mathlib.Core.List.{List, [], _∷_}
+use lib.Dec.{eqb}
+use borrow.Author.Tests.{eq-eqb, ne-eqb}
+use Rattle.rules.specs.Mask.{permits}
+use Rattle.rules.specs.Refusal.{refusal, notALiveHandle, rightMissing}
+use Rattle.rules.specs.Table.{isLive}
+use Rattle.rules.specs.Handle as rules
+use Rattle.rules.specs.Token.{Token}
+use Rattle.rules.specs.Valid.{valid}
+use Rattle.rules.specs.State as state
+use Rattle.rules.specs.State.{State, findHandle, tokenOf}
+use Rattle.rules.specs.Decision.{Decision, Served, carriedOut, need_else_then_, withHandle}
+use Rattle.rules.proofs.Facts.{valid-facts}
+use Rattle.rules.proofs.Steps.{Found, found-handle}
+use Rattle.handle.specs.declared.Handle.{Handle}
+use Rattle.state.specs.Parts.{HandlesIn}
+use Rattle.state.specs.HandleFacts.{HandleGiven}
+use Rattle.request.specs.declared.lookup.Target.{Target}
+use Rattle.request.specs.declared.outcome.Outcome.{Outcome}
+use Rattle.request.specs.declared.answer.Answer.the-variants as answers
+use Rattle.request.specs.Carried.{Ends, Carried}
+use Rattle.request.specs.Lookup.{refusalNumber, handleRefusal, LookedUp}
+use Rattle.request.proofs.Deciding.{refuses}
+
+-- ---- lookup itself
+
+module _ (h : Handle) (right : ℕ) where
+  pub not-live : h .number ≡ 0 → 2 ≡ handleRefusal h right
+  not-live e = rw (eq-eqb (h .number) 0 e)
+
+  module _ {b : Bool} (live : h .number ≡ 0 → ⊥) (e : b ≡ permits (h .mask) right) where
+    pub permitted : b ≡ true → 0 ≡ handleRefusal h right
+    permitted t = rw (ne-eqb (h .number) 0 live, sym e ∙ t)
+
+    pub forbidden : b ≡ false → 3 ≡ handleRefusal h right
+    forbidden t = rw (ne-eqb (h .number) 0 live, sym e ∙ t)
+
+refusal-small : (known permitted : Bool) → refusalNumber known permitted < 128
+refusal-small true true = omega arith
+refusal-small true false = omega arith
+refusal-small false permitted = omega arith
+
+pub looks-up : {s n right k : ℕ} {hs : List Handle} {h : Handle} → HandleGiven s n hs h → k ≡ handleRefusal h right
+    → LookedUp s n right hs (record { refusal = k; handle = h })
+looks-up {right = right} {h = h} g e = record {
+  small = let l : handleRefusal h right < 128 = refusal-small (not (eqb (h .number) 0)) (permits (h .mask) right) in rw e l;
+  handle = g .handle;
+  refusal = λ σ v i. e ∙ ap₂ refusalNumber (sym (g .live σ v i)) (ap (λ (x : rules.Handle). permits (x .mask) right) (g .handle σ v i));
+}
+
+-- ---- the decision
+
+abbrev decide : (σ : State) (known permitted : Bool) (rest : Decision) → Served
+decide σ known permitted rest =
+    carriedOut σ (need known else notALiveHandle then need permitted else rightMissing then rest)
+
+refused : (σ : State) (known permitted : Bool) (rest : Decision) → (refusalNumber known permitted ≡ 0 → ⊥)
+    → decide σ known permitted rest ≡ record { state = σ; answer = refusalNumber known permitted ∷ [] }
+unfolding carriedOut refusal
+refused σ true true rest f = absurd (f refl)
+refused σ true false rest f = refl
+refused σ false permitted rest f = refl
+
+passed : (σ : State) (known permitted : Bool) (rest : Decision) → refusalNumber known permitted ≡ 0 → decide σ known permitted rest ≡ carriedOut σ rest
+unfolding carriedOut
+passed σ true true rest e = refl
+passed σ true false rest e = absurd (omega arith)
+passed σ false permitted rest e = absurd (omega arith)
+
+is-known : (known permitted : Bool) → refusalNumber known permitted ≡ 0 → known ≡ true
+is-known true permitted e = refl
+is-known false permitted e = absurd (omega arith)
+
+module _ {s n right : ℕ} {hs : List Handle} {t : Target} (l : LookedUp s n right hs t) where
+  module _ (σ : State) (v : valid σ ≡ true) (i : HandlesIn σ hs) (go : rules.Handle → Token → Decision) where
+    pub looked-up-refused : (t .refusal ≡ 0 → ⊥) → carriedOut σ (withHandle σ s n right go) ≡ record { state = σ; answer = t .refusal ∷ [] }
+    unfolding withHandle
+    looked-up-refused f =
+        rw (l .refusal σ v i) (refused σ (isLive (findHandle σ s n)) (permits (state.handleOf σ s n .mask) right) _ (rw (l .refusal σ v i) at f))
+
+    pub looked-up : t .refusal ≡ 0
+        → carriedOut σ (withHandle σ s n right go) ≡ carriedOut σ (go (state.handleOf σ s n) (tokenOf σ (state.handleOf σ s n .token)))
+    unfolding withHandle
+    looked-up e = passed σ (isLive (findHandle σ s n)) (permits (state.handleOf σ s n .mask) right) _ (sym (l .refusal σ v i) ∙ e)
+
+  pub looked-up-found : (σ : State) → valid σ ≡ true → HandlesIn σ hs → t .refusal ≡ 0 → Found σ (state.handleOf σ s n)
+  looked-up-found σ v i e =
+      found-handle σ s n (valid-facts σ v) (is-known (isLive (findHandle σ s n)) (permits (state.handleOf σ s n .mask) right) (sym (l .refusal σ v i) ∙ e))
+
+  -- the refusal of any request that begins with the handle
+  pub handle-refuses : {ss ts ds : List ℕ} (go : State → rules.Handle → Token → Decision) (r : Outcome) → Ends (answers.Refused (t .refusal)) r → (t .refusal ≡ 0 → ⊥)
+      → Carried (λ σ. withHandle σ s n right (go σ)) hs ss ts ds ss ts ds r
+  handle-refuses go r e f = refuses (t .refusal) r e (l .small) (λ σ v p. looked-up-refused σ v (p .handles) (go σ) f)

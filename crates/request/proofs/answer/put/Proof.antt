@@ -1,0 +1,20 @@
+-- The numbers, and no plain bytes. Assumes nothing.
+use borrow.Author.Needs.{needs}
+use Rattle.request.proofs.Answers.{put-room, put-framed}
+use Rattle.request.proofs.answer.put.Statement.{statement}
+use Rattle.request.proofs.answer.put.Tie as tie
+
+pub put-spec : {M : Type 1} → statement M
+put-spec =
+    tie.close
+    (tie.spec
+    (λ c κs. search needs)
+    (λ c. search needs)
+    (λ c. search needs)
+    (λ c. search needs)
+    (λ c. search needs)
+    (λ c. search needs)
+    (λ c. search needs)
+    (λ c κs. search (needs, put-room))
+    (λ c. search needs)
+    (λ c. search (needs, put-framed)))

@@ -1,0 +1,15 @@
+-- The status is counted and taken off. Assumes nothing.
+use borrow.Author.Needs.{needs}
+use Rattle.request.proofs.Answers.{status-counted, class-counted}
+use Rattle.request.proofs.class.size.Statement.{statement}
+use Rattle.request.proofs.class.size.Tie as tie
+
+pub size-spec : {M : Type 1} → statement M
+size-spec =
+    tie.close
+    (tie.spec
+    (λ c κs. search needs)
+    (λ c κs. search needs)
+    (λ c. search (needs, status-counted))
+    (λ c. search needs)
+    (λ c. search (needs, class-counted)))

@@ -1,0 +1,19 @@
+-- `adjust` meets its contract. Assumes nothing.
+use borrow.Author.Needs.{needs}
+use Rattle.request.proofs.Switching.{was-reset, was-bad, was-protected, was-switched}
+use Rattle.request.proofs.groups.adjust.Statement.{statement}
+use Rattle.request.proofs.groups.adjust.Tie as tie
+
+pub adjust-spec : {M : Type 1} → statement M
+adjust-spec =
+    tie.close
+    (tie.spec
+    (λ c κs. search needs)
+    (λ c κs. search needs)
+    (λ c κs. search needs)
+    (λ c. search (needs, was-reset))
+    (λ c κs. search needs)
+    (λ c. search (needs, was-bad))
+    (λ c. search (needs, was-protected))
+    (λ c κs. search needs)
+    (λ c. search (needs, was-switched)))

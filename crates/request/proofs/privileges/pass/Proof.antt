@@ -1,0 +1,33 @@
+-- `pass` meets its contract. The loop's invariant: the entries still to come, from here on, give what all entries give. Assumes nothing.
+use mathlib.Core.Path.{_≡_, refl}
+use lib.ListN.{drop}
+use borrow.Author.Needs.{needs}
+use Rattle.rules.specs.AdjustPrivileges.{validEntry, applied}
+use Rattle.rules.specs.Request.{times, entry}
+use Rattle.privilege.specs.Meaning.{privilegesOf}
+use Rattle.request.specs.Entries.{onward, passed}
+use Rattle.request.specs.Adjusting.{progressOf}
+use Rattle.request.proofs.Passes.{pass-end, pass-lost, pass-next}
+use Rattle.request.proofs.privileges.pass.Statement.{statement}
+use Rattle.request.proofs.privileges.pass.Tie as tie
+
+abbrev Inv : tie.InvT-loop
+Inv p s start count g₀ at₀ left₀ g at left = onward (validEntry (privilegesOf p)) applied (progressOf g) (times left entry (drop at s)) ≡ passed (validEntry (privilegesOf p)) applied (privilegesOf p) (times count entry (drop start s))
+
+abbrev μ : tie.MeasureT-loop
+μ p s start count g₀ at₀ left₀ g at left = left
+
+pub pass-spec : {M : Type 1} → statement M
+pass-spec =
+    tie.close
+    (tie.spec Inv μ
+    (λ c. refl)
+    (λ c κs. search needs)
+    (λ c. search needs)
+    (λ c. search needs)
+    (λ c. search (needs, pass-lost))
+    (λ c κs. search needs)
+    (λ c. search needs)
+    (λ c. search needs)
+    (λ c. search (needs, pass-next))
+    (λ c. search (needs, pass-end)))

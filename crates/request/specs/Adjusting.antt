@@ -1,0 +1,28 @@
+-- What request 5's entries do to a token's privileges. Assumes nothing.
+use Prim.Native.Nat.{ℕ}
+use mathlib.Core.Bool.{_||_}
+use mathlib.Core.List.{List}
+use Rattle.rules.specs.Basic.{if_then_else_}
+use Rattle.rules.specs.Number.{Read, got, bad}
+use Rattle.rules.specs.Entry.{Entry, validEntries}
+use Rattle.rules.specs.Privileges.{Privileges}
+use Rattle.rules.specs.AdjustPrivileges.{isReset, validEntry, adjusted, previous}
+use Rattle.privilege.specs.Meaning.{privilegesOf}
+use Rattle.request.specs.Entries as entries
+use Rattle.request.specs.declared.privileges.Adjusted.{Adjusted}
+use Rattle.request.specs.declared.privileges.Progress.{Progress}
+
+-- the privileges after the entries and the previous enabled bits; or some entry is bad
+pub data Outcome : Type 0 where
+  done : Privileges → ℕ → Outcome
+  refused : Outcome
+
+unfoldable pub judged : Privileges → Read (List Entry) → Outcome
+judged p (got es bytes) = if isReset es || validEntries (validEntry p) es then done (adjusted es p) (previous es p) else refused
+judged p bad = refused
+
+abbrev pub outcomeOf : Adjusted → Outcome
+outcomeOf r = if r .ok then done (privilegesOf (r .privileges)) (r .previous) else refused
+
+abbrev pub progressOf : Progress → entries.Progress Privileges
+progressOf g = if g .ok then entries.going (privilegesOf (g .made)) (g .named) else entries.stopped

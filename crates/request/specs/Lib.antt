@@ -1,0 +1,11 @@
+pub mod Body
+pub mod Answer
+pub mod Carried
+pub mod Lookup
+pub mod Layout
+pub mod Entries
+pub mod Creating
+pub mod Adjusting
+pub mod Switching
+pub mod Restricting
+pub mod Bytes

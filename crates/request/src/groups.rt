@@ -1,0 +1,212 @@
+// Request 6: the entries judged against a token's groups, and made on a copy of them.
+ghost use mathlib.Core.Path.{_≡_};
+ghost use mathlib.Core.List.{map};
+ghost use Prim.Native.Nat.{_≤_, _<_};
+ghost use lib.ListN.{take, drop};
+ghost use Rattle.rules.specs.Basic.{if_then_else_, changeAt};
+ghost use Rattle.rules.specs.Group.{isOn, switched};
+ghost use Rattle.rules.specs.Request.{times, entry};
+ghost use Rattle.rules.specs.Token.{maxGroups, withGroups};
+ghost use Rattle.rules.specs.AdjustGroups.{validEntry, maySwitch, unprotected, resetGroup, onBits};
+ghost use Rattle.token.specs.Meaning.{groupOf, tokenOf, Sized};
+ghost use Rattle.request.specs.Entries.{entryOf, turned, passed};
+ghost use Rattle.request.specs.Switching.{outcomeOf, progressOf, made, begun, judged};
+use crate::attributes;
+use crate::entry;
+use crate::entry::Pair;
+use privilege::words;
+use token::Group;
+use token::MAX_GROUPS;
+use token::Token;
+
+// The token after the entries; or, where the refusal is not 0, some entry is bad (5) or asks for what is protected (6).
+pub struct Switched {
+    pub refusal: u64,
+    pub token: Token,
+}
+
+const BAD_FIELD: u64 = 5;
+
+const PROTECTED_GROUP: u64 = 6;
+
+// The groups so far, whether no entry asked for what is protected, and the word of the indexes named so far, as long as no entry was bad.
+struct Progress {
+    ok: bool,
+    free: bool,
+    named: u64,
+    groups: [Group; MAX_GROUPS],
+}
+
+// ---- one group
+
+// Protected: disabling a mandatory, logon or user-SID group that is not deny-only, and enabling a deny-only one.
+fn may_switch(user: u32, value: u64, g: Group) -> bool
+    ensures { λ r. ⌜ r ≡ maySwitch user value (groupOf g) ⌝ }
+{
+    if value == 0 {
+        attributes::is_deny_only(g) | !attributes::is_fixed(user, g)
+    } else {
+        !attributes::is_deny_only(g)
+    }
+}
+
+// ENABLED from value 2, but in deny-only groups.
+fn reset_group(g: Group) -> Group
+    ensures { λ r. ⌜ groupOf r ≡ resetGroup (groupOf g) ⌝ }
+{
+    if attributes::is_deny_only(g) {
+        return g;
+    }
+    attributes::switched(g, attributes::is_on_by_default(g))
+}
+
+// ---- the list
+
+fn reset_all(groups: [Group; MAX_GROUPS], count: usize) -> [Group; MAX_GROUPS]
+    requires { ⌜ count ≤ maxGroups ⌝ }
+    ensures { λ r. ⌜ map groupOf (take count r) ≡ map resetGroup (map groupOf (take count groups)) ⌝ }
+{
+    let mut next = groups;
+    let mut i: usize = 0;
+    while i < count {
+        let g = reset_group(next[i]);
+        next[i] = g;
+        i += 1;
+    }
+    next
+}
+
+pub fn with_groups(t: Token, groups: [Group; MAX_GROUPS]) -> Token
+    requires { ⌜ Sized t ⌝ }
+    ensures { λ r. ⌜ (tokenOf r ≡ withGroups (map groupOf (take (t .«group_count») groups)) (tokenOf t)) × Sized r ⌝ }
+{
+    let mut next = t;
+    next.groups = groups;
+    next
+}
+
+fn switched_at(groups: [Group; MAX_GROUPS], key: u64, on: bool) -> [Group; MAX_GROUPS]
+    requires { ⌜ key < maxGroups ⌝ }
+    ensures { λ r. ⌜ map groupOf r ≡ changeAt key (switched on) (map groupOf groups) ⌝ }
+{
+    let mut next = groups;
+    let i = key as usize;
+    let g = attributes::switched(next[i], on);
+    next[i] = g;
+    next
+}
+
+// ---- the entries
+
+fn is_unprotected(t: Token, key: u64, value: u64) -> bool
+    requires { ⌜ Sized t × (key < t .«group_count») ⌝ }
+    ensures { λ r. ⌜ r ≡ unprotected (tokenOf t) (entryOf key value) ⌝ }
+{
+    let i = key as usize;
+    may_switch(t.identity.user, value, t.groups[i])
+}
+
+fn turn(t: Token, g: Progress, key: u64, value: u64) -> Progress
+    requires { ⌜ Sized t ⌝ }
+    ensures { λ r. ⌜ progressOf t r ≡ turned (validEntry (tokenOf t .groups)) (made (tokenOf t)) (entryOf key value) (progressOf t g) ⌝ }
+{
+    let groups = g.groups;
+    let named = g.named;
+    let valid = (key < t.group_count as u64) & (value <= 1);
+    if g.ok & valid & !words::has(named, key) {
+        let next = switched_at(groups, key, value == 1);
+        return Progress {
+            ok: true,
+            free: g.free & is_unprotected(t, key, value),
+            named: words::with(named, words::bit(key)),
+            groups: next,
+        };
+    }
+    Progress {
+        ok: false,
+        free: false,
+        named,
+        groups,
+    }
+}
+
+fn pass(t: Token, s: &[u8], start: usize, count: u64) -> Progress
+    requires { ⌜ Sized t ⌝ }
+    ensures { λ r. ⌜ progressOf t r ≡ passed (validEntry (tokenOf t .groups)) (made (tokenOf t)) (begun (tokenOf t)) (times count entry (drop start (now (s .entry)))) ⌝ }
+{
+    let groups = t.groups;
+    let mut g = Progress {
+        ok: true,
+        free: true,
+        named: 0,
+        groups,
+    };
+    let mut at = start;
+    let mut left = count;
+    while 0 < left {
+        let Pair::Got { key, value, next } = entry::read(s, at) else {
+            g.ok = false;
+            return g;
+        };
+        g = turn(t, g, key, value);
+        at = next;
+        left -= 1;
+    }
+    g
+}
+
+// The count entries that stand at a place of a body. A bad entry goes before a protected one, wherever it stands.
+pub fn adjust(t: Token, s: &[u8], at: usize, count: u64) -> Switched
+    requires { ⌜ Sized t ⌝ }
+    ensures { λ r. ⌜ (outcomeOf r ≡ judged (tokenOf t) (times count entry (drop at (now (s .entry))))) × Sized (r .token) ⌝ }
+{
+    if entry::is_just(number::U32, 0, s, at, count) {
+        let was = t.groups;
+        let groups = reset_all(was, t.group_count);
+        return Switched {
+            refusal: 0,
+            token: with_groups(t, groups),
+        };
+    }
+    let g = pass(t, s, at, count);
+    if !(g.ok & (count != 0)) {
+        return Switched {
+            refusal: BAD_FIELD,
+            token: t,
+        };
+    }
+    if !g.free {
+        return Switched {
+            refusal: PROTECTED_GROUP,
+            token: t,
+        };
+    }
+    let groups = g.groups;
+    Switched {
+        refusal: 0,
+        token: with_groups(t, groups),
+    }
+}
+
+// ---- the report
+
+fn on_bit(g: Group) -> u64
+    ensures { λ r. ⌜ r ≡ (if isOn (groupOf g) then 1 else 0) ⌝ }
+{
+    if attributes::is_on(g) { 1 } else { 0 }
+}
+
+// The ENABLED bits, group i at bit i.
+pub fn enabled_word(t: Token) -> u64
+    requires { ⌜ Sized t ⌝ }
+    ensures { λ r. ⌜ r ≡ onBits (tokenOf t .groups) ⌝ }
+{
+    let groups = t.groups;
+    let mut i = t.group_count;
+    let mut w: u64 = 0;
+    while 0 < i {
+        i -= 1;
+        w = on_bit(groups[i]) + 2 * w;
+    }
+    w
+}

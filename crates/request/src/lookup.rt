@@ -1,0 +1,37 @@
+// The handle that a request names.
+ghost use mathlib.Core.Path.{_≡_};
+ghost use Rattle.request.specs.Lookup.{handleRefusal, LookedUp};
+use handle::Handle;
+use handle::Handles;
+use privilege::mask::Mask;
+use state::handles::find_handle;
+
+// The handle, and the refusal that it brings: 0 if there is none.
+pub struct Target {
+    pub refusal: u64,
+    pub handle: Handle,
+}
+
+// It is not the station's live handle, or lacks the right.
+fn refusal_of(found: Handle, right: Mask) -> u64
+    ensures { λ r. ⌜ r ≡ handleRefusal found (right .0) ⌝ }
+{
+    if found.number == 0 {
+        return 2;
+    }
+    let mask = Mask(found.mask);
+    if mask.permits(right) {
+        return 0;
+    }
+    3
+}
+
+pub fn lookup(station: u32, number: u32, right: Mask, handles: Handles) -> Target
+    ensures { λ r. ⌜ LookedUp station number (right .0) (handles .items) r ⌝ }
+{
+    let found = find_handle(station, number, handles);
+    Target {
+        refusal: refusal_of(found, right),
+        handle: found,
+    }
+}
