@@ -59,7 +59,8 @@ impl Lent {
     pub fn or(&self) -> u64 {
         let words = |s: &[u64]| s.iter().fold(0, |a, w| a | w);
         let bytes = |s: &[u8]| {
-            s.chunks_exact(8).fold(0, |a, b| b.try_into().map_or(a, |w| a | u64::from_ne_bytes(w)))
+            let word = |b: &[u8]| u64::from_ne_bytes(b.try_into().unwrap_or_default());
+            s.chunks_exact(8).fold(0, |a, b| a | word(b))
         };
         let m = &self.memory;
         words(&m.tokens) | words(&self.rows) | words(&m.stations) | bytes(&m.dacls) | bytes(&m.pending)
