@@ -1,6 +1,7 @@
 pub mod ClassBodies
 pub mod Answers
 pub mod Deciding
+pub mod InstallLaws
 pub mod LookupLaws
 pub mod Regrouped
 pub mod Pairs
@@ -14,3 +15,11 @@ pub mod Folding
 pub mod Creating
 pub mod Restricting
 pub mod Bytes
+pub mod Changing
+pub mod AdjustsPrivileges
+pub mod AdjustsGroups
+pub mod Defaulting
+pub mod AdjustsDefaults
+pub mod Scoping
+pub mod Querying
+pub mod OpenClose

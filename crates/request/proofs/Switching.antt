@@ -74,7 +74,7 @@ module _ {n : ℕ} {xs ys : List Code.Group} {i : ℕ} (u : Updating resetIn n x
 
 -- ---- one entry
 
-in-groups : (n i : ℕ) (xs : List Code.Group) (z : Code.Group) → i < n → i < length xs → getD (map groupOf (take n xs)) i noGroup ≡ groupOf (getD xs i z)
+pub in-groups : (n i : ℕ) (xs : List Code.Group) (z : Code.Group) → i < n → i < length xs → getD (map groupOf (take n xs)) i noGroup ≡ groupOf (getD xs i z)
 in-groups zero i xs z h l = absurd (omega arith)
 in-groups (suc n) i [] z h l = absurd (omega arith)
 in-groups (suc n) zero (x ∷ xs) z h l = refl

@@ -9,3 +9,9 @@ pub mod Adjusting
 pub mod Switching
 pub mod Restricting
 pub mod Bytes
+pub mod Subject
+pub mod Adjusts
+pub mod Defaults
+pub mod Scope
+pub mod Query
+pub mod Install

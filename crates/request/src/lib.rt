@@ -1,13 +1,23 @@
 // The eleven requests: each decided and carried out as the rules say, over the parts that hold the state.
+pub mod adjust_defaults;
+pub mod adjust_groups;
+pub mod adjust_privileges;
 pub mod answer;
 pub mod attributes;
 pub mod class;
+pub mod close;
 pub mod create;
 pub mod dacl;
+pub mod defaults;
 pub mod entry;
 pub mod groups;
+pub mod install;
 pub mod layout;
 pub mod lookup;
+pub mod open;
 pub mod outcome;
 pub mod privileges;
+pub mod query;
 pub mod restrict;
+pub mod scope;
+pub mod subject;

@@ -54,7 +54,7 @@ changed-is : (d : State) (m n : ℕ) (g : Token → Token) → Is d n → Is (ch
 unfolding changeToken
 changed-is d m n g i = is-live (changeToken m g d) n (rw (put-numbers d (g (tokenOf d m))) (is-number d n i))
 
-same-identity : (d e : State) (n : ℕ) → StateFacts d → Advance d e → Is d n → Is e n → tokenOf e n .identity ≡ tokenOf d n .identity
+pub same-identity : (d e : State) (n : ℕ) → StateFacts d → Advance d e → Is d n → Is e n → tokenOf e n .identity ≡ tokenOf d n .identity
 unfolding numberOf
 same-identity d e n f st i j =
     let below = f .loose .tokens .given n (is-number d n i) .1 in
@@ -71,11 +71,11 @@ next-64 d h = let k = ltb-true (d .tokens .next) max64 (and-r (someFree (d .toke
 
 -- ---- used marks
 
-record Marked (d e : State) : Type 0 where
-  step : Advance d e
-  is : (n : ℕ) → Is d n → Is e n
+pub record Marked (d e : State) : Type 0 where
+  pub step : Advance d e
+  pub is : (n : ℕ) → Is d n → Is e n
 
-mark : (d : State) (s n : ℕ) → StateFacts d → s < stationCount → has n existing ≡ true → Marked d (used n s d)
+pub mark : (d : State) (s n : ℕ) → StateFacts d → s < stationCount → has n existing ≡ true → Marked d (used n s d)
 unfolding used
 mark d s n f in8 h =
     let r = callerNumber d s in
@@ -95,7 +95,7 @@ unfolding used changeToken putToken withTokens withSlots
 marked-next d s n = refl
 
 -- request 11's marks
-marks : (d : State) (s : ℕ) (t : Token) → StateFacts d → s < stationCount → Marked d (Install.marked s t d)
+pub marks : (d : State) (s : ℕ) (t : Token) → StateFacts d → s < stationCount → Marked d (Install.marked s t d)
 unfolding Install.marked has
 marks d s t f in8 =
     let once = used assignPrimaryToken s d in

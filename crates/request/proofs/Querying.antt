@@ -1,0 +1,135 @@
+-- Request 4: how it ends. Assumes nothing.
+use Prim.Native.Nat.{ℕ, zero, suc, _≤_, _<_}
+use native.Mathlib.Omega.{arith}
+use mathlib.Core.Path.{_≡_, refl, sym, ap, _∙_}
+use mathlib.Core.Bool.{true, false, not, _&&_}
+use mathlib.Core.List.{List, [], _∷_, map}
+use lib.Dec.{eqb, leb}
+use lib.ListN.{length, getD}
+use borrow.Author.Tests.{not-true, not-false, le-leb, lt-leb}
+use Rattle.table.specs.Table.{record-at}
+use Rattle.table.specs.Rows.{rows-at}
+use Rattle.rules.specs.Mask as mask
+use Rattle.rules.specs.Refusal.{refusal, capacityBelow}
+use Rattle.rules.specs.Handle as rules
+use Rattle.rules.specs.Token as Rules
+use Rattle.rules.specs.Token.{maxDacl}
+use Rattle.rules.specs.Table.{Slot, free, live, isLive, orElse, found, lives}
+use Rattle.rules.specs.Growth.{Mem}
+use Rattle.rules.specs.Index.{foundIndex}
+use Rattle.rules.specs.Memory.{tokenWords, slotAt}
+use Rattle.rules.specs.Valid.{valid}
+use Rattle.rules.specs.State as state
+use Rattle.rules.specs.State.{State, tokenSlots, noToken, numberOf, isNumbered}
+use Rattle.rules.specs.Query.{query, classBytes}
+use Rattle.rules.specs.Decision.{carriedOut}
+use Rattle.rules.proofs.Logic.{not-both, mem-by}
+use Rattle.rules.proofs.Facts.{valid-facts, facts-token}
+use Rattle.rules.proofs.Index.{found-at}
+use Rattle.rules.proofs.Tables.{found-some}
+use Rattle.rules.proofs.Steps.{is-live}
+use Rattle.handle.specs.declared.Handle.{Handle}
+use Rattle.token.specs.Meaning.{tokenOf}
+use Rattle.token.specs.declared.Token.{Token}
+use Rattle.state.specs.Parts.{TokensIn}
+use Rattle.state.specs.TokenCalls.{TokenGiven}
+use Rattle.state.specs.ReleaseFacts.{PartsIn}
+use Rattle.state.proofs.Slots.{live-or}
+use Rattle.state.proofs.TokenLooks.{FoundAt, slots-read, slots-long}
+use Rattle.request.specs.declared.lookup.Target.{Target}
+use Rattle.request.specs.declared.outcome.Outcome.{Outcome}
+use Rattle.request.specs.declared.answer.Answer.{Answer}
+use Rattle.request.specs.declared.answer.Answer.the-variants as answers
+use Rattle.request.specs.Answer.{tokenIn, answerOf}
+use Rattle.request.specs.Carried.{Ends, Carried}
+use Rattle.request.specs.Lookup.{LookedUp}
+use Rattle.request.specs.Query.{classDecision, ClassAnswered}
+use Rattle.request.proofs.Deciding.{ends-with}
+use Rattle.request.proofs.LookupLaws.{looked-up, looked-up-found, handle-refuses}
+
+-- ---- the slot of a live token
+
+live-inside : {A : Type 0} (ps : List (Slot A)) (i : ℕ) → isLive (getD ps i free) ≡ true → i < length ps
+unfolding isLive
+live-inside [] i h = absurd (not-both h refl)
+live-inside (p ∷ ps) zero h = omega arith
+live-inside (p ∷ ps) (suc i) h = let k = live-inside ps i h in omega arith
+
+record SlotOf (σ : State) (n i : ℕ) (ts ds : List ℕ) : Type 0 where
+  inside : i < tokenSlots
+  token : tokenIn ts ds i ≡ state.tokenOf σ n
+
+slot-of : (σ : State) (n i : ℕ) (ts ds : List ℕ) → valid σ ≡ true → TokensIn σ ts ds → FoundAt n ts i
+    → Mem n (map numberOf (lives (σ .tokens .slots))) → SlotOf σ n i ts ds
+unfolding state.tokenOf isNumbered numberOf slotAt orElse isLive
+slot-of σ n i ts ds v k at m = go (found-some numberOf n (σ .tokens .slots) m)
+  where
+    go : (t : Rules.Token) × (found (λ (x : Rules.Token). eqb (numberOf x) n) (σ .tokens .slots) ≡ live t) → SlotOf σ n i ts ds
+    go (t, e) =
+        let ps = σ .tokens .slots in
+        let read = slots-read v k in
+        let w : i ≡ foundIndex (isNumbered n) ps = at ds ∙ ap (foundIndex (isNumbered n)) read in
+        let there : getD ps i free ≡ live t = ap (λ (j : ℕ). getD ps j free) w ∙ sym (found-at (isNumbered n) ps) ∙ e in
+        let long = slots-long σ v in
+        let l : i < length ps = live-inside ps i (ap isLive there) in
+        let in16 : i < tokenSlots = omega arith in
+        let row : live t ≡ slotAt (record-at tokenWords i ts) (record-at maxDacl i ds) =
+        sym there ∙ ap (λ (qs : List (Slot Rules.Token)). getD qs i free) (sym read) ∙ rows-at slotAt tokenWords maxDacl free tokenSlots i ts ds in16 in
+        record {
+          inside = in16;
+          token = live-or noToken (eqb (getD (record-at tokenWords i ts) 0 0) 0) row refl ∙ ap (orElse noToken) (sym e);
+        }
+
+-- ---- a class of the token
+
+module _ (n class capacity : ℕ) {ts ds : List ℕ} where
+  pub class-unknown : not (leb 1 class && leb class 13) ≡ true → ClassAnswered n class capacity ts ds (answers.Refused 5)
+  unfolding carriedOut refusal
+  class-unknown h = record { answer = λ σ v i m. rw (not-true (leb 1 class && leb class 13) h); fit = λ σ v i m. omega arith }
+
+  module _ {t : Token} {size : ℕ} (h : not (leb 1 class && leb class 13) ≡ false) (g : TokenGiven n ts ds t) (e : size ≡ length (classBytes (tokenOf t) class)) where
+    size-is : (σ : State) → valid σ ≡ true → TokensIn σ ts ds → size ≡ length (classBytes (state.tokenOf σ n) class)
+    size-is σ v i = e ∙ ap (λ (x : Rules.Token). length (classBytes x class)) (g .token σ v i)
+
+    pub class-above : capacity < size → ClassAnswered n class capacity ts ds (answers.TooSmall size)
+    unfolding carriedOut capacityBelow
+    class-above l = record {
+      answer = λ σ v i m. rw (not-false (leb 1 class && leb class 13) h, sym (size-is σ v i), lt-leb size capacity l);
+      fit = λ σ v i m. tt;
+    }
+
+    pub class-given : {slot : ℕ} → size ≤ capacity → FoundAt n ts slot → ClassAnswered n class capacity ts ds (answers.Class slot class)
+    unfolding carriedOut
+    class-given {slot} l at = record {
+      answer = λ σ v i m.
+          rw (not-false (leb 1 class && leb class 13) h, sym (size-is σ v i), le-leb size capacity l, slot-of σ n slot ts ds v i at m .token);
+      fit = λ σ v i m.
+          let s = slot-of σ n slot ts ds v i at m in
+          (s .inside, rw (s .token) (facts-token (state.tokenOf σ n) (valid-facts σ v .loose .eachToken (state.tokenOf σ n) (is-live σ n m .was))));
+    }
+
+-- ---- the request
+
+module _ {s n : ℕ} (class capacity : ℕ) {hs : List Handle} {ss ts ds : List ℕ} {t : Target} (l : LookedUp s n mask.query hs t) where
+  pub query-refused : {r : Outcome} → (t .refusal ≡ 0 → ⊥) → Ends (answers.Refused (t .refusal)) r
+      → Carried (λ σ. query σ s n class capacity) hs ss ts ds ss ts ds r
+  unfolding query
+  query-refused {r} f e = handle-refuses l (λ σ h x. classDecision class capacity σ x) r e f
+
+  module _ {a : Answer} (found : t .refusal ≡ 0) (c : ClassAnswered (t .handle .token) class capacity ts ds a) where
+    is-there : (σ : State) → valid σ ≡ true → PartsIn σ hs ss ts ds → Mem (t .handle .token) (map numberOf (lives (σ .tokens .slots)))
+    unfolding numberOf
+    is-there σ v p =
+        let i = looked-up-found l σ v (p .handles) found .token in
+        mem-by numberOf (ap (λ (h : rules.Handle). h .token) (l .handle σ v (p .handles)) ∙ sym (i .number)) (i .was)
+
+    decided : (σ : State) → valid σ ≡ true → PartsIn σ hs ss ts ds
+        → carriedOut σ (query σ s n class capacity) ≡ record { state = σ; answer = answerOf ts ds a }
+    unfolding query
+    decided σ v p =
+        looked-up l σ v (p .handles) (λ h x. classDecision class capacity σ x) found
+        ∙ ap (λ (h : rules.Handle). carriedOut σ (classDecision class capacity σ (state.tokenOf σ (h .token)))) (sym (l .handle σ v (p .handles)))
+        ∙ c .answer σ v (p .tokens) (is-there σ v p)
+
+    pub query-answered : {r : Outcome} → Ends a r → Carried (λ σ. query σ s n class capacity) hs ss ts ds ss ts ds r
+    query-answered {r} e = ends-with a r e (λ σ v p. c .fit σ v (p .tokens) (is-there σ v p)) (λ σ v p. rw (decided σ v p) p) (λ σ v p. rw (decided σ v p))

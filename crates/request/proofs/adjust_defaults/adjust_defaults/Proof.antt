@@ -1,0 +1,24 @@
+-- Each way in which request 8 ends. Assumes nothing.
+use borrow.Author.Needs.{needs}
+use Rattle.request.proofs.AdjustsDefaults.{no-handle, bad-field, adjusts}
+use Rattle.request.proofs.adjust_defaults.adjust_defaults.Statement.{statement}
+use Rattle.request.proofs.adjust_defaults.adjust_defaults.Tie as tie
+
+pub adjust-defaults-spec : {M : Type 1} → statement M
+adjust-defaults-spec =
+    tie.close
+    (tie.spec
+    (λ c κs. search needs)
+    (λ c κs. search needs)
+    (λ c. search needs)
+    (λ c. search needs)
+    (λ c. search (needs, no-handle))
+    (λ c κs. search needs)
+    (λ c κs. search needs)
+    (λ c. search needs)
+    (λ c. search needs)
+    (λ c. search (needs, bad-field))
+    (λ c κs. search needs)
+    (λ c. search needs)
+    (λ c. search needs)
+    (λ c. search (needs, adjusts)))

@@ -1,0 +1,25 @@
+-- Each way in which request 5 ends. Assumes nothing.
+use borrow.Author.Needs.{needs}
+use Rattle.request.proofs.AdjustsPrivileges.{no-handle, bad-entry, adjusts}
+use Rattle.request.proofs.adjust_privileges.adjust_privileges.Statement.{statement}
+use Rattle.request.proofs.adjust_privileges.adjust_privileges.Tie as tie
+
+pub adjust-privileges-spec : {M : Type 1} → statement M
+adjust-privileges-spec =
+    tie.close
+    (tie.spec
+    (λ c κs. search needs)
+    (λ c κs. search needs)
+    (λ c. search needs)
+    (λ c. search needs)
+    (λ c. search (needs, no-handle))
+    (λ c κs. search needs)
+    (λ c κs. search needs)
+    (λ c. search needs)
+    (λ c. search needs)
+    (λ c. search (needs, bad-entry))
+    (λ c κs. search needs)
+    (λ c κs. search needs)
+    (λ c. search needs)
+    (λ c. search needs)
+    (λ c. search (needs, adjusts)))

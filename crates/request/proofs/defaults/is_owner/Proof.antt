@@ -1,0 +1,17 @@
+-- The user, no group, or a group by its attributes. Assumes nothing.
+use borrow.Author.Needs.{needs}
+use Rattle.request.proofs.Defaulting.{owner-user, owner-past, owner-group}
+use Rattle.request.proofs.defaults.is_owner.Statement.{statement}
+use Rattle.request.proofs.defaults.is_owner.Tie as tie
+
+pub is-owner-spec : {M : Type 1} → statement M
+is-owner-spec =
+    tie.close
+    (tie.spec
+    (λ c. search (needs, owner-user))
+    (λ c. search needs)
+    (λ c. search (needs, owner-past))
+    (λ c. search needs)
+    (λ c. search needs)
+    (λ c κs. search needs)
+    (λ c. search (needs, owner-group)))

@@ -1,0 +1,12 @@
+-- The fields, judged one by one. Assumes nothing.
+use borrow.Author.Needs.{needs}
+use Rattle.request.proofs.Defaulting.{judges}
+use Rattle.request.proofs.defaults.is_valid.Statement.{statement}
+use Rattle.request.proofs.defaults.is_valid.Tie as tie
+
+pub is-valid-spec : {M : Type 1} → statement M
+is-valid-spec =
+    tie.close
+    (tie.spec
+    (λ c κs. search needs)
+    (λ c. search (needs, judges)))

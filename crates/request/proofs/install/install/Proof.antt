@@ -1,0 +1,30 @@
+-- By the handle, the checks and the effect. Assumes nothing.
+use borrow.Author.Needs.{needs}
+use Rattle.request.proofs.InstallLaws.{no-handle, not-allowed, installed}
+use Rattle.request.proofs.install.install.Statement.{statement}
+use Rattle.request.proofs.install.install.Tie as tie
+
+pub install-spec : {M : Type 1} → statement M
+install-spec =
+    tie.close
+    (tie.spec
+    (λ c κs. search needs)
+    (λ c κs. search needs)
+    (λ c. search (needs, no-handle, c .before .before .before .lookup .ensures))
+    (λ c κs. search needs)
+    (λ c κs. search needs)
+    (λ c κs. search needs)
+    (λ c. search needs)
+    (λ c. search needs)
+    (λ c. search needs)
+    (λ c. search (needs, not-allowed, c .before .before .before .before .before .before .before .before .before .before .before .before .lookup .ensures))
+    (λ c κs. search needs)
+    (λ c κs. search needs)
+    (λ c. search needs)
+    (λ c. search needs)
+    (λ c. search needs)
+    (λ c.
+    let checked = c .before .before .before .before .before .before .before .before .before .before .before in
+    let found = checked .before .before .before .before .before .before .before .before .before in
+    installed (found .before .before .lookup .ensures) (found .if1 .left) (checked .before .before .before .before .before .matching .ensures) (checked .before .refusal-of .ensures)
+    (checked .if2 .left) (c .before .before .before .before .before .before .before .place .ensures) _ (c .ends .ensures)))

@@ -1,0 +1,16 @@
+-- A law for each answer. Assumes nothing.
+use borrow.Author.Needs.{needs}
+use Rattle.request.proofs.Querying.{class-unknown, class-above, class-given}
+use Rattle.request.proofs.query.class_of.Statement.{statement}
+use Rattle.request.proofs.query.class_of.Tie as tie
+
+pub class-of-spec : {M : Type 1} → statement M
+class-of-spec =
+    tie.close
+    (tie.spec
+    (λ c. search (needs, class-unknown))
+    (λ c κs. search needs)
+    (λ c κs. search needs)
+    (λ c. search (needs, class-above))
+    (λ c κs. search needs)
+    (λ c. search (needs, class-given)))

@@ -1,0 +1,16 @@
+-- The handle's refusal, or the class of its token. Assumes nothing.
+use borrow.Author.Needs.{needs}
+use Rattle.request.proofs.Querying.{query-refused, query-answered}
+use Rattle.request.proofs.query.query.Statement.{statement}
+use Rattle.request.proofs.query.query.Tie as tie
+
+pub query-spec : {M : Type 1} → statement M
+query-spec =
+    tie.close
+    (tie.spec
+    (λ c κs. search needs)
+    (λ c κs. search needs)
+    (λ c. query-refused _ _ (c .before .before .before .lookup .ensures) (search needs) (search needs))
+    (λ c κs. search needs)
+    (λ c κs. search needs)
+    (λ c. query-answered _ _ (c .before .before .before .before .lookup .ensures) (search needs) (c .before .class-of .ensures) (search needs)))

@@ -1,0 +1,17 @@
+-- The token of the number, changed and put back. Assumes nothing.
+use borrow.Author.Needs.{needs}
+use Rattle.request.proofs.Scoping.{scope-set}
+use Rattle.request.proofs.scope.set_scope.Statement.{statement}
+use Rattle.request.proofs.scope.set_scope.Tie as tie
+
+pub set-scope-spec : {M : Type 1} → statement M
+set-scope-spec =
+    tie.close
+    (tie.spec
+    (λ c κs. search needs)
+    (λ c κs. search needs)
+    (λ c κs. search needs)
+    (λ c κs. search needs)
+    (λ c. search needs)
+    (λ c. search needs)
+    (λ c. search (needs, scope-set)))

@@ -1,0 +1,16 @@
+-- What request 7's effect gives, for every valid state that the parts hold. Assumes nothing.
+use Prim.Native.Nat.{ℕ}
+use mathlib.Core.Path.{_≡_}
+use mathlib.Core.Bool.{true}
+use mathlib.Core.List.{List}
+use Rattle.rules.specs.Privileges.{tcb}
+use Rattle.rules.specs.Valid.{valid}
+use Rattle.rules.specs.State.{State, used, changeToken}
+use Rattle.rules.specs.AdjustScope.{scopedToken}
+use Rattle.state.specs.Parts.{TokensIn, StationsIn}
+
+pub record ScopeSet (n v : ℕ) (ts ds ts′ ds′ : List ℕ) : Type 0 where
+  pub tokens : (σ : State) → valid σ ≡ true → TokensIn σ ts ds → TokensIn (changeToken n (scopedToken v) σ) ts′ ds′
+
+pub record ScopeApplied (s n v : ℕ) (ts ds ss ts′ ds′ : List ℕ) : Type 0 where
+  pub tokens : (σ : State) → valid σ ≡ true → TokensIn σ ts ds → StationsIn σ ss → TokensIn (changeToken n (scopedToken v) (used tcb s σ)) ts′ ds′

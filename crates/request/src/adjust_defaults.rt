@@ -1,0 +1,51 @@
+// Request 8: default owner, primary group and DACL.
+ghost use mathlib.Core.List.{[]};
+ghost use Prim.Native.Nat.{_≤_};
+ghost use lib.ListN.{length};
+ghost use Rattle.rules.specs.Request.{byte};
+ghost use Rattle.state.specs.Parts.{Lent};
+ghost use Rattle.request.specs.Layout.{valuesAt, There};
+ghost use Rattle.request.specs.Defaults.{DefaultsCarried};
+use crate::answer::Answer;
+use crate::defaults;
+use crate::outcome;
+use crate::outcome::Outcome;
+use crate::subject;
+use handle::Handles;
+use privilege::mask::Mask;
+
+// The size bytes that stand at the end of a body are the DACL.
+pub fn adjust_defaults(
+    station: u32,
+    number: u32,
+    owner: u32,
+    group: u32,
+    flag: u32,
+    size: u64,
+    s: &[u8],
+    at: usize,
+    handles: Handles,
+    tokens: &mut [u64],
+    dacls: &mut [u8],
+    stations: &[u64],
+) -> Outcome
+    requires { ⌜ Lent (now tokens) (now dacls) (now stations) × (at ≤ length (now s)) × There byte (now s) at size [] ⌝ }
+    ensures { λ r. ⌜ DefaultsCarried station number owner group flag (valuesAt byte (now (s .entry)) at size) (handles .items) (now (stations .entry)) (now (tokens .entry)) (now (dacls .entry)) (now (stations .entry)) (now (tokens .exit)) (now (dacls .exit)) r ⌝ }
+{
+    let x = subject::find(
+        station,
+        number,
+        Mask::ADJUST_DEFAULT,
+        handles,
+        tokens,
+        dacls,
+    );
+    if x.target.refusal != 0 {
+        return outcome::refused(x.target.refusal);
+    }
+    let adjusted = defaults::adjust(x.token, owner, group, flag, size, s, at);
+    if !adjusted.ok {
+        return outcome::refused(5);
+    }
+    subject::finish(adjusted.token, Answer::Done, tokens, dacls)
+}

@@ -1,0 +1,59 @@
+// Request 4: query. Nothing changes.
+ghost use mathlib.Core.Path.{_≡_};
+ghost use Prim.Native.Nat.{_*_};
+ghost use lib.ListN.{length};
+ghost use Rattle.rules.specs.Token.{maxDacl};
+ghost use Rattle.rules.specs.State.{tokenSlots};
+ghost use Rattle.rules.specs.Memory.{tokenWords};
+ghost use Rattle.rules.specs.Query as rules;
+ghost use Rattle.state.specs.Parts.{Lent};
+ghost use Rattle.request.specs.Carried.{Carried};
+ghost use Rattle.request.specs.Query.{ClassAnswered};
+use crate::answer::Answer;
+use crate::class::size;
+use crate::lookup::lookup;
+use crate::outcome;
+use crate::outcome::Outcome;
+use handle::Handles;
+use privilege::mask::Mask;
+use state::tokens::token_of;
+use token::slots;
+
+// A class of the token of that number.
+fn class_of(token: u64, class: u64, capacity: u64, tokens: &[u64], dacls: &[u8]) -> Answer
+    requires { ⌜ (length (now tokens) ≡ tokenSlots * tokenWords) × (length (now dacls) ≡ tokenSlots * maxDacl) ⌝ }
+    ensures { λ r. ⌜ ClassAnswered token class capacity (now (tokens .entry)) (now (dacls .entry)) r ⌝ }
+{
+    let known = (1 <= class) & (class <= 13);
+    if !known {
+        return Answer::Refused(5);
+    }
+    let t = token_of(token, tokens, dacls);
+    let needed = size(t, class);
+    if capacity < needed {
+        return Answer::TooSmall(needed);
+    }
+    let slot = slots::find(tokens, token);
+    Answer::Class { slot, class }
+}
+
+pub fn query(
+    station: u32,
+    number: u32,
+    class: u64,
+    capacity: u64,
+    handles: Handles,
+    tokens: &[u64],
+    dacls: &[u8],
+    stations: &[u64],
+) -> Outcome
+    requires { ⌜ Lent (now tokens) (now dacls) (now stations) ⌝ }
+    ensures { λ r. ⌜ Carried (λ σ. rules.query σ station number class capacity) (handles .items) (now (stations .entry)) (now (tokens .entry)) (now (dacls .entry)) (now (stations .entry)) (now (tokens .entry)) (now (dacls .entry)) r ⌝ }
+{
+    let target = lookup(station, number, Mask::QUERY, handles);
+    if target.refusal != 0 {
+        return outcome::refused(target.refusal);
+    }
+    let answer = class_of(target.handle.token, class, capacity, tokens, dacls);
+    outcome::ends(answer)
+}
