@@ -2,6 +2,8 @@ pub mod Body
 pub mod Answer
 pub mod Carried
 pub mod Lookup
+pub mod Issue
+pub mod Copies
 pub mod Layout
 pub mod Entries
 pub mod Creating

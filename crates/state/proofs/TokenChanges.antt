@@ -1,9 +1,9 @@
 -- A token that is stored in its slot, or in a free one, and the used mark. Assumes nothing.
 use Prim.Native.Nat.{ℕ, _+_, _%_, _^_, _≤_, _<_}
 use native.Mathlib.Omega.{arith}
-use mathlib.Core.Path.{_≡_, sym, ap, subst, _∙_}
+use mathlib.Core.Path.{_≡_, refl, sym, ap, subst, _∙_}
 use mathlib.Core.Bool.{true}
-use mathlib.Core.List.{List}
+use mathlib.Core.List.{List, [], _∷_}
 use lib.ListN.{set}
 use lib.Seq.{set-out}
 use Rattle.table.specs.Table.{flat, put-record}
@@ -23,6 +23,7 @@ use Rattle.token.specs.Meaning.{tokenOf}
 use Rattle.token.specs.declared.Token.{Token}
 use Rattle.token.proofs.Laws.{put-words, put-dacls}
 use Rattle.state.specs.Parts.{TokensIn}
+use Rattle.state.specs.StationFacts.{nextHandle}
 use Rattle.state.specs.TokenCalls.{CallerGiven, nextIn, Stored, TokenPut, TokenAdded, Used}
 use Rattle.state.proofs.TokenLooks.{slots-read, slots-long, FoundAt, FreeAt}
 
@@ -68,13 +69,18 @@ module _ {t : Token} {i : ℕ} {ts ds ts′ ds′ : List ℕ} (s : Stored t i ts
 
   pub token-added : {ss : List ℕ} → FreeAt ts i → TokenAdded t ts ds ss ts′ ds′ (set ss 0 (nextIn ss + 1))
   unfolding addToken withTokens added
-  token-added at = record {
+  token-added {ss} at = record {
     tokens = λ σ v h.
         let ps = σ .tokens .slots in
         changed σ (addToken (tokenOf t) σ) v h
         (placed-set (tokenOf t) ps ∙ ap (λ (k : ℕ). set ps k (live (tokenOf t))) (sym (at ds ∙ ap freeIndex (slots-read v h))));
     stations = λ σ j. record { words = ap (λ (ws : List ℕ). set ws 0 (nextIn ws + 1)) (j .words) };
+    handle-next = second-kept ss (nextIn ss + 1);
   }
+    where
+      second-kept : (ws : List ℕ) (w : ℕ) → nextHandle (set ws 0 w) ≡ nextHandle ws
+      second-kept [] w = refl
+      second-kept (x ∷ ws) w = refl
 
 -- ---- the used mark
 

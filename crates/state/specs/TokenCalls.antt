@@ -15,6 +15,7 @@ use Rattle.rules.specs.Memory.{slotRow, slotDacl}
 use Rattle.token.specs.Meaning.{tokenOf, Sized}
 use Rattle.token.specs.declared.Token.{Token}
 use Rattle.state.specs.Parts.{TokensIn, StationsIn}
+use Rattle.state.specs.StationFacts.{nextHandle}
 
 -- ---- looking
 
@@ -54,6 +55,8 @@ pub record TokenPut (t : Token) (ts ds ts′ ds′ : List ℕ) : Type 0 where
 pub record TokenAdded (t : Token) (ts ds ss ts′ ds′ ss′ : List ℕ) : Type 0 where
   pub tokens : (σ : State) → valid σ ≡ true → TokensIn σ ts ds → TokensIn (addToken (tokenOf t) σ) ts′ ds′
   pub stations : (σ : State) → StationsIn σ ss → StationsIn (addToken (tokenOf t) σ) ss′
+  -- what add_handle asks stays
+  pub handle-next : nextHandle ss′ ≡ nextHandle ss
 
 pub record Used (n s : ℕ) (ts ds ss ts′ ds′ : List ℕ) : Type 0 where
   pub tokens : (σ : State) → valid σ ≡ true → TokensIn σ ts ds → StationsIn σ ss → TokensIn (used n s σ) ts′ ds′

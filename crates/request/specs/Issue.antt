@@ -1,0 +1,44 @@
+-- What issuing a token gives, for every valid state that the parts hold. Assumes nothing.
+use Prim.Native.Nat.{ℕ, _<_}
+use mathlib.Core.Path.{_≡_}
+use mathlib.Core.Bool.{Bool, true}
+use mathlib.Core.List.{List}
+use Rattle.rules.specs.Number.{max32, max64}
+use Rattle.rules.specs.Token as rules
+use Rattle.rules.specs.State.{State, addToken, addHandle}
+use Rattle.rules.specs.Valid.{valid}
+use Rattle.rules.specs.Refusal.{tableFull}
+use Rattle.rules.specs.Decision.{Decision, need_else_then_, canIssue, issued}
+use Rattle.handle.specs.declared.Handle.{Handle}
+use Rattle.token.specs.Meaning.{tokenOf}
+use Rattle.token.specs.declared.Token.{Token}
+use Rattle.state.specs.Parts.{StationsIn}
+use Rattle.state.specs.StationFacts.{nextHandle}
+use Rattle.state.specs.TokenCalls.{nextIn}
+use Rattle.state.specs.HandleFacts.{changed}
+use Rattle.state.specs.ReleaseFacts.{PartsIn}
+use Rattle.request.specs.declared.answer.Answer.the-variants as answers
+use Rattle.request.specs.declared.outcome.Outcome.{Outcome}
+use Rattle.request.specs.Carried.{Carried}
+
+-- both next numbers can be given
+pub record NumbersLeft (ss : List ℕ) : Type 0 where
+  pub token : nextIn ss < max64
+  pub handle : nextHandle ss < max32
+
+pub record IssueRoom (hs : List Handle) (ts ss : List ℕ) (r : Bool) : Type 0 where
+  pub room : (σ : State) → valid σ ≡ true → {ds : List ℕ} → PartsIn σ hs ss ts ds → r ≡ canIssue σ
+  -- what issue asks
+  pub left : r ≡ true → NumbersLeft ss
+
+pub record Issued (s mask : ℕ) (t : Token) (hs : List Handle) (ss ts ds ss′ ts′ ds′ : List ℕ) (r : Outcome) : Type 0 where
+  pub parts : (σ : State) → valid σ ≡ true → PartsIn σ hs ss ts ds
+      → PartsIn (addHandle s (t .number) mask (addToken (tokenOf t) σ)) (changed hs (r .change)) ss′ ts′ ds′
+  pub answer : (σ : State) → StationsIn σ ss → r .answer ≡ answers.Value (σ .handles .next)
+
+-- what a copy of a token ends with: it is issued if there is room
+abbrev pub issuedIf : Bool → ℕ → ℕ → rules.Token → State → Decision
+issuedIf room s mask t σ = need room else tableFull then issued s mask t σ
+
+pub record IssuedIfRoom (s mask : ℕ) (t : Token) (hs : List Handle) (ss ts ds ss′ ts′ ds′ : List ℕ) (r : Outcome) : Type 0 where
+  pub carried : Carried (λ σ. issuedIf (canIssue σ) s mask (tokenOf t) σ) hs ss ts ds ss′ ts′ ds′ r
