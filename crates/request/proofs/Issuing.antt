@@ -103,9 +103,13 @@ ends-issuing {ts′ = ts′} {ds′ = ds′} τ i d = record {
   fit = λ σ v p. let k = d σ v p in subst (Fit ts′ ds′) (sym (i .answer (τ σ) (k .parts .stations))) tt;
 }
 
+pub room-refuses : {hs : List Handle} {ss ts ds : List ℕ} {b : Bool} {r : Outcome} → IssueRoom hs ts ss b → (rest : State → Decision) → not b ≡ true → Ends (answers.Refused 8) r
+    → Carried (λ σ. need canIssue σ else tableFull then rest σ) hs ss ts ds ss ts ds r
+room-refuses {r = r} i rest f e = refuses 8 r e (omega arith) (λ σ v p. fails (canIssue σ) σ 8 (rest σ) (ap not (sym (i .room σ v p)) ∙ f))
+
 module _ (s mask : ℕ) {hs : List Handle} {ss ts ds : List ℕ} {b : Bool} (i : IssueRoom hs ts ss b) where
   pub no-room : (t : Token) {r : Outcome} → not b ≡ true → Ends (answers.Refused 8) r → IssuedIfRoom s mask t hs ss ts ds ss ts ds r
-  no-room t {r} f e = record { carried = refuses 8 r e (omega arith) (λ σ v p. fails (canIssue σ) σ 8 _ (ap not (sym (i .room σ v p)) ∙ f)) }
+  no-room t f e = record { carried = room-refuses i (λ σ. issued s mask (tokenOf t) σ) f e }
 
   pub room-issues : (t : Token) {ss′ ts′ ds′ : List ℕ} {r : Outcome} → not b ≡ false → Issued s mask t hs ss ts ds ss′ ts′ ds′ r
       → IssuedIfRoom s mask t hs ss ts ds ss′ ts′ ds′ r

@@ -5,6 +5,7 @@ pub mod InstallLaws
 pub mod LookupLaws
 pub mod Issuing
 pub mod Copying
+pub mod Creates
 pub mod Regrouped
 pub mod Pairs
 pub mod Passes

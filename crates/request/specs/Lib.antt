@@ -4,6 +4,7 @@ pub mod Carried
 pub mod Lookup
 pub mod Issue
 pub mod Copies
+pub mod Creates
 pub mod Layout
 pub mod Entries
 pub mod Creating

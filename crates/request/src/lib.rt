@@ -7,6 +7,7 @@ pub mod attributes;
 pub mod class;
 pub mod close;
 pub mod create;
+pub mod create_token;
 pub mod dacl;
 pub mod defaults;
 pub mod duplicate;

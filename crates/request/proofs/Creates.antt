@@ -1,0 +1,124 @@
+-- Request 3, end by end. Assumes nothing.
+use Prim.Native.Nat.{ℕ, _<_}
+use native.Mathlib.Omega.{arith}
+use mathlib.Core.Path.{_≡_, refl, sym, ap, ap₂, _∙_}
+use mathlib.Core.Bool.{Bool, true, false, not, _&&_, _||_}
+use mathlib.Core.List.{List, map}
+use lib.Dec.{eqb, leb}
+use lib.ListN.{length, take, drop}
+use borrow.Author.Tests.{not-false}
+use Rattle.rules.specs.Basic.{all, member}
+use Rattle.rules.specs.Bits.{has, within}
+use Rattle.rules.specs.Mask.{allRights}
+use Rattle.rules.specs.Refusal.{privilegeNotHeld, badField, tableFull}
+use Rattle.rules.specs.Privileges as privileges
+use Rattle.rules.specs.Privileges.{existing, createToken, granted}
+use Rattle.rules.specs.Group.{Group}
+use Rattle.rules.specs.Token as rules
+use Rattle.rules.specs.Token.{maxGroups, newToken, primaryOf}
+use Rattle.rules.specs.State.{State, stationCount, held, used}
+use Rattle.rules.specs.Valid.{valid}
+use Rattle.rules.specs.Number.{got}
+use Rattle.rules.specs.Request.{times, group}
+use Rattle.rules.specs.Decision.{Decision, need_else_then_, carriedOut, canIssue, issued}
+use Rattle.rules.specs.Create.{validPair, validIntegrity, validCreate, entered, create}
+use Rattle.rules.proofs.Logic.{and-r}
+use Rattle.rules.proofs.Facts.{valid-facts, facts-valid}
+use Rattle.rules.proofs.Kept.{mark}
+use Rattle.handle.specs.declared.Handle.{Handle}
+use Rattle.privilege.specs.Meaning.{privilegesOf}
+use Rattle.privilege.specs.declared.privileges.Privileges.{Privileges}
+use Rattle.token.specs.Meaning.{groupOf, tokenOf, Sized}
+use Rattle.token.specs.declared.Token.{Token}
+use Rattle.state.specs.TokenCalls.{Held, NextToken, Used}
+use Rattle.state.specs.ReleaseFacts.{PartsIn}
+use Rattle.state.proofs.TokenFrames.{used-stations, used-handles}
+use Rattle.request.specs.declared.answer.Answer.the-variants as answers
+use Rattle.request.specs.declared.create.Groups.{Groups}
+use Rattle.request.specs.declared.create_token.Made.{Made}
+use Rattle.request.specs.declared.outcome.Outcome.{Outcome}
+use Rattle.request.specs.Carried.{Ends}
+use Rattle.request.specs.Creating.{GroupsRead}
+use Rattle.request.specs.Creates.{TokenMade, CreatedIssued, CreateCarried}
+use Rattle.request.specs.Issue.{IssueRoom, Issued}
+use Rattle.request.proofs.Deciding.{refuses}
+use Rattle.request.proofs.Issuing.{fails, holds, carried-as, ends-issuing, room-refuses}
+
+-- ---- the token
+
+pub integrity-valid : (i : ℕ) → (eqb i 0 || (eqb i 4096 || (eqb i 8192 || (eqb i 12288 || eqb i 16384)))) ≡ validIntegrity i
+unfolding validIntegrity member
+integrity-valid i = ap (λ (b : Bool). eqb i 0 || (eqb i 4096 || (eqb i 8192 || (eqb i 12288 || b)))) (or-none (eqb i 16384))
+  where
+    or-none : (b : Bool) → b ≡ (b || false)
+    or-none true = refl
+    or-none false = refl
+
+together : (a b c : Bool) → (a && (b && c)) ≡ (a && b && c)
+together true b c = refl
+together false b c = refl
+
+pub token-made : (n user session integrity present byDefault : ℕ) (s : List ℕ) (at count : ℕ) {a b c : Bool} (g : Groups) (p : Privileges) (t : Token)
+    → GroupsRead user s at count g → a ≡ validIntegrity integrity → b ≡ within byDefault present → c ≡ within present existing
+    → privilegesOf p ≡ granted present byDefault
+    → tokenOf t ≡ newToken n (primaryOf user session integrity) (privilegesOf p) (map groupOf (take (g .count) (g .groups))) → Sized t
+    → TokenMade n user session integrity present byDefault s at count (record { ok = a && b && c && g .ok; token = t })
+unfolding validCreate
+token-made n user session integrity present byDefault s at count {a} {b} {c} g p t r ea eb ec ep et l = record {
+  valid = λ gs later h. ap₂ _&&_ (ap₂ _&&_ (ap₂ _&&_ ea eb) ec) (r .valid gs later h) ∙ together (validIntegrity integrity && within byDefault present && within present existing) (leb (length gs) maxGroups) (all (validPair user) gs);
+  made = λ gs later h ok.
+      et ∙ ap₂ (λ (q : privileges.Privileges) (gs : List Group). newToken n (primaryOf user session integrity) q gs) ep (r .given gs later h (and-r (a && b && c) (g .ok) ok));
+  sized = l;
+}
+
+-- ---- issued in the state where the used bit is set
+
+module _ (s : ℕ) (t : Token) {hs : List Handle} {ss ts ds : List ℕ} {b : Bool} (i : IssueRoom hs ts ss b) where
+  pub create-no-room : {r : Outcome} → not b ≡ true → Ends (answers.Refused 8) r → CreatedIssued s t hs ss ts ds ss ts ds r
+  create-no-room f e = record { carried = room-refuses i (λ σ. issued s allRights (tokenOf t) (used createToken s σ)) f e }
+
+  pub create-issues : {ts₁ ds₁ ss′ ts′ ds′ : List ℕ} {r : Outcome} → not b ≡ false → s < stationCount → Used createToken s ts ds ss ts₁ ds₁
+      → Issued s allRights t hs ss ts₁ ds₁ ss′ ts′ ds′ r → CreatedIssued s t hs ss ts ds ss′ ts′ ds′ r
+  unfolding has
+  create-issues f in8 u k = record {
+    carried = ends-issuing (λ σ. used createToken s σ) k λ σ v p. record {
+      valid = facts-valid (used createToken s σ) (mark σ s createToken (valid-facts σ v) in8 refl .step .facts);
+      parts = record {
+        handles = used-handles (p .handles) createToken s;
+        stations = used-stations (p .stations) createToken s;
+        tokens = u .tokens σ v (p .tokens) (p .stations);
+      };
+      decided = holds (canIssue σ) σ tableFull _ (ap not (sym (i .room σ v p)) ∙ f);
+    };
+  }
+
+-- ---- the request
+
+module _ (s user session integrity present byDefault : ℕ) (body : List ℕ) (at count : ℕ) {hs : List Handle} {ss ts ds : List ℕ} {b : Bool} (h : Held createToken s ts ds ss b) where
+  is-held : {c : Bool} → not b ≡ c → (σ : State) → valid σ ≡ true → PartsIn σ hs ss ts ds → not (held σ s createToken) ≡ c
+  is-held f σ v p = ap not (sym (h .held σ v (p .tokens) (p .stations))) ∙ f
+
+  pub create-not-held : {r : Outcome} → not b ≡ true → Ends (answers.Refused 4) r → CreateCarried s user session integrity present byDefault body at count hs ss ts ds ss ts ds r
+  unfolding create
+  create-not-held {r} f e = record { carried = λ gs later q. refuses 4 r e (omega arith) (λ σ v p. fails (held σ s createToken) σ 4 _ (is-held f σ v p)) }
+
+  module _ (f : not b ≡ false) {n : ℕ} {m : Made} (g : TokenMade n user session integrity present byDefault body at count m) where
+    pub create-refused : {r : Outcome} → not (m .ok) ≡ true → Ends (answers.Refused 5) r → CreateCarried s user session integrity present byDefault body at count hs ss ts ds ss ts ds r
+    unfolding create
+    create-refused {r} k e = record {
+      carried = λ gs later q. refuses 5 r e (omega arith) λ σ v p.
+          holds (held σ s createToken) σ privilegeNotHeld _ (is-held f σ v p)
+          ∙ fails (validCreate user integrity present byDefault gs) σ 5 _ (ap not (sym (g .valid gs later q)) ∙ k);
+    }
+
+    pub creates : {ss′ ts′ ds′ : List ℕ} {r : Outcome} → not (m .ok) ≡ false → NextToken ss n → CreatedIssued s (m .token) hs ss ts ds ss′ ts′ ds′ r
+        → CreateCarried s user session integrity present byDefault body at count hs ss ts ds ss′ ts′ ds′ r
+    unfolding create
+    creates k next c = record {
+      carried = λ gs later q. carried-as (λ σ v p.
+          holds (held σ s createToken) σ privilegeNotHeld _ (is-held f σ v p)
+          ∙ holds (validCreate user integrity present byDefault gs) σ badField _ (ap not (sym (g .valid gs later q)) ∙ k)
+          ∙ ap (λ (t : rules.Token). carriedOut σ (need canIssue σ else tableFull then issued s allRights t (used createToken s σ)))
+          (sym (g .made gs later q (not-false (m .ok) k)
+          ∙ ap (λ (j : ℕ). newToken j (primaryOf user session integrity) (granted present byDefault) (map entered gs)) (next .next σ (p .stations))))) (c .carried);
+    }

@@ -1,0 +1,22 @@
+-- By the room. Assumes nothing.
+use borrow.Author.Needs.{needs}
+use Rattle.request.proofs.Issuing.{numbers-left}
+use Rattle.request.proofs.Creates.{create-no-room, create-issues}
+use Rattle.request.proofs.create_token.issue_created.Statement.{statement}
+use Rattle.request.proofs.create_token.issue_created.Tie as tie
+
+pub issue-created-spec : {M : Type 1} → statement M
+issue-created-spec =
+    tie.close
+    (tie.spec
+    (λ c κs. search needs)
+    (λ c κs. search needs)
+    (λ c. search needs)
+    (λ c. search needs)
+    (λ c. search (needs, create-no-room))
+    (λ c κs. search needs)
+    (λ c κs. search (needs, numbers-left))
+    (λ c. search needs)
+    (λ c. search needs)
+    (λ c. search needs)
+    (λ c. search (needs, c .before .before .before .before .before .before .before .before .before .before .before .before .before .before .before .before .before .before .before .before .before .before .before .before .before .pre, create-issues)))

@@ -1,0 +1,19 @@
+-- A new token, with the groups that were read. Assumes nothing.
+use borrow.Author.Needs.{needs}
+use Rattle.rules.specs.Token.{primaryOf}
+use Rattle.request.proofs.Creates.{token-made}
+use Rattle.request.proofs.create_token.make.Statement.{statement}
+use Rattle.request.proofs.create_token.make.Tie as tie
+
+pub make-spec : {M : Type 1} → statement M
+unfolding primaryOf
+make-spec =
+    tie.close
+    (tie.spec
+    (λ c κs. search needs)
+    (λ c κs. search needs)
+    (λ c κs. search needs)
+    (λ c κs. search needs)
+    (λ c κs. search needs)
+    (λ c κs. search needs)
+    (λ c. search (needs, token-made)))
