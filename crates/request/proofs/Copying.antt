@@ -40,7 +40,7 @@ use Rattle.request.proofs.LookupLaws.{looked-up, handle-refuses}
 -- ---- of any copy
 
 -- on the handle that was found, and its token
-on-subject : {s n right : ℕ} {hs : List Handle} {ss ts ds : List ℕ} {x : Subject} (go : State → rules-handle.Handle → rules.Token → Decision)
+pub on-subject : {s n right : ℕ} {hs : List Handle} {ss ts ds : List ℕ} {x : Subject} (go : State → rules-handle.Handle → rules.Token → Decision)
     → SubjectGiven s n right hs ts ds x → x .target .refusal ≡ 0
     → (σ : State) → valid σ ≡ true → PartsIn σ hs ss ts ds
     → carriedOut σ (withHandle σ s n right (go σ)) ≡ carriedOut σ (go σ (handleOf (x .target .handle)) (tokenOf (x .token)))
@@ -50,11 +50,11 @@ on-subject go g z σ v p =
     ∙ ap₂ (λ (a : rules-handle.Handle) (b : rules.Token). carriedOut σ (go σ a b)) (sym h)
     (sym (g .token .token σ v (p .tokens) ∙ ap (λ (a : rules-handle.Handle). state.tokenOf σ (a .token)) h))
 
-copy-refused : {ok b : Bool} (room : State → Bool) (s mask : ℕ) (copy : State → rules.Token) {hs : List Handle} {ss ts ds : List ℕ} {r : Outcome}
+pub copy-refused : {ok b : Bool} (room : State → Bool) (s mask : ℕ) (copy : State → rules.Token) {hs : List Handle} {ss ts ds : List ℕ} {r : Outcome}
     → b ≡ ok → not b ≡ true → Ends (answers.Refused 5) r → Carried (λ σ. copies.copied ok (room σ) s mask (copy σ) σ) hs ss ts ds ss ts ds r
 copy-refused {ok} room s mask copy {r = r} q f e = refuses 5 r e (omega arith) (λ σ v p. fails ok σ 5 _ (ap not (sym q) ∙ f))
 
-copy-issued : {ok b : Bool} (room : State → Bool) (s mask : ℕ) (copy : ℕ → rules.Token) (u : Token) {next : ℕ} {hs : List Handle} {ss ts ds ss′ ts′ ds′ : List ℕ} {r : Outcome}
+pub copy-issued : {ok b : Bool} (room : State → Bool) (s mask : ℕ) (copy : ℕ → rules.Token) (u : Token) {next : ℕ} {hs : List Handle} {ss ts ds ss′ ts′ ds′ : List ℕ} {r : Outcome}
     → b ≡ ok → not b ≡ false → NextToken ss next → tokenOf u ≡ copy next → Carried (λ σ. issuedIf (room σ) s mask (tokenOf u) σ) hs ss ts ds ss′ ts′ ds′ r
     → Carried (λ σ. copies.copied ok (room σ) s mask (copy (σ .tokens .next)) σ) hs ss ts ds ss′ ts′ ds′ r
 copy-issued {ok} room s mask copy u q f k e c =

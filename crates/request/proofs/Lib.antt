@@ -26,3 +26,4 @@ pub mod AdjustsDefaults
 pub mod Scoping
 pub mod Querying
 pub mod OpenClose
+pub mod Restricts

@@ -18,3 +18,4 @@ pub mod Defaults
 pub mod Scope
 pub mod Query
 pub mod Install
+pub mod Restricts

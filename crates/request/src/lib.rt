@@ -23,5 +23,6 @@ pub mod outcome;
 pub mod privileges;
 pub mod query;
 pub mod restrict;
+pub mod restrict_token;
 pub mod scope;
 pub mod subject;
