@@ -6,8 +6,9 @@ use Prim.Native.Nat.{ℕ, zero, suc, _≤_}
 use native.Mathlib.Omega.{arith}
 use borrow.Author.Tests.{ne-eqb}
 use lib.Dec.{eqb}
-use lib.ListN.{length, getD, set, List·getD-map, length-map}
+use lib.ListN.{length, getD, set, List·getD-map}
 use lib.Seq.{set-out}
+pub use Rattle.table.specs.Lists.{long}
 use Rattle.rules.specs.Basic.{if_then_else_, member}
 use Rattle.rules.specs.Table.{free, live, lives, found, placed, exchanged}
 use Rattle.rules.specs.Index.{freeIndex, foundIndex}
@@ -60,10 +61,6 @@ some-refers t = record { none = refl; step = λ h hs. by (eqb (h .number) 0) h h
     by false h hs = refl
 
 -- ---- arrays
-
--- the length of an array in a struct, as its type says
-pub long : {A B : Type 0} (f : A → B) (xs : List A) {n : ℕ} → length (map f xs) ≡ n → length xs ≡ n
-long f xs e = sym (length-map xs f) ∙ e
 
 -- a slot past the end
 pub kept : {hs : List Handle} {i : ℕ} (h : Handle) → length hs ≡ handleSlots → handleSlots ≤ i → hs ≡ set hs i h

@@ -12,6 +12,8 @@ ghost use Rattle.rules.specs.State.{handleToken, handleSlots};
 ghost use Rattle.handle.specs.Meaning.{handleOf, slotsOf, none, Sized, isFree, isNamed, refersTo};
 ghost use Rattle.handle.specs.Rows.{rowWords, tableWords, rowOf, handleIn, handlesIn};
 
+pub mod list;
+
 pub const SLOTS: usize = 32;
 
 // A row: station, number, token, mask.
@@ -19,6 +21,7 @@ pub const ROW_WORDS: usize = 4;
 
 const WORD32: u64 = 4294967296;
 
+#[repr(C)]
 pub struct Handle {
     pub station: u32,
     pub number: u32,

@@ -9,7 +9,7 @@ ghost use Rattle.number.specs.Rest.{isEnd};
 ghost use Rattle.number.specs.Meaning.{restOf, FieldAfter, Onward};
 use crate::Number;
 use crate::Skipped;
-use crate::read;
+use crate::number_at;
 use crate::skip;
 
 // A place in the body. Once something was not there, ok is false and stays so.
@@ -54,7 +54,7 @@ impl Cursor {
                 next: lost,
             };
         }
-        match read(s, at, limit) {
+        match number_at(s, at, limit) {
             Number::Bad => Field {
                 value: 0,
                 next: lost,

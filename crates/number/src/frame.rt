@@ -10,7 +10,7 @@ use crate::size;
 use crate::write;
 
 // How many bytes the fields take.
-fn sizes(fields: &[u64]) -> usize
+pub fn sizes(fields: &[u64]) -> usize
     requires { ⌜ length (now fields) ≤ maxFields ⌝ }
     ensures { λ r. ⌜ (r ≡ length (encodeAll (now (fields .entry)))) × (r ≤ 10 * maxFields) ⌝ }
 {

@@ -8,10 +8,13 @@ ghost use Rattle.number.specs.Meaning.{NumberAt, Passed};
 
 mod cursor;
 mod frame;
+mod reader;
 
 pub use cursor::Cursor;
 pub use cursor::Field;
 pub use frame::answer;
+pub use frame::sizes;
+pub use reader::number_at;
 
 // The largest values of the fields' widths.
 pub const U16: u64 = 0xFFFF;
@@ -62,7 +65,7 @@ fn wide(x: u8) -> u64
 }
 
 // The number at a place, in a field whose largest value is the limit.
-pub fn read(s: &[u8], at: usize, limit: u64) -> Number
+fn read(s: &[u8], at: usize, limit: u64) -> Number
     ensures { λ r. ⌜ NumberAt (now (s .entry)) at limit r ⌝ }
 {
     if s.len() <= at {
@@ -81,7 +84,9 @@ pub fn read(s: &[u8], at: usize, limit: u64) -> Number
     if limit < 128 {
         return Number::Bad;
     }
-    match read(s, at + 1, limit / 128) {
+    // The call is lent a copy: s then stays in registers, and a one-byte number costs no store.
+    let same = s;
+    match read(same, at + 1, limit / 128) {
         Number::Bad => Number::Bad,
         Number::Value { value: rest, next } => {
             let value = b - 128 + 128 * rest;
@@ -100,7 +105,7 @@ pub fn skip(s: &[u8], from: usize, count: u64, limit: u64) -> Skipped
     let mut at = from;
     let mut left = count;
     while 0 < left {
-        match read(s, at, limit) {
+        match number_at(s, at, limit) {
             Number::Bad => {
                 return Skipped::Bad;
             }

@@ -1,7 +1,9 @@
 // The privileges of a token: four words, privilege n at bit n.
 ghost use mathlib.Core.Path.{_≡_};
+ghost use Prim.Native.Nat.{_<_};
 ghost use Rattle.rules.specs.Privileges.{isEnabled, enable, disable, remove, reset, markUsed, onlyUsed, granted};
-ghost use Rattle.privilege.specs.Meaning.{privilegesOf};
+ghost use Rattle.rules.specs.AdjustPrivileges.{validEntry, applied};
+ghost use Rattle.privilege.specs.Meaning.{privilegesOf, entryOf};
 use crate::words;
 
 pub struct Privileges {
@@ -57,6 +59,27 @@ impl Privileges {
     {
         self.enabled = self.by_default;
         self
+    }
+
+    // An entry of request 5 is good: 0 disable, 2 enable, 4 remove; an absent privilege is not enabled.
+    pub fn may_adjust(self, n: u64, value: u64) -> bool
+        ensures { λ r. ⌜ r ≡ validEntry (privilegesOf self) (entryOf n value) ⌝ }
+    {
+        ((2 <= n) & (n <= 36))
+            & ((value == 0) | (value == 4) | (value == 2) & words::has(self.present, n))
+    }
+
+    // A good entry is made.
+    pub fn adjust(self, n: u64, value: u64) -> Privileges
+        requires { ⌜ n < 64 ⌝ }
+        ensures { λ r. ⌜ privilegesOf r ≡ applied (entryOf n value) (privilegesOf self) ⌝ }
+    {
+        let w = words::bit(n);
+        match value {
+            2 => self.enable(w),
+            4 => self.remove(w),
+            _ => self.disable(w),
+        }
     }
 
     pub fn mark_used(mut self, w: u64) -> Privileges

@@ -1,19 +1,18 @@
 -- Request 5's entries: one of them, a pass over all, and what the rule says of them. Assumes nothing.
-use Prim.Native.Nat.{ℕ, _^_, _%_, _<_}
+use Prim.Native.Nat.{ℕ, _<_}
 use native.Mathlib.Omega.{arith}
 use mathlib.Core.Path.{_≡_, refl, sym, ap, _∙_}
 use mathlib.Core.Bool.{Bool, true, false, not, _&&_}
 use mathlib.Core.List.{List}
 use lib.Bits.{bitAnd}
 use lib.Dec.{eqb, leb}
-use borrow.Author.Tests.{eq-eqb, ne-eqb, leb-true}
+use borrow.Author.Tests.{leb-true}
 use Rattle.rules.specs.Basic.{if_then_else_}
 use Rattle.rules.specs.Number.{Read, got, bad}
 use Rattle.rules.specs.Entry.{Entry, validEntries, applyAll}
-use Rattle.rules.specs.Privileges.{Privileges, exists, enable, remove, disable, reset}
+use Rattle.rules.specs.Privileges.{Privileges, exists, reset}
 use Rattle.rules.specs.AdjustPrivileges.{isReset, validEntry, applied, adjusted, named, previous}
 use Rattle.rules.specs.Request.{times, entry}
-use Rattle.rules.proofs.Bits.{power-inside}
 use Rattle.rules.proofs.Logic.{and-l, and-r}
 use Rattle.privilege.specs.declared.privileges.Privileges as Code
 use Rattle.privilege.specs.Meaning.{privilegesOf}
@@ -30,19 +29,6 @@ small p o v n k a e h =
     let g = sym e ∙ and-r o v (and-l (o && v) (not n) h) in
     let l = leb-true k 36 (and-r (leb 2 k) (leb k 36) (and-l (exists k) _ g)) in
     omega (arith, l)
-
-module _ (p q : Privileges) (k a w : ℕ) (h : k < 64) (e : w ≡ 2 ^ k % 2 ^ 64) where
-  pub enables : a ≡ 2 → q ≡ enable w p → q ≡ applied (entryOf k a) p
-  unfolding applied
-  enables t r = r ∙ rw (e ∙ power-inside 64 k h, eq-eqb a 2 t)
-
-  pub removes : a ≡ 4 → q ≡ remove w p → q ≡ applied (entryOf k a) p
-  unfolding applied
-  removes t r = r ∙ rw (e ∙ power-inside 64 k h, ne-eqb a 2 (omega arith), eq-eqb a 4 t)
-
-  pub disables : (a ≡ 2 → ⊥) → (a ≡ 4 → ⊥) → q ≡ disable w p → q ≡ applied (entryOf k a) p
-  unfolding applied
-  disables t u r = r ∙ rw (e ∙ power-inside 64 k h, ne-eqb a 2 t, ne-eqb a 4 u)
 
 -- ---- all of them
 

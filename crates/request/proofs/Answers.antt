@@ -113,15 +113,18 @@ module _ (t : Token) (class : ℕ) (f : Fields) (h : Listed (bodyOf (tokenOf t) 
         → WroteFrame (0 ∷ classBytes (tokenOf t) class) o o′ r
     class-framed = framed (0 ∷ classBytes (tokenOf t) class) cs ps o same-class class-short room
 
-  module _ (z : Sized t) (m : ℕ) (e : m ≡ length (encodeAll (take (f .count) (f .fields)))) where
+  module _ (z : Sized t) (m : ℕ) (e : m ≡ length (encodeAll (take (f .count - 0) (drop 0 (f .fields))))) where
+    all-counted : m ≡ length (encodeAll (take (f .count) (f .fields)))
+    all-counted = e ∙ ap (λ (ns : List ℕ). length (encodeAll ns)) (start (f .count) (f .fields))
+
     counted : m + f .plain ≡ suc (length (classBytes (tokenOf t) class))
     counted =
         let l = length-take-le (f .plain) (t .dacl) (omega arith) in
-        omega (arith, simp length-append at (ap length class-bytes))
+        omega (arith, all-counted, simp length-append at (ap length class-bytes))
 
     pub status-counted : 1 ≤ m
     unfolding encodeAll
-    status-counted = omega (arith, ap (λ (ns : List ℕ). length (encodeAll ns)) (h .front), length-append (encode 0) (encodeAll (bodyOf (tokenOf t) class .numbers)), encode-some 0)
+    status-counted = omega (arith, all-counted, ap (λ (ns : List ℕ). length (encodeAll ns)) (h .front), length-append (encode 0) (encodeAll (bodyOf (tokenOf t) class .numbers)), encode-some 0)
 
     pub class-counted : m - 1 + f .plain ≡ length (classBytes (tokenOf t) class)
     class-counted = omega (arith, counted, status-counted)

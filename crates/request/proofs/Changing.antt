@@ -10,6 +10,7 @@ use Rattle.rules.specs.Valid.{valid}
 use Rattle.rules.specs.State as state
 use Rattle.rules.specs.State.{State, putToken}
 use Rattle.rules.specs.Decision.{Decision, Served, carriedOut, withHandle}
+use Rattle.handle.specs.Meaning.{handleOf}
 use Rattle.handle.specs.declared.Handle.{Handle}
 use Rattle.token.specs.Meaning.{tokenOf}
 use Rattle.token.specs.declared.Token.{Token}
@@ -48,8 +49,7 @@ module _ (go : State → handles.Handle → tokens.Token → Decision) (ended : 
   decided : (σ : State) → valid σ ≡ true → PartsIn σ hs ss ts ds → carriedOut σ (withHandle σ s n right (go σ)) ≡ ended σ (tokenOf (x .token))
   decided σ v p =
       looked-up (g .target) σ v (p .handles) (go σ) e
-      ∙ rule σ (state.handleOf σ s n)
-      ∙ ap (λ (h : handles.Handle). ended σ (state.tokenOf σ (h .token))) (sym (g .target .handle σ v (p .handles)))
+      ∙ rule σ (handleOf (x .target .handle))
       ∙ ap (ended σ) (sym (g .token .token σ v (p .tokens)))
 
   pub token-refuses : (k : ℕ) (r : Outcome) → Ends (answers.Refused k) r → k < 128

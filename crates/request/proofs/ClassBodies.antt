@@ -17,6 +17,7 @@ use Rattle.token.specs.declared.Group.{Group}
 use Rattle.token.specs.declared.Token.{Token}
 use Rattle.request.specs.Body.{maxNumbers, Body, only, bodies, bodyOf, Holds, Listed}
 use Rattle.request.specs.declared.class.Fields.{Fields}
+use Rattle.request.proofs.Switching.{in-groups}
 
 -- five numbers and then zeros
 pub five : (count : ℕ) (first : List ℕ) → length first ≡ 5 → count ≤ maxNumbers
@@ -133,12 +134,6 @@ module _ (n : ℕ) (gs : List Group) (out : List ℕ) (i : ℕ) (s : Groups n gs
 
 -- ---- the SID of an index
 
-groups-at : (z : Group) (n k : ℕ) (gs : List Group) → k < n → n ≤ length gs → getD gs k z .sid ≡ getD (map groupOf (take n gs)) k noGroup .sid
-groups-at z (suc n) k [] h l = absurd (not-suc-le-zero l)
-groups-at z (suc n) zero (g ∷ gs) h l = refl
-groups-at z (suc n) (suc k) (g ∷ gs) h l = groups-at z n k gs (le-of-suc-le-suc h) (le-of-suc-le-suc l)
-groups-at z zero k gs h l = absurd (not-suc-le-zero h)
-
 module _ (t : Token) (index : ℕ) (s : Sized t) where
   pub user-sid : index ≡ 0 → t .identity .user ≡ sidAt (tokenOf t) index
   unfolding sidAt
@@ -158,7 +153,8 @@ module _ (t : Token) (index : ℕ) (s : Sized t) where
       ∙ later (omega arith)
 
   pub group-sid : (z : Group) → (index ≡ 0 → ⊥) → index ≤ t .«group_count» → getD (t .groups) (index - 1) z .sid ≡ sidAt (tokenOf t) index
-  group-sid z u h = groups-at z (t .«group_count») (index - 1) (t .groups) (omega arith) (omega arith) ∙ later (omega arith)
+  group-sid z u h =
+      ap (λ (g : Rules.Group). g .sid) (sym (in-groups (t .«group_count») (index - 1) (t .groups) z (omega arith) (omega arith))) ∙ later (omega arith)
 
 -- ---- the classes
 
@@ -167,7 +163,7 @@ abbrev pub Apart : ℕ → ℕ → Type 0
 Apart zero k = Unit {0}
 Apart (suc n) k = Apart n k × (k ≡ suc n → ⊥)
 
-above : (n k : ℕ) → Apart n k → 1 ≤ k → n < k
+pub above : (n k : ℕ) → Apart n k → 1 ≤ k → n < k
 above zero k a h = h
 above (suc n) k a h = let l = above n k (a .0) h in let u = a .1 in omega arith
 

@@ -1,17 +1,16 @@
 -- Requests 9 and 10: a copy of the token that a handle is on. Assumes nothing.
 use Prim.Native.Nat.{ℕ, _≤_}
 use native.Mathlib.Omega.{arith}
-use mathlib.Core.Path.{_≡_, refl, sym, ap, ap₂, _∙_}
-use mathlib.Core.Bool.{Bool, true, false, not}
+use mathlib.Core.Path.{_≡_, sym, ap, _∙_}
+use mathlib.Core.Bool.{Bool, true, false, not, _&&_}
 use mathlib.Core.List.{List, []}
 use lib.Dec.{eqb, leb}
-use borrow.Author.Tests.{eq-eqb, ne-eqb, leb-true, not-false}
+use borrow.Author.Tests.{eq-eqb, ne-eqb, leb-true, not-true, not-false}
 use Rattle.rules.specs.Mask as Mask
 use Rattle.rules.specs.Privileges.{onlyUsed}
 use Rattle.rules.specs.Refusal.{badField}
 use Rattle.rules.specs.Token as rules
 use Rattle.rules.specs.Handle as rules-handle
-use Rattle.rules.specs.State as state
 use Rattle.rules.specs.State.{State}
 use Rattle.rules.specs.Valid.{valid}
 use Rattle.rules.specs.Decision.{Decision, carriedOut, withHandle, canIssue}
@@ -33,8 +32,7 @@ use Rattle.request.specs.Subject.{SubjectGiven}
 use Rattle.request.specs.Issue.{issuedIf, IssuedIfRoom}
 use Rattle.request.specs.Copies as copies
 use Rattle.request.specs.Copies.{duplicateOf, DuplicateIssued}
-use Rattle.request.proofs.Deciding.{refuses}
-use Rattle.request.proofs.Issuing.{fails, holds, carried-as}
+use Rattle.request.proofs.Deciding.{fails, holds, refuses, carried-as}
 use Rattle.request.proofs.LookupLaws.{looked-up, handle-refuses}
 
 -- ---- of any copy
@@ -44,11 +42,9 @@ pub on-subject : {s n right : ℕ} {hs : List Handle} {ss ts ds : List ℕ} {x :
     → SubjectGiven s n right hs ts ds x → x .target .refusal ≡ 0
     → (σ : State) → valid σ ≡ true → PartsIn σ hs ss ts ds
     → carriedOut σ (withHandle σ s n right (go σ)) ≡ carriedOut σ (go σ (handleOf (x .target .handle)) (tokenOf (x .token)))
-on-subject go g z σ v p =
-    let h = g .target .handle σ v (p .handles) in
+on-subject {x = x} go g z σ v p =
     looked-up (g .target) σ v (p .handles) (go σ) z
-    ∙ ap₂ (λ (a : rules-handle.Handle) (b : rules.Token). carriedOut σ (go σ a b)) (sym h)
-    (sym (g .token .token σ v (p .tokens) ∙ ap (λ (a : rules-handle.Handle). state.tokenOf σ (a .token)) h))
+    ∙ ap (λ (t : rules.Token). carriedOut σ (go σ (handleOf (x .target .handle)) t)) (sym (g .token .token σ v (p .tokens)))
 
 pub copy-refused : {ok b : Bool} (room : State → Bool) (s mask : ℕ) (copy : State → rules.Token) {hs : List Handle} {ss ts ds : List ℕ} {r : Outcome}
     → b ≡ ok → not b ≡ true → Ends (answers.Refused 5) r → Carried (λ σ. copies.copied ok (room σ) s mask (copy σ) σ) hs ss ts ds ss ts ds r
@@ -72,13 +68,13 @@ module _ (n kind level : ℕ) (t : rules.Token) {r : rules.Token} where
   unfolding duplicated
   to-primary k e = e ∙ rw (eq-eqb kind 1 k)
 
-  pub to-anonymous : (kind ≡ 1 → ⊥) → level ≡ 0 → r ≡ anonymousCopy n t → r ≡ duplicated n kind level t
+  pub to-anonymous : (not (eqb kind 1) && eqb level 0) ≡ true → r ≡ anonymousCopy n t → r ≡ duplicated n kind level t
   unfolding duplicated
-  to-anonymous k l e = e ∙ rw (ne-eqb kind 1 k, eq-eqb level 0 l)
+  to-anonymous b e = e ∙ rw (not-true (eqb kind 1) (and-l (not (eqb kind 1)) (eqb level 0) b), and-r (not (eqb kind 1)) (eqb level 0) b)
 
-  pub to-impersonation : (kind ≡ 1 → ⊥) → (level ≡ 0 → ⊥) → r ≡ copied n 2 level t → r ≡ duplicated n kind level t
+  pub to-impersonation : (kind ≡ 1 → ⊥) → (not (eqb kind 1) && eqb level 0) ≡ false → r ≡ copied n 2 level t → r ≡ duplicated n kind level t
   unfolding duplicated
-  to-impersonation k l e = e ∙ rw (ne-eqb kind 1 k, ne-eqb level 0 l)
+  to-impersonation k b e = let f = ne-eqb kind 1 k in e ∙ rw (f, sym (ap (λ (x : Bool). not x && eqb level 0) f) ∙ b)
 
 module _ (kind level mask : ℕ) (h : Handle) (t : Token) {b : Bool} (q : b ≡ validDuplicate (handleOf h) (tokenOf t) kind level mask) where
   pub level-small : not b ≡ false → level ≤ 3

@@ -2,7 +2,7 @@
 use Prim.Native.Nat.{ℕ, _<_}
 use native.Mathlib.Omega.{arith}
 use mathlib.Core.Path.{_≡_, refl, sym, ap, ap₂, _∙_}
-use mathlib.Core.Bool.{Bool, true, false, not, _&&_, _||_}
+use mathlib.Core.Bool.{Bool, true, false, not, _&&_, _||_, and-assoc}
 use mathlib.Core.List.{List, map}
 use lib.Dec.{eqb, leb}
 use lib.ListN.{length, take, drop}
@@ -41,8 +41,8 @@ use Rattle.request.specs.Carried.{Ends}
 use Rattle.request.specs.Creating.{GroupsRead}
 use Rattle.request.specs.Creates.{TokenMade, CreatedIssued, CreateCarried}
 use Rattle.request.specs.Issue.{IssueRoom, Issued}
-use Rattle.request.proofs.Deciding.{refuses}
-use Rattle.request.proofs.Issuing.{fails, holds, carried-as, ends-issuing, room-refuses}
+use Rattle.request.proofs.Deciding.{fails, holds, refuses, carried-as}
+use Rattle.request.proofs.Issuing.{ends-issuing, room-refuses}
 
 -- ---- the token
 
@@ -54,10 +54,6 @@ integrity-valid i = ap (λ (b : Bool). eqb i 0 || (eqb i 4096 || (eqb i 8192 || 
     or-none true = refl
     or-none false = refl
 
-together : (a b c : Bool) → (a && (b && c)) ≡ (a && b && c)
-together true b c = refl
-together false b c = refl
-
 pub token-made : (n user session integrity present byDefault : ℕ) (s : List ℕ) (at count : ℕ) {a b c : Bool} (g : Groups) (p : Privileges) (t : Token)
     → GroupsRead user s at count g → a ≡ validIntegrity integrity → b ≡ within byDefault present → c ≡ within present existing
     → privilegesOf p ≡ granted present byDefault
@@ -65,7 +61,7 @@ pub token-made : (n user session integrity present byDefault : ℕ) (s : List �
     → TokenMade n user session integrity present byDefault s at count (record { ok = a && b && c && g .ok; token = t })
 unfolding validCreate
 token-made n user session integrity present byDefault s at count {a} {b} {c} g p t r ea eb ec ep et l = record {
-  valid = λ gs later h. ap₂ _&&_ (ap₂ _&&_ (ap₂ _&&_ ea eb) ec) (r .valid gs later h) ∙ together (validIntegrity integrity && within byDefault present && within present existing) (leb (length gs) maxGroups) (all (validPair user) gs);
+  valid = λ gs later h. ap₂ _&&_ (ap₂ _&&_ (ap₂ _&&_ ea eb) ec) (r .valid gs later h) ∙ sym (and-assoc (validIntegrity integrity && within byDefault present && within present existing) (leb (length gs) maxGroups) (all (validPair user) gs));
   made = λ gs later h ok.
       et ∙ ap₂ (λ (q : privileges.Privileges) (gs : List Group). newToken n (primaryOf user session integrity) q gs) ep (r .given gs later h (and-r (a && b && c) (g .ok) ok));
   sized = l;

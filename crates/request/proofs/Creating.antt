@@ -26,10 +26,10 @@ use Rattle.request.specs.declared.entry.Pair.{Pair}
 use Rattle.request.specs.declared.entry.Pair.the-variants as pair
 use Rattle.request.specs.declared.create.Groups.{Groups}
 use Rattle.request.specs.Layout.{whole}
-use Rattle.request.specs.Entries.{entryOf, Bounds, PairAt}
+use Rattle.request.specs.Entries.{entryOf, Bounds, PairAt, foldAll, folded}
 use Rattle.request.specs.Creating.{Room, soFar, step, GroupsRead}
 use Rattle.request.proofs.Pairs.{is-none, is-pair}
-use Rattle.request.proofs.Folding.{foldAll, folded, fold-end, fold-lost, fold-next}
+use Rattle.request.proofs.Folding.{fold-end, fold-lost, fold-next}
 
 -- ---- the test of a pair
 

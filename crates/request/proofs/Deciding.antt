@@ -1,13 +1,16 @@
 -- From what a decision comes to for every state, to what the code did. Assumes nothing.
-use Prim.Native.Nat.{ℕ, zero, suc, _≤_, _<_}
+use Prim.Native.Nat.{ℕ, _<_}
 use native.Mathlib.Omega.{arith}
-use mathlib.Core.Path.{_≡_, refl, sym, ap, ap₂, _∙_, subst}
-use mathlib.Core.Bool.{true}
-use mathlib.Core.List.{List, [], _∷_, map}
-use lib.ListN.{length, set, length-map}
+use mathlib.Core.Path.{_≡_, sym, ap, _∙_, subst}
+use mathlib.Core.Bool.{Bool, true, false, not}
+use mathlib.Core.List.{List, [], _∷_}
+use lib.ListN.{length, length-map}
+use lib.Seq.{set-out}
+use borrow.Author.Tests.{not-true, not-false}
+use Rattle.rules.specs.Refusal.{Refusal, refusal}
 use Rattle.rules.specs.State.{State, handleSlots}
 use Rattle.rules.specs.Valid.{valid}
-use Rattle.rules.specs.Decision.{Decision, Served, carriedOut}
+use Rattle.rules.specs.Decision.{Decision, need_else_then_, carriedOut}
 use Rattle.rules.specs.Memory.{slotHandle}
 use Rattle.rules.proofs.Facts.{valid-facts}
 use Rattle.handle.specs.Meaning.{handleOf}
@@ -21,18 +24,25 @@ use Rattle.request.specs.declared.outcome.Outcome.{Outcome}
 use Rattle.request.specs.Answer.{answerOf, Fit}
 use Rattle.request.specs.Carried.{Ends, Carried}
 
--- a slot past the end changes nothing
-set-past : {A : Type 0} (xs : List A) (i : ℕ) (a : A) → length xs ≤ i → set xs i a ≡ xs
-set-past [] i a h = refl
-set-past (x ∷ xs) zero a h = absurd (omega arith)
-set-past (x ∷ xs) (suc i) a h = ap (λ ys. x ∷ ys) (set-past xs i a (omega arith))
+-- ---- one check
+
+pub fails : (b : Bool) (σ : State) (n : ℕ) (rest : Decision) → not b ≡ true → carriedOut σ (need b else refusal n then rest) ≡ record { state = σ; answer = n ∷ [] }
+unfolding carriedOut refusal
+fails b σ n rest e = rw (not-true b e)
+
+pub holds : (b : Bool) (σ : State) (x : Refusal) (rest : Decision) → not b ≡ false → carriedOut σ (need b else x then rest) ≡ carriedOut σ rest
+unfolding carriedOut
+holds b σ x rest e = rw (not-false b e)
+
+-- ---- the parts after it
 
 handles-long : (σ : State) (hs : List Handle) → valid σ ≡ true → HandlesIn σ hs → length hs ≡ handleSlots
 handles-long σ hs v i =
     sym (length-map hs handleOf) ∙ ap length (i .records) ∙ length-map (σ .handles .slots) slotHandle ∙ valid-facts σ v .loose .handles .sized
 
+-- a slot past the end is none
 no-change : (σ : State) (hs : List Handle) (a : Answer) (r : Outcome) → valid σ ≡ true → HandlesIn σ hs → Ends a r → changed hs (r .change) ≡ hs
-no-change σ hs a r v i e = set-past hs (r .change .slot) (r .change .handle) (let l = handles-long σ hs v i in let s = e .slot in omega arith)
+no-change σ hs a r v i e = set-out hs (r .change .slot) (r .change .handle) (let l = handles-long σ hs v i in let s = e .slot in omega arith)
 
 module _ {x : State → Decision} {hs : List Handle} {ss ts ds : List ℕ} where
   -- a refusal: nothing changes
@@ -56,3 +66,13 @@ module _ {x : State → Decision} {hs : List Handle} {ss ts ds : List ℕ} where
     answer = λ σ v p. ap (answerOf ts′ ds′) (e .answer) ∙ d σ v p;
     fit = λ σ v p. subst (Fit ts′ ds′) (sym (e .answer)) (g σ v p);
   }
+
+-- another decision that comes to the same
+pub carried-as : {x y : State → Decision} {hs : List Handle} {ss ts ds ss′ ts′ ds′ : List ℕ} {r : Outcome}
+    → ((σ : State) → valid σ ≡ true → PartsIn σ hs ss ts ds → carriedOut σ (x σ) ≡ carriedOut σ (y σ))
+    → Carried y hs ss ts ds ss′ ts′ ds′ r → Carried x hs ss ts ds ss′ ts′ ds′ r
+carried-as e c = record {
+  parts = λ σ v p. rw (e σ v p) (c .parts σ v p);
+  answer = λ σ v p. rw (e σ v p) (c .answer σ v p);
+  fit = c .fit;
+}

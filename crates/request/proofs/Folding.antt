@@ -1,20 +1,12 @@
 -- A loop that reads one thing after the other and takes a step for each: what is left gives what the whole gives. Assumes nothing.
 use Prim.Native.Nat.{ℕ, _-_, _≤_, _<_}
 use mathlib.Core.Path.{_≡_, refl, sym, ap, _∙_}
-use mathlib.Core.List.{List, [], _∷_}
+use mathlib.Core.List.{List}
 use lib.ListN.{drop}
 use Rattle.rules.specs.Number.{Read, got, bad}
 use Rattle.rules.specs.Request.{Reader, follow, give, times}
+use Rattle.request.specs.Entries.{foldAll, folded}
 use Rattle.request.proofs.Pairs.{joined, times-end, times-lost, times-next}
-
-unfoldable pub foldAll : {A X : Type 0} → (A → X → X) → List A → X → X
-foldAll step [] x = x
-foldAll step (a ∷ xs) x = foldAll step xs (step a x)
-
--- over what was read, and `stop` where something is missing
-unfoldable pub folded : {A X : Type 0} → (A → X → X) → X → X → Read (List A) → X
-folded step stop x (got xs later) = foldAll step xs x
-folded step stop x bad = stop
 
 module _ {A X : Type 0} (p : Reader A) (step : A → X → X) (stop : X) where
   folded-joined : (x : X) (a : A) (r : Read (List A)) → folded step stop x (joined p a r) ≡ folded step stop (step a x) r

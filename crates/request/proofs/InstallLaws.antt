@@ -14,7 +14,7 @@ use Rattle.rules.specs.Token as rules
 use Rattle.rules.specs.Token.{primary}
 use Rattle.rules.specs.Valid.{valid}
 use Rattle.rules.specs.State as state
-use Rattle.rules.specs.State.{State, stationCount, handleToken, held, used, setToken, released}
+use Rattle.rules.specs.State.{State, stationCount, held, used, setToken, released}
 use Rattle.rules.specs.Decision.{Decision, carriedOut, need_else_then_, success}
 use Rattle.rules.specs.Install.{matches, marked, install}
 use Rattle.rules.proofs.Facts.{valid-facts, facts-valid}
@@ -139,13 +139,9 @@ module _ {s n : ℕ} {hs : List Handle} {ss ts ds : List ℕ} {x : Target} (l : 
       abbrev after : State
       after = released (setToken s token (marked s new σ))
 
-      same-token : state.handleOf σ s n .token ≡ token
-      unfolding handleToken
-      same-token = ap handleToken (sym (l .handle σ v (p .handles)))
-
       decided : carriedOut σ (install σ s n) ≡ carriedOut σ (decide (held σ s assignPrimaryToken) (eqb (new .identity .type) primary) (same || held σ s tcb) (success after []))
       unfolding install
-      decided = looked-up l σ v (p .handles) _ z ∙ rw same-token (rw (m .same σ v (p .tokens) (p .stations)))
+      decided = looked-up l σ v (p .handles) _ z ∙ rw (m .same σ v (p .tokens) (p .stations))
 
       checked : k ≡ refusalNumber (held σ s assignPrimaryToken) (eqb (new .identity .type) primary) (same || held σ s tcb)
       checked = c .refusal σ v (p .tokens) (p .stations)
@@ -161,7 +157,7 @@ module _ {s n : ℕ} {hs : List Handle} {ss ts ds : List ℕ} {x : Target} (l : 
 
       after-parts : k ≡ 0 → {ss′ ts′ ds′ : List ℕ} → Placed same token s hs ss ts ds ss′ ts′ ds′ → PartsIn after hs ss′ ts′ ds′
       after-parts e w =
-          let i : Is σ token = rw same-token at (looked-up-found l σ v (p .handles) z .token) in
+          let i = looked-up-found l σ v (p .handles) z .token in
           w .parts σ v p (m .same σ v (p .tokens) (p .stations)) (i .was) (i .number) (eqb-true (new .identity .type) primary (passed e .1))
 
     pub not-allowed : (k ≡ 0 → ⊥) → (r : Outcome) → Ends (answers.Refused k) r → Carried (λ σ. install σ s n) hs ss ts ds ss ts ds r

@@ -3,13 +3,13 @@ use Prim.Native.Nat.{ℕ, _+_, _<_}
 use native.Mathlib.Omega.{arith}
 use mathlib.Core.Path.{_≡_, sym, ap, ap₂, _∙_, subst}
 use mathlib.Core.Bool.{Bool, true, false, not, _&&_}
-use mathlib.Core.List.{List, [], _∷_}
-use borrow.Author.Tests.{not-true, not-false}
-use Rattle.rules.specs.Refusal.{Refusal, refusal, tableFull}
+use mathlib.Core.List.{List}
+use borrow.Author.Tests.{not-false}
+use Rattle.rules.specs.Refusal.{tableFull}
 use Rattle.rules.specs.Table.{added}
 use Rattle.rules.specs.State.{State, withTokens, withHandles, addToken, addHandle}
 use Rattle.rules.specs.Valid.{valid}
-use Rattle.rules.specs.Decision.{Decision, Served, need_else_then_, carriedOut, canIssue, issued}
+use Rattle.rules.specs.Decision.{Decision, need_else_then_, carriedOut, canIssue, issued}
 use Rattle.rules.proofs.Logic.{and-l, and-r}
 use Rattle.handle.specs.declared.Handle.{Handle}
 use Rattle.token.specs.Meaning.{tokenOf}
@@ -27,7 +27,7 @@ use Rattle.request.specs.declared.outcome.Outcome.{Outcome}
 use Rattle.request.specs.Answer.{answerOf, Fit}
 use Rattle.request.specs.Carried.{Ends, Carried}
 use Rattle.request.specs.Issue.{NumbersLeft, IssueRoom, Issued, IssuedIfRoom}
-use Rattle.request.proofs.Deciding.{refuses}
+use Rattle.request.proofs.Deciding.{fails, holds, refuses}
 
 pub issue-room : {hs : List Handle} {ts ss : List ℕ} {a b : Bool} → HandleRoom hs ss a → CanAdd ts ss b → IssueRoom hs ts ss (a && b)
 unfolding canIssue
@@ -67,24 +67,6 @@ module _ {s mask : ℕ} {t : Token} {hs : List Handle} {ss ts ds ss₁ ts′ ds�
   }
 
 -- ---- how a request that issues is decided
-
-pub fails : (b : Bool) (σ : State) (n : ℕ) (rest : Decision) → not b ≡ true → carriedOut σ (need b else refusal n then rest) ≡ record { state = σ; answer = n ∷ [] }
-unfolding carriedOut refusal
-fails b σ n rest e = rw (not-true b e)
-
-pub holds : (b : Bool) (σ : State) (x : Refusal) (rest : Decision) → not b ≡ false → carriedOut σ (need b else x then rest) ≡ carriedOut σ rest
-unfolding carriedOut
-holds b σ x rest e = rw (not-false b e)
-
--- another decision that comes to the same
-pub carried-as : {x y : State → Decision} {hs : List Handle} {ss ts ds ss′ ts′ ds′ : List ℕ} {r : Outcome}
-    → ((σ : State) → valid σ ≡ true → PartsIn σ hs ss ts ds → carriedOut σ (x σ) ≡ carriedOut σ (y σ))
-    → Carried y hs ss ts ds ss′ ts′ ds′ r → Carried x hs ss ts ds ss′ ts′ ds′ r
-carried-as e c = record {
-  parts = λ σ v p. rw (e σ v p) (c .parts σ v p);
-  answer = λ σ v p. rw (e σ v p) (c .answer σ v p);
-  fit = c .fit;
-}
 
 -- in the state before, or in the one where a used bit is set
 pub record Ready (x : Decision) (s mask : ℕ) (t : Token) (hs : List Handle) (ss ts ds : List ℕ) (σ τ : State) : Type 0 where

@@ -1,7 +1,7 @@
 -- How a request that names a handle is decided, from what looking the handle up gave. Assumes nothing.
 use Prim.Native.Nat.{ℕ, _<_}
 use native.Mathlib.Omega.{arith}
-use mathlib.Core.Path.{_≡_, refl, sym, ap, ap₂, _∙_}
+use mathlib.Core.Path.{_≡_, refl, sym, ap, ap₂, _∙_, subst}
 use mathlib.Core.Bool.{Bool, true, false, not}
 use mathlib.Core.List.{List, [], _∷_}
 use lib.Dec.{eqb}
@@ -17,6 +17,7 @@ use Rattle.rules.specs.State.{State, findHandle, tokenOf}
 use Rattle.rules.specs.Decision.{Decision, Served, carriedOut, need_else_then_, withHandle}
 use Rattle.rules.proofs.Facts.{valid-facts}
 use Rattle.rules.proofs.Steps.{Found, found-handle}
+use Rattle.handle.specs.Meaning.{handleOf}
 use Rattle.handle.specs.declared.Handle.{Handle}
 use Rattle.state.specs.Parts.{HandlesIn}
 use Rattle.state.specs.HandleFacts.{HandleGiven}
@@ -84,13 +85,15 @@ module _ {s n right : ℕ} {hs : List Handle} {t : Target} (l : LookedUp s n rig
         rw (l .refusal σ v i) (refused σ (isLive (findHandle σ s n)) (permits (state.handleOf σ s n .mask) right) _ (rw (l .refusal σ v i) at f))
 
     pub looked-up : t .refusal ≡ 0
-        → carriedOut σ (withHandle σ s n right go) ≡ carriedOut σ (go (state.handleOf σ s n) (tokenOf σ (state.handleOf σ s n .token)))
+        → carriedOut σ (withHandle σ s n right go) ≡ carriedOut σ (go (handleOf (t .handle)) (tokenOf σ (t .handle .token)))
     unfolding withHandle
-    looked-up e = passed σ (isLive (findHandle σ s n)) (permits (state.handleOf σ s n .mask) right) _ (sym (l .refusal σ v i) ∙ e)
+    looked-up e =
+        passed σ (isLive (findHandle σ s n)) (permits (state.handleOf σ s n .mask) right) _ (sym (l .refusal σ v i) ∙ e)
+        ∙ ap (λ (h : rules.Handle). carriedOut σ (go h (tokenOf σ (h .token)))) (sym (l .handle σ v i))
 
-  pub looked-up-found : (σ : State) → valid σ ≡ true → HandlesIn σ hs → t .refusal ≡ 0 → Found σ (state.handleOf σ s n)
-  looked-up-found σ v i e =
-      found-handle σ s n (valid-facts σ v) (is-known (isLive (findHandle σ s n)) (permits (state.handleOf σ s n .mask) right) (sym (l .refusal σ v i) ∙ e))
+  pub looked-up-found : (σ : State) → valid σ ≡ true → HandlesIn σ hs → t .refusal ≡ 0 → Found σ (handleOf (t .handle))
+  looked-up-found σ v i e = subst (Found σ) (sym (l .handle σ v i))
+      (found-handle σ s n (valid-facts σ v) (is-known (isLive (findHandle σ s n)) (permits (state.handleOf σ s n .mask) right) (sym (l .refusal σ v i) ∙ e)))
 
   -- the refusal of any request that begins with the handle
   pub handle-refuses : {ss ts ds : List ℕ} (go : State → rules.Handle → Token → Decision) (r : Outcome) → Ends (answers.Refused (t .refusal)) r → (t .refusal ≡ 0 → ⊥)

@@ -1,5 +1,5 @@
--- A pass over entries: as a loop makes it, and as the rule has it, all entries judged first and none of them twice. Assumes nothing.
-use Prim.Native.Nat.{ℕ, _+_, _-_, _^_, _%_, _≤_, _<_}
+-- A pass over entries as the rule has it: all entries judged first, and none of them twice. The loop is Folding's. Assumes nothing.
+use Prim.Native.Nat.{ℕ, _+_, _^_, _%_, _<_}
 use native.Mathlib.Nat.{add-zero, zero-add, add-assoc}
 use native.Mathlib.Omega.{arith}
 use mathlib.Core.Path.{_≡_, refl, sym, ap, ap₂, _∙_}
@@ -7,7 +7,6 @@ use mathlib.Core.Bool.{Bool, true, false, not, _&&_, _||_, and-false, and-assoc}
 use mathlib.Core.List.{List, [], _∷_, map}
 use lib.Dec.{eqb}
 use lib.Bits.{bitOr, or-disjoint}
-use lib.ListN.{drop}
 use borrow.Author.Tests.{not-true, eqb-true, eqb-false, eq-eqb, ne-eqb}
 use mathlib.Core.Logic.{⊎-elim}
 use Rattle.rules.specs.Basic.{if_then_else_, all, member, distinct, isEmpty}
@@ -15,13 +14,11 @@ use Rattle.rules.specs.Bits.{has}
 use Rattle.rules.specs.Number.{Read, got, bad}
 use Rattle.rules.specs.Entry.{Entry, keyOf, validEntries, applyAll}
 use Rattle.rules.specs.AdjustPrivileges.{named}
-use Rattle.rules.specs.Request.{follow, give, times, entry}
+use Rattle.rules.specs.Request.{times, entry}
 use Rattle.rules.proofs.Bits.{has-or, has-power, has-none, and-power, power-inside}
 use Rattle.rules.proofs.Logic.{and-l, and-r, and-i, either}
-use Rattle.request.specs.declared.entry.Pair.{Pair}
-use Rattle.request.specs.declared.entry.Pair.the-variants as pair
-use Rattle.request.specs.Entries.{entryOf, PairAt, Progress, going, stopped, turned, onward, passed}
-use Rattle.request.proofs.Pairs.{Long, times-long, joined, is-none, is-pair, times-end, times-lost, times-next}
+use Rattle.request.specs.Entries.{entryOf, foldAll, folded, Progress, going, stopped, turned, passed}
+use Rattle.request.proofs.Pairs.{Long, times-long}
 
 -- ---- keys and the word of those named before
 
@@ -80,31 +77,6 @@ regroup true true a f m d = ap (λ (x : Bool). a && x) (and-assoc f m d)
 regroup true false a f m d = sym (and-false a)
 
 module _ {X : Type 0} (good : Entry → Bool) (make : Entry → X → X) where
-  -- ---- the loop: z is what the whole gives
-
-  onward-joined : (g : Progress X) (e : Entry) (r : Read (List Entry)) → onward good make g (joined entry e r) ≡ onward good make (turned good make e g) r
-  unfolding onward follow give applyAll
-  onward-joined g e (got es later) = refl
-  onward-joined g e bad = refl
-
-  module _ (s : List ℕ) (at left : ℕ) (g z : Progress X) (inv : onward good make g (times left entry (drop at s)) ≡ z) where
-    pub pass-end : left ≤ 0 → g ≡ z
-    unfolding onward applyAll
-    pass-end h = ap (onward good make g) (sym (times-end entry left (drop at s) h)) ∙ inv
-
-    module _ (r : Pair) (f : PairAt s at r) (h : 0 < left) where
-      pub pass-lost : r ≡ pair.Bad → stopped ≡ z
-      unfolding onward
-      pass-lost q = ap (onward good make g) (sym (times-lost entry left (drop at s) h (is-none s at r f q))) ∙ inv
-
-      pub pass-next : (k v q : ℕ) → r ≡ pair.Got k v q → (g′ : Progress X) → g′ ≡ turned good make (entryOf k v) g
-          → onward good make g′ (times (left - 1) entry (drop q s)) ≡ z
-      pass-next k v q i g′ t =
-          ap (λ (y : Progress X). onward good make y (times (left - 1) entry (drop q s))) t
-          ∙ sym (onward-joined g (entryOf k v) (times (left - 1) entry (drop q s)))
-          ∙ ap (onward good make g) (sym (times-next entry left (drop at s) (drop q s) (entryOf k v) h (is-pair s at r f k v q i)))
-          ∙ inv
-
   -- ---- one turn, by its test: o no entry was bad so far, v this one is good, n it is named already
   module _ (o v n : Bool) (x : X) (w k a : ℕ) (ev : v ≡ good (entryOf k a)) (en : n ≡ has k w) where
     abbrev so-far : Progress X
@@ -128,13 +100,13 @@ module _ {X : Type 0} (good : Entry → Bool) (make : Entry → X → X) where
 
   -- ---- the rule
 
-  stays : (es : List Entry) → applyAll (turned good make) es stopped ≡ stopped
-  unfolding applyAll turned
+  stays : (es : List Entry) → foldAll (turned good make) es stopped ≡ stopped
+  unfolding foldAll turned
   stays [] = refl
   stays (e ∷ es) = stays es
 
   from-here : (es : List Entry) (b : Bool) (x : X) (w : ℕ)
-      → applyAll (turned good make) es (if b then going x w else stopped) ≡ (if b then applyAll (turned good make) es (going x w) else stopped)
+      → foldAll (turned good make) es (if b then going x w else stopped) ≡ (if b then foldAll (turned good make) es (going x w) else stopped)
   from-here es true x w = refl
   from-here es false x w = stays es
 
@@ -142,8 +114,8 @@ module _ {X : Type 0} (good : Entry → Bool) (make : Entry → X → X) where
   verdict w es = all good es && (fresh w (map keyOf es) && distinct (map keyOf es))
 
   all-turned : (es : List Entry) (x : X) (w : ℕ)
-      → applyAll (turned good make) es (going x w) ≡ (if verdict w es then going (applyAll make es x) (namedFrom w es) else stopped)
-  unfolding applyAll turned all keyOf distinct
+      → foldAll (turned good make) es (going x w) ≡ (if verdict w es then going (applyAll make es x) (namedFrom w es) else stopped)
+  unfolding foldAll applyAll turned all keyOf distinct
   all-turned [] x w = refl
   all-turned (e ∷ es) x w =
       let k = e .key in
@@ -158,7 +130,7 @@ module _ {X : Type 0} (good : Entry → Bool) (make : Entry → X → X) where
       (ap (λ (f : Bool). b && (all good es && (f && distinct ks))) (fresh-with w k ks)
       ∙ regroup (good e) (not (has k w)) (all good es) (fresh w ks) (not (member k ks)) (distinct ks))
 
-  pub all-passed : (es : List Entry) (x : X) → applyAll (turned good make) es (going x 0)
+  pub all-passed : (es : List Entry) (x : X) → foldAll (turned good make) es (going x 0)
       ≡ (if all good es && distinct (map keyOf es) then going (applyAll make es x) (named es) else stopped)
   all-passed es x =
       let f : (fresh 0 (map keyOf es) && distinct (map keyOf es)) ≡ distinct (map keyOf es) = ap (λ (b : Bool). b && distinct (map keyOf es)) (fresh-none (map keyOf es)) in
@@ -180,7 +152,7 @@ module _ {X : Type 0} (good : Entry → Bool) (make : Entry → X → X) where
   none-left false = refl
 
   not-empty : (n : ℕ) (x : X) (r : Read (List Entry)) → Long entry n r → (if not (eqb n 0) then passed good make x r else stopped) ≡ whole x r
-  unfolding onward validEntries isEmpty
+  unfolding folded validEntries isEmpty
   not-empty n x (got [] later) l = ap (λ (b : Bool). if not b then passed good make x (got [] later) else stopped) (eq-eqb n 0 (sym l))
   not-empty n x (got (e ∷ es) later) l =
       ap (λ (b : Bool). if not b then passed good make x (got (e ∷ es) later) else stopped) (ne-eqb n 0 (omega arith)) ∙ all-passed (e ∷ es) x

@@ -11,7 +11,6 @@ use Rattle.table.specs.Table.{record-at}
 use Rattle.table.specs.Rows.{rows-at}
 use Rattle.rules.specs.Mask as mask
 use Rattle.rules.specs.Refusal.{refusal, capacityBelow}
-use Rattle.rules.specs.Handle as rules
 use Rattle.rules.specs.Token as Rules
 use Rattle.rules.specs.Token.{maxDacl}
 use Rattle.rules.specs.Table.{Slot, free, live, isLive, orElse, found, lives}
@@ -32,10 +31,10 @@ use Rattle.handle.specs.declared.Handle.{Handle}
 use Rattle.token.specs.Meaning.{tokenOf}
 use Rattle.token.specs.declared.Token.{Token}
 use Rattle.state.specs.Parts.{TokensIn}
-use Rattle.state.specs.TokenCalls.{TokenGiven}
+use Rattle.state.specs.TokenCalls.{FoundAt, TokenLoaded}
 use Rattle.state.specs.ReleaseFacts.{PartsIn}
 use Rattle.state.proofs.Slots.{live-or}
-use Rattle.state.proofs.TokenLooks.{FoundAt, slots-read, slots-long}
+use Rattle.state.proofs.TokenLooks.{slots-read, slots-long}
 use Rattle.request.specs.declared.lookup.Target.{Target}
 use Rattle.request.specs.declared.outcome.Outcome.{Outcome}
 use Rattle.request.specs.declared.answer.Answer.{Answer}
@@ -87,9 +86,10 @@ module _ (n class capacity : ℕ) {ts ds : List ℕ} where
   unfolding carriedOut refusal
   class-unknown h = record { answer = λ σ v i m. rw (not-true (leb 1 class && leb class 13) h); fit = λ σ v i m. omega arith }
 
-  module _ {t : Token} {size : ℕ} (h : not (leb 1 class && leb class 13) ≡ false) (g : TokenGiven n ts ds t) (e : size ≡ length (classBytes (tokenOf t) class)) where
+  module _ {t : Token} {slot size : ℕ} (h : not (leb 1 class && leb class 13) ≡ false) (at : FoundAt n ts slot) (g : TokenLoaded slot ts ds t)
+      (e : size ≡ length (classBytes (tokenOf t) class)) where
     size-is : (σ : State) → valid σ ≡ true → TokensIn σ ts ds → size ≡ length (classBytes (state.tokenOf σ n) class)
-    size-is σ v i = e ∙ ap (λ (x : Rules.Token). length (classBytes x class)) (g .token σ v i)
+    size-is σ v i = e ∙ ap (λ (x : Rules.Token). length (classBytes x class)) (g .given n at .token σ v i)
 
     pub class-above : capacity < size → ClassAnswered n class capacity ts ds (answers.TooSmall size)
     unfolding carriedOut capacityBelow
@@ -98,9 +98,9 @@ module _ (n class capacity : ℕ) {ts ds : List ℕ} where
       fit = λ σ v i m. tt;
     }
 
-    pub class-given : {slot : ℕ} → size ≤ capacity → FoundAt n ts slot → ClassAnswered n class capacity ts ds (answers.Class slot class)
+    pub class-given : size ≤ capacity → ClassAnswered n class capacity ts ds (answers.Class slot class)
     unfolding carriedOut
-    class-given {slot} l at = record {
+    class-given l = record {
       answer = λ σ v i m.
           rw (not-false (leb 1 class && leb class 13) h, sym (size-is σ v i), le-leb size capacity l, slot-of σ n slot ts ds v i at m .token);
       fit = λ σ v i m.
@@ -121,14 +121,13 @@ module _ {s n : ℕ} (class capacity : ℕ) {hs : List Handle} {ss ts ds : List 
     unfolding numberOf
     is-there σ v p =
         let i = looked-up-found l σ v (p .handles) found .token in
-        mem-by numberOf (ap (λ (h : rules.Handle). h .token) (l .handle σ v (p .handles)) ∙ sym (i .number)) (i .was)
+        mem-by numberOf (sym (i .number)) (i .was)
 
     decided : (σ : State) → valid σ ≡ true → PartsIn σ hs ss ts ds
         → carriedOut σ (query σ s n class capacity) ≡ record { state = σ; answer = answerOf ts ds a }
     unfolding query
     decided σ v p =
         looked-up l σ v (p .handles) (λ h x. classDecision class capacity σ x) found
-        ∙ ap (λ (h : rules.Handle). carriedOut σ (classDecision class capacity σ (state.tokenOf σ (h .token)))) (sym (l .handle σ v (p .handles)))
         ∙ c .answer σ v (p .tokens) (is-there σ v p)
 
     pub query-answered : {r : Outcome} → Ends a r → Carried (λ σ. query σ s n class capacity) hs ss ts ds ss ts ds r

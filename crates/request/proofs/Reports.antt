@@ -1,9 +1,7 @@
 -- The report of request 6: the ENABLED bits of a token's groups fit one word, and the other words are 0. Assumes nothing.
 use Prim.Native.Nat.{ℕ, zero, suc, _+_, _*_, _-_, _^_, _≤_, _<_}
-use native.Mathlib.Nat.{pow-succ'}
 use native.Mathlib.Omega.{arith}
 use mathlib.Core.Path.{_≡_, refl, sym, ap, ap₂, _∙_}
-use mathlib.Core.Bool.{Bool, true, false}
 use mathlib.Core.List.{List, [], _∷_, map}
 use lib.Pow.{pow-mono}
 use lib.ListN.{length, take, drop, getD, replicate, length-map, length-drop, drop-of-length-le}
@@ -12,18 +10,10 @@ use Rattle.rules.specs.Basic.{if_then_else_}
 use Rattle.rules.specs.Group.{Group, isOn}
 use Rattle.rules.specs.Token.{maxGroups}
 use Rattle.rules.specs.AdjustGroups.{onBits, onWords, reportWords}
+use Rattle.rules.proofs.Answers.{bits-below}
 use Rattle.token.specs.declared.Group as Code
 use Rattle.token.specs.declared.Token.{Token}
 use Rattle.token.specs.Meaning.{groupOf, tokenOf, Sized}
-
-one-bit : (b : Bool) → (if b then 1 else 0) ≤ 1
-one-bit true = omega arith
-one-bit false = omega arith
-
-bits-below : (gs : List Group) → onBits gs < 2 ^ length gs
-unfolding onBits
-bits-below [] = omega arith
-bits-below (g ∷ gs) = omega (arith, one-bit (isOn g), bits-below gs, pow-succ' 2 (length gs))
 
 -- a loop from the last group of n down: w has the bits of the groups from i on
 pub record Counting (n : ℕ) (xs : List Code.Group) (w i : ℕ) : Type 0 where

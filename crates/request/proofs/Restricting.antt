@@ -29,12 +29,12 @@ use Rattle.number.proofs.Reading.{is-bad, is-value, bounds}
 use Rattle.token.specs.declared.Group as Code
 use Rattle.token.specs.declared.Token.{Token}
 use Rattle.token.specs.Meaning.{groupOf, tokenOf, Sized}
-use Rattle.request.specs.Entries.{entryOf, Progress, going, stopped, turned}
+use Rattle.request.specs.Entries.{entryOf, Progress, going, stopped, turned, foldAll, folded}
 use Rattle.request.specs.Restricting.{marksOf, inRange, deny, marked, GroupsDenied, withSids, SidsAdded}
 use Rattle.request.specs.declared.restrict.Marks.{Marks}
 use Rattle.request.proofs.Passes.{turn-good, turn-bad, all-passed}
 use Rattle.request.proofs.Switching.{take-changed, count-groups}
-use Rattle.request.proofs.Folding.{foldAll, folded, fold-end, fold-lost, fold-next}
+use Rattle.request.proofs.Folding.{fold-end, fold-lost, fold-next}
 
 -- ---- one index more
 
@@ -65,8 +65,8 @@ abbrev asEntry : ℕ → Entry
 asEntry i = entryOf i 0
 
 module _ (size : ℕ) where
-  as-entries : (is : List ℕ) (x : Progress (List Group)) → foldAll (marked size) is x ≡ applyAll (turned (inRange size) deny) (map asEntry is) x
-  unfolding foldAll applyAll
+  as-entries : (is : List ℕ) (x : Progress (List Group)) → foldAll (marked size) is x ≡ foldAll (turned (inRange size) deny) (map asEntry is) x
+  unfolding foldAll
   as-entries [] x = refl
   as-entries (i ∷ is) x = as-entries is (marked size i x)
 

@@ -2,7 +2,7 @@
 use Prim.Native.Nat.{ℕ, _+_, _-_, _≤_, _<_}
 use native.Mathlib.Omega.{arith}
 use mathlib.Core.Path.{_≡_, refl, sym, ap, ap₂, _∙_, subst}
-use mathlib.Core.Bool.{Bool, true, false, not, _&&_}
+use mathlib.Core.Bool.{Bool, true, false, not, _&&_, and-assoc}
 use mathlib.Core.List.{List, [], _++_, append-nil}
 use lib.Dec.{leb}
 use lib.ListN.{length, take, drop}
@@ -29,24 +29,19 @@ use Rattle.state.specs.TokenCalls.{NextToken}
 use Rattle.request.specs.declared.answer.Answer.the-variants as answers
 use Rattle.request.specs.declared.outcome.Outcome.{Outcome}
 use Rattle.request.specs.declared.restrict.Denied.{Denied}
-use Rattle.request.specs.declared.restrict_token.Copy.{Copy}
+use Rattle.request.specs.declared.restricted.Copy.{Copy}
 use Rattle.request.specs.declared.subject.Subject.{Subject}
 use Rattle.request.specs.Carried.{Ends, Carried}
 use Rattle.request.specs.Subject.{SubjectGiven}
 use Rattle.request.specs.Issue.{issuedIf, IssuedIfRoom}
 use Rattle.request.specs.Restricting.{GroupsDenied, withSids, SidsAdded}
 use Rattle.request.specs.Restricts.{Lists, CopyMade, restrictOf, RestrictedIssued, RestrictCarried}
-use Rattle.request.proofs.Deciding.{refuses}
+use Rattle.request.proofs.Deciding.{fails, holds, refuses, carried-as}
 use Rattle.request.proofs.Pairs.{Long, times-long}
 use Rattle.request.proofs.LookupLaws.{handle-refuses}
-use Rattle.request.proofs.Issuing.{fails, holds, carried-as}
 use Rattle.request.proofs.Copying.{on-subject, copy-refused, copy-issued}
 
 -- ---- the copy
-
-together : (a b c : Bool) → (a && (b && c)) ≡ (a && b && c)
-together true b c = refl
-together false b c = refl
 
 module _ (n mark removed : ℕ) (t : Token) (s : List ℕ) (denyAt denyCount sidAt sidCount : ℕ) {copy : Token} (d : Denied) {w : Bool}
     (ec : tokenOf copy ≡ restricted n mark removed [] [] (tokenOf t)) (g : GroupsDenied copy s denyAt denyCount d) (ew : w ≡ within removed existing) where
@@ -59,7 +54,7 @@ module _ (n mark removed : ℕ) (t : Token) (s : List ℕ) (denyAt denyCount sid
     ok-valid =
         ap₂ _&&_ (ap (λ (b : Bool). leb mark 1 && b) ew)
         (g .valid deny (l .after) (l .denied) ∙ ap (λ (u : rules.Token). all (isBelow (length (u .groups))) deny && distinct deny) ec)
-        ∙ together (leb mark 1 && within removed existing) (all (isBelow (length (tokenOf t .groups))) deny) (distinct deny)
+        ∙ sym (and-assoc (leb mark 1 && within removed existing) (all (isBelow (length (tokenOf t .groups))) deny) (distinct deny))
 
     denied-copy : ok ≡ true → tokenOf (d .token) ≡ restricted n mark removed deny [] (tokenOf t)
     unfolding restricted deniedAll withGroups

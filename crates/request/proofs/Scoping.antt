@@ -70,8 +70,7 @@ module _ {s n : ℕ} (v : ℕ) {hs : List Handle} {ss ts ds : List ℕ} {t : Tar
         → carriedOut σ (scope σ s n v) ≡ carriedOut σ (need b else privilegeNotHeld then success (changeToken (t .handle .token) (scopedToken v) (used tcb s σ)) [])
     unfolding scope
     decided σ w p =
-        looked-up l σ w (p .handles) (go s v σ) found
-        ∙ rw (sym (h .held σ w (p .tokens) (p .stations)), sym (l .handle σ w (p .handles)))
+        looked-up l σ w (p .handles) (go s v σ) found ∙ rw (sym (h .held σ w (p .tokens) (p .stations)))
 
     pub scope-not-held : {r : Outcome} → not b ≡ true → Ends (answers.Refused 4) r → Carried (λ σ. scope σ s n v) hs ss ts ds ss ts ds r
     unfolding carriedOut refusal

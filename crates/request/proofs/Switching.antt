@@ -31,10 +31,6 @@ use Rattle.request.specs.Entries.{entryOf, isJust, Progress, going, stop
 use Rattle.request.specs.Switching.{Outcome, done, refused, judged, Made, made, begun, madeOf, progressOf}
 use Rattle.request.proofs.Passes.{turn-good, whole, pass-whole}
 
--- the length of an array in a struct, as its type says
-pub long : {A B : Type 0} (f : A → B) (xs : List A) {n : ℕ} → length (map f xs) ≡ n → length xs ≡ n
-long f xs e = sym (length-map xs f) ∙ e
-
 -- ---- one group
 
 module _ (user : ℕ) (g : Group) (d : Bool) (ed : d ≡ isDenyOnly g) where

@@ -2,19 +2,17 @@
 use Prim.Native.Nat.{ℕ, _≤_, _<_, _^_}
 use mathlib.Core.Path.{_≡_}
 use mathlib.Core.Bool.{Bool, false, not, _&&_}
-use mathlib.Core.List.{List}
+use mathlib.Core.List.{List, [], _∷_}
 use lib.Bits.{bitOr}
 use lib.ListN.{length, drop}
 use Rattle.rules.specs.Basic.{if_then_else_}
 use Rattle.rules.specs.Bits.{has}
 use Rattle.rules.specs.Number.{Read, got, bad, max32}
-use Rattle.rules.specs.Entry.{Entry, isOnly, applyAll}
+use Rattle.rules.specs.Entry.{Entry, isOnly}
 use Rattle.rules.specs.Request.{entry}
+pub use Rattle.privilege.specs.Meaning.{entryOf}
 use Rattle.request.specs.declared.entry.Pair.{Pair}
 use Rattle.request.specs.declared.entry.Pair.the-variants as pair
-
-abbrev pub entryOf : ℕ → ℕ → Entry
-entryOf k v = record { key = k; value = v }
 
 -- ---- one entry at a place
 
@@ -37,6 +35,16 @@ unfoldable pub isJust : ℕ → ℕ → Read (List Entry) → Bool
 isJust k v (got es bytes) = isOnly k v es
 isJust k v bad = false
 
+-- a step for each
+unfoldable pub foldAll : {A X : Type 0} → (A → X → X) → List A → X → X
+foldAll step [] x = x
+foldAll step (a ∷ xs) x = foldAll step xs (step a x)
+
+-- over what was read, and `stop` where something is missing
+unfoldable pub folded : {A X : Type 0} → (A → X → X) → X → X → Read (List A) → X
+folded step stop x (got xs later) = foldAll step xs x
+folded step stop x bad = stop
+
 -- what has become of x so far and the word of the keys named so far, until some entry is bad
 pub data Progress (X : Type 0) : Type 0 where
   going : X → ℕ → Progress X
@@ -47,10 +55,5 @@ unfoldable pub turned : {X : Type 0} → (Entry → Bool) → (Entry → X → X
 turned good make e stopped = stopped
 turned good make e (going x w) = if good e && not (has e.key w) then going (make e x) (bitOr w (2 ^ e.key)) else stopped
 
--- from some point on
-unfoldable pub onward : {X : Type 0} → (Entry → Bool) → (Entry → X → X) → Progress X → Read (List Entry) → Progress X
-onward good make g (got es bytes) = applyAll (turned good make) es g
-onward good make g bad = stopped
-
 abbrev pub passed : {X : Type 0} → (Entry → Bool) → (Entry → X → X) → X → Read (List Entry) → Progress X
-passed good make x = onward good make (going x 0)
+passed good make x = folded (turned good make) stopped (going x 0)

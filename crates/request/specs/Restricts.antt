@@ -15,7 +15,7 @@ use Rattle.rules.specs.Restrict.{validRestrict, restricted, restrict}
 use Rattle.handle.specs.declared.Handle.{Handle}
 use Rattle.token.specs.Meaning.{tokenOf, Sized}
 use Rattle.token.specs.declared.Token.{Token}
-use Rattle.request.specs.declared.restrict_token.Copy.{Copy}
+use Rattle.request.specs.declared.restricted.Copy.{Copy}
 use Rattle.request.specs.declared.outcome.Outcome.{Outcome}
 use Rattle.request.specs.Carried.{Carried}
 use Rattle.request.specs.Copies.{copied}

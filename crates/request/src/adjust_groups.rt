@@ -3,6 +3,7 @@ ghost use Rattle.rules.specs.AdjustGroups.{adjust};
 ghost use Rattle.state.specs.Parts.{Lent};
 ghost use Rattle.request.specs.Adjusts.{EntriesCarried};
 use crate::answer::Answer;
+use crate::group_list;
 use crate::groups;
 use crate::outcome;
 use crate::outcome::Outcome;
@@ -33,6 +34,6 @@ pub fn adjust_groups(
     if switched.refusal != 0 {
         return outcome::refused(switched.refusal);
     }
-    let previous = groups::enabled_word(x.token);
+    let previous = group_list::enabled_word(x.token);
     subject::finish(switched.token, Answer::Report(previous), tokens, dacls)
 }

@@ -1,9 +1,8 @@
 // Request 4: what a query answers of a loaded token, for each class, and how long that is.
 ghost use mathlib.Core.Path.{_≡_};
 ghost use mathlib.Core.List.{[], _∷_, _++_};
-ghost use Prim.Native.Nat.{_*_, _-_, _≤_};
+ghost use Prim.Native.Nat.{_-_, _≤_};
 ghost use lib.ListN.{length, take, replicate};
-ghost use Rattle.rules.specs.Number.{encodeAll};
 ghost use Rattle.rules.specs.Token.{sidAt};
 ghost use Rattle.rules.specs.Query.{pairs, classBytes};
 ghost use Rattle.token.specs.Meaning.{tokenOf, Sized};
@@ -132,27 +131,13 @@ pub fn contents(t: Token, class: u64) -> Fields
     }
 }
 
-// How many bytes the numbers take.
-fn sizes(f: Fields) -> usize
-    requires { ⌜ (length (f .fields) ≡ maxNumbers) × (f .count ≤ maxNumbers) ⌝ }
-    ensures { λ r. ⌜ (r ≡ length (encodeAll (take (f .count) (f .fields)))) × (r ≤ 10 * maxNumbers) ⌝ }
-{
-    let n = f.count;
-    let fields = f.fields;
-    let mut sum: usize = 0;
-    let mut i: usize = 0;
-    while i < n {
-        sum += number::size(fields[i]);
-        i += 1;
-    }
-    sum
-}
-
 // How many bytes follow the status.
 pub fn size(t: Token, class: u64) -> u64
     requires { ⌜ Sized t ⌝ }
     ensures { λ r. ⌜ r ≡ length (classBytes (tokenOf t) class) ⌝ }
 {
     let f = contents(t, class);
-    (sizes(f) - 1 + f.plain) as u64
+    let n = f.count;
+    let fields = f.fields;
+    (number::sizes(&fields[0..n]) - 1 + f.plain) as u64
 }

@@ -75,11 +75,12 @@ fn duplicated(n: u64, kind: u32, level: u32, t: Token) -> Token
     requires { ⌜ Sized t × (level ≤ 3) ⌝ }
     ensures { λ r. ⌜ (tokenOf r ≡ rules.duplicated n kind level (tokenOf t)) × Sized r ⌝ }
 {
+    let anonymous = (kind != PRIMARY) & (level == 0);
+    if anonymous {
+        return anonymous_copy(n, t);
+    }
     if kind == PRIMARY {
         return copied(n, PRIMARY as u8, 0, t);
-    }
-    if level == 0 {
-        return anonymous_copy(n, t);
     }
     copied(n, IMPERSONATION as u8, level as u8, t)
 }

@@ -17,11 +17,11 @@ pub fn read(s: &[u8], at: usize) -> Pair
     let Number::Value {
         value: key,
         next: middle,
-    } = number::read(s, at, number::U32)
+    } = number::number_at(s, at, number::U32)
     else {
         return Pair::Bad;
     };
-    let Number::Value { value, next } = number::read(s, middle, number::U32) else {
+    let Number::Value { value, next } = number::number_at(s, middle, number::U32) else {
         return Pair::Bad;
     };
     Pair::Got { key, value, next }

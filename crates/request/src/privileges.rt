@@ -1,6 +1,5 @@
 // Request 5: the entries judged against a token's privileges, and made on a copy of them.
 ghost use mathlib.Core.Path.{_≡_};
-ghost use Prim.Native.Nat.{_<_};
 ghost use lib.ListN.{drop};
 ghost use Rattle.rules.specs.Request.{times, entry};
 ghost use Rattle.rules.specs.AdjustPrivileges.{validEntry, applied};
@@ -28,35 +27,15 @@ struct Progress {
     named: u64,
 }
 
-// 0 disable, 2 enable, 4 remove; an absent one is not enabled.
-fn is_valid(p: Privileges, key: u64, value: u64) -> bool
-    ensures { λ r. ⌜ r ≡ validEntry (privilegesOf p) (entryOf key value) ⌝ }
-{
-    ((2 <= key) & (key <= 36))
-        & ((value == 0) | (value == 4) | (value == 2) & words::has(p.present, key))
-}
-
-fn applied(p: Privileges, key: u64, value: u64) -> Privileges
-    requires { ⌜ key < 64 ⌝ }
-    ensures { λ r. ⌜ privilegesOf r ≡ applied (entryOf key value) (privilegesOf p) ⌝ }
-{
-    let w = words::bit(key);
-    match value {
-        2 => p.enable(w),
-        4 => p.remove(w),
-        _ => p.disable(w),
-    }
-}
-
 fn turn(p: Privileges, g: Progress, key: u64, value: u64) -> Progress
     ensures { λ r. ⌜ progressOf r ≡ turned (validEntry (privilegesOf p)) applied (entryOf key value) (progressOf g) ⌝ }
 {
     let made = g.made;
     let named = g.named;
-    if g.ok & is_valid(p, key, value) & !words::has(named, key) {
+    if g.ok & p.may_adjust(key, value) & !words::has(named, key) {
         return Progress {
             ok: true,
-            made: applied(made, key, value),
+            made: made.adjust(key, value),
             named: words::with(named, words::bit(key)),
         };
     }

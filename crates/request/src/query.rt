@@ -16,7 +16,7 @@ use crate::outcome;
 use crate::outcome::Outcome;
 use handle::Handles;
 use privilege::mask::Mask;
-use state::tokens::token_of;
+use state::tokens::token_at;
 use token::slots;
 
 // A class of the token of that number.
@@ -28,12 +28,12 @@ fn class_of(token: u64, class: u64, capacity: u64, tokens: &[u64], dacls: &[u8])
     if !known {
         return Answer::Refused(5);
     }
-    let t = token_of(token, tokens, dacls);
+    let slot = slots::find(tokens, token);
+    let t = token_at(slot, tokens, dacls);
     let needed = size(t, class);
     if capacity < needed {
         return Answer::TooSmall(needed);
     }
-    let slot = slots::find(tokens, token);
     Answer::Class { slot, class }
 }
 

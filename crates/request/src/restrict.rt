@@ -8,7 +8,7 @@ ghost use Rattle.rules.specs.Token.{maxGroups, maxRestricting};
 ghost use Rattle.token.specs.Meaning.{groupOf, tokenOf, Sized};
 ghost use Rattle.request.specs.Restricting.{marksOf, marked, GroupsDenied, withSids, SidsAdded};
 use crate::attributes;
-use crate::groups;
+use crate::group_list;
 use number::Number;
 use privilege::words;
 use token::Group;
@@ -77,7 +77,7 @@ pub fn deny(t: Token, s: &[u8], at: usize, count: u64) -> Denied
     let mut from = at;
     let mut left = count;
     while 0 < left {
-        let Number::Value { value: index, next } = number::read(s, from, number::U32) else {
+        let Number::Value { value: index, next } = number::number_at(s, from, number::U32) else {
             return Denied {
                 ok: false,
                 token: t,
@@ -90,7 +90,7 @@ pub fn deny(t: Token, s: &[u8], at: usize, count: u64) -> Denied
     let groups = m.groups;
     Denied {
         ok: m.ok,
-        token: groups::with_groups(t, groups),
+        token: group_list::with_groups(t, groups),
     }
 }
 
@@ -116,7 +116,7 @@ pub fn add_sids(t: Token, s: &[u8], at: usize, count: u64) -> Token
     let mut from = at;
     let mut left = count;
     while 0 < left {
-        let Number::Value { value: sid, next } = number::read(s, from, number::U32) else {
+        let Number::Value { value: sid, next } = number::number_at(s, from, number::U32) else {
             return r;
         };
         r = with_sid(r, sid as u32);

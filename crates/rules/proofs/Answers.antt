@@ -226,7 +226,7 @@ module _ (t : Token) (number : t .number < 2 ^ 64) (f : TokenFacts t) where
 
 -- ---- what request 6 answers: sixteen words
 
-bits-below : (gs : List Group) → onBits gs < 2 ^ length gs
+pub bits-below : (gs : List Group) → onBits gs < 2 ^ length gs
 unfolding onBits
 bits-below [] = omega arith
 bits-below (g ∷ gs) =

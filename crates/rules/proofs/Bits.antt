@@ -1,7 +1,7 @@
 -- Laws of words as sets of bits. Each operation acts on each bit apart (has-and, has-or, has-without, has-power), and words with the same bits
 -- are equal (same-bits). Assumes nothing.
 use Prim.Native.Nat.{ℕ, zero, suc, _+_, _-_, _*_, _/_, _%_, _^_, _≤_, _<_, min, max}
-use native.Mathlib.Nat.{pow-suc, pow-succ', div-div-eq-div-mul, div-one, zero-div, one-mul, mod-lt, div-add-mod', min-le-left, mul-mod-left, mul-div-cancel, div-eq-of-lt, mod-eq-of-lt, lt-of-lt-of-le}
+use native.Mathlib.Nat.{pow-suc, pow-succ', div-div-eq-div-mul, div-one, zero-div, mod-lt, div-add-mod', min-le-left, mul-mod-left, mul-div-cancel, div-eq-of-lt, mod-eq-of-lt, lt-of-lt-of-le}
 use native.Mathlib.Omega.{arith}
 use mathlib.Core.Path.{_≡_, refl, sym, ap, ap₂, _∙_}
 use mathlib.Core.Bool.{Bool, true, false, not, _&&_, _||_, and-true, and-false, or-false}
@@ -10,7 +10,7 @@ use lib.Dec.{eqb, eqb·zero-suc, eqb·suc-zero, eqb·suc-suc}
 use lib.Arith.{digits-div, digits-mod, lt-one, bin-ind}
 use lib.Pow.{pow-add, pow-lt, pow-mono}
 use lib.Bits.{bitAnd, bitOr, and-step, or-step, and-le-l, and-le-r}
-use borrow.Author.Tests.{eqb-true, eqb-false, eq-eqb}
+use borrow.Author.Tests.{eqb-true, eq-eqb}
 use Rattle.rules.specs.Basic.{if_then_else_}
 use Rattle.rules.specs.Bits.{has, without, within}
 use Rattle.rules.proofs.Logic.{and-l, and-r, and-i, or-e, or-l, not-both, either}
@@ -45,7 +45,7 @@ module _ (op : ℕ → ℕ → ℕ) (f : ℕ → ℕ → ℕ) (g : Bool → Bool
       has-suc n (op a b) ∙ ap (has n) (op-half a b) ∙ op-has n (a / 2) (b / 2) ∙ sym (ap₂ g (has-suc n a) (has-suc n b))
 
 -- a table over two digits is a law for all of them
-digits : (P : ℕ → ℕ → Type 0) → P 0 0 → P 0 1 → P 1 0 → P 1 1 → (x y : ℕ) → x < 2 → y < 2 → P x y
+pub digits : (P : ℕ → ℕ → Type 0) → P 0 0 → P 0 1 → P 1 0 → P 1 1 → (x y : ℕ) → x < 2 → y < 2 → P x y
 digits P a b c d zero zero hx hy = a
 digits P a b c d zero (suc zero) hx hy = b
 digits P a b c d (suc zero) zero hx hy = c
@@ -184,10 +184,6 @@ none-within c = has-within 0 c (λ k g. absurd (not-both g (has-none k)))
 
 -- ---- what the code's shifts, complements and masks are
 
--- 1 << n
-pub shl-one : (n w : ℕ) → n < w → (1 * 2 ^ n) % 2 ^ w ≡ 2 ^ n
-shl-one n w h = ap (λ (x : ℕ). x % 2 ^ w) (one-mul (2 ^ n)) ∙ power-inside w n h
-
 min-not : (x y : ℕ) → x < 2 → y < 2 → min x (1 - y) ≡ x - min x y
 min-not = digits (λ x y. min x (1 - y) ≡ x - min x y) refl refl refl refl
 
@@ -219,15 +215,3 @@ pub and-power : (w n : ℕ) (t : Bool) → has n w ≡ t → bitAnd w (2 ^ n) �
 and-power w n t h = same-bits (bitAnd w (2 ^ n)) (if t then 2 ^ n else 0) (λ k.
     has-and k w (2 ^ n) ∙ ap (λ (x : Bool). has k w && x) (has-power k n)
     ∙ at-bit (has k w) t k n (λ e. ap (λ (x : ℕ). has x w) e ∙ h) ∙ sym (has-if k n t))
-
--- ---- a test that antt computes for every number below k is a law below k
-
-abbrev pub allBelow : (ℕ → Bool) → ℕ → Bool
-allBelow f zero = true
-allBelow f (suc k) = allBelow f k && f k
-
-pub below : (f : ℕ → Bool) (k : ℕ) → allBelow f k ≡ true → (n : ℕ) → n < k → f n ≡ true
-below f zero e n h = absurd (omega arith)
-below f (suc k) e n h =
-    ⊎-elim (λ q. ap f (eqb-true n k q) ∙ and-r (allBelow f k) (f k) e)
-    (λ q. below f k (and-l (allBelow f k) (f k) e) n (let d : n ≡ k → ⊥ = eqb-false n k q in omega (arith, d))) (either (eqb n k))

@@ -24,8 +24,8 @@ use Rattle.token.specs.declared.Token.{Token}
 use Rattle.token.proofs.Laws.{put-words, put-dacls}
 use Rattle.state.specs.Parts.{TokensIn}
 use Rattle.state.specs.StationFacts.{nextHandle}
-use Rattle.state.specs.TokenCalls.{CallerGiven, nextIn, Stored, TokenPut, TokenAdded, Used}
-use Rattle.state.proofs.TokenLooks.{slots-read, slots-long, FoundAt, FreeAt}
+use Rattle.state.specs.TokenCalls.{FoundAt, CallerGiven, nextIn, Stored, TokenPut, TokenAdded, Used}
+use Rattle.state.proofs.TokenLooks.{slots-read, slots-long, FreeAt}
 
 -- ---- one slot
 

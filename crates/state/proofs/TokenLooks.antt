@@ -18,7 +18,7 @@ use Rattle.rules.specs.Table.{Slot, free, orElse, canAdd, found}
 use Rattle.rules.specs.Station.{startStation}
 use Rattle.rules.specs.State as State
 use Rattle.rules.specs.State.{State, tokenSlots, stationCount, noToken, isNumbered, stationAt, callerNumber, caller, held, canAddToken}
-use Rattle.rules.specs.Index.{freeIndex, foundIndex}
+use Rattle.rules.specs.Index.{freeIndex}
 use Rattle.rules.specs.Valid.{valid}
 use Rattle.rules.specs.Memory.{tokenWords, counterWords, stationWords, stationRow, slotAt, tokenAt, encode, decode}
 use Rattle.rules.proofs.Logic.{and-r}
@@ -32,7 +32,7 @@ use Rattle.token.specs.declared.Token.{Token}
 use Rattle.state.specs.Parts.{TokensIn}
 use Rattle.state.specs.StationFacts.{CallerNumber}
 use Rattle.state.proofs.FormedLaws.{valid-formed, tokens-back}
-use Rattle.state.specs.TokenCalls.{TokenGiven, CallerGiven, Held, NextToken, CanAdd}
+use Rattle.state.specs.TokenCalls.{FoundAt, TokenGiven, TokenLoaded, CallerGiven, Held, NextToken, CanAdd}
 use Rattle.state.proofs.Slots.{some-free, found-live, live-or}
 
 -- ---- the slots that the rows stand for
@@ -48,10 +48,6 @@ rows-long ts ds = length-rows slotAt tokenWords maxDacl tokenSlots ts ds
 
 -- ---- the token of a number, by the slot where it is found
 
--- find's result
-abbrev pub FoundAt : ℕ → List ℕ → ℕ → Type 0
-FoundAt n ts r = (bs : List ℕ) → r ≡ foundIndex (isNumbered n) (slotsOf ts bs)
-
 in-slot : (n r : ℕ) (ts ds : List ℕ) → FoundAt n ts r → found (isNumbered n) (slotsOf ts ds) ≡ getD (slotsOf ts ds) r free
 in-slot n r ts ds e = found-at (isNumbered n) (slotsOf ts ds) ∙ ap (λ (k : ℕ). getD (slotsOf ts ds) k free) (sym (e ds))
 
@@ -62,18 +58,25 @@ given {n} z q = record {
   token = λ σ v i. q ∙ ap (λ (ps : List (Slot Rules.Token)). orElse noToken (found (isNumbered n) ps)) (slots-read v i);
 }
 
-pub token-found : {n r : ℕ} {ts ds : List ℕ} {t : Token} → FoundAt n ts r → r < tokenSlots
-    → tokenOf t ≡ tokenAt (record-at tokenWords r ts) (record-at maxDacl r ds) → Sized t → TokenGiven n ts ds t
+pub token-found : {r : ℕ} {ts ds : List ℕ} {t : Token} → r < tokenSlots
+    → tokenOf t ≡ tokenAt (record-at tokenWords r ts) (record-at maxDacl r ds) → Sized t → TokenLoaded r ts ds t
 unfolding slotAt
-token-found {n} {r} {ts} {ds} e l q z =
-    given z (q ∙ live-or noToken (eqb (getD (record-at tokenWords r ts) 0 0) 0)
-    (in-slot n r ts ds e ∙ rows-at slotAt tokenWords maxDacl free tokenSlots r ts ds l)
-    (found-live (isNumbered n) (slotsOf ts ds) (omega (arith, e ds, rows-long ts ds))))
+token-found {r} {ts} {ds} l q z = record {
+  sized = z;
+  given = λ n e. given z (q ∙ live-or noToken (eqb (getD (record-at tokenWords r ts) 0 0) 0)
+      (in-slot n r ts ds e ∙ rows-at slotAt tokenWords maxDacl free tokenSlots r ts ds l)
+      (found-live (isNumbered n) (slotsOf ts ds) (omega (arith, e ds, rows-long ts ds))));
+}
 
-pub token-missing : {n r : ℕ} {ts ds : List ℕ} {t : Token} → FoundAt n ts r → tokenSlots ≤ r → tokenOf t ≡ noToken → Sized t → TokenGiven n ts ds t
+pub token-missing : {r : ℕ} {ts ds : List ℕ} {t : Token} → tokenSlots ≤ r → tokenOf t ≡ noToken → Sized t → TokenLoaded r ts ds t
 unfolding orElse
-token-missing {n} {r} {ts} {ds} e l q z =
-    given z (q ∙ sym (ap (orElse noToken) (in-slot n r ts ds e ∙ List·getD-eq-default (slotsOf ts ds) free (omega (arith, rows-long ts ds)))))
+token-missing {r} {ts} {ds} l q z = record {
+  sized = z;
+  given = λ n e. given z (q ∙ sym (ap (orElse noToken) (in-slot n r ts ds e ∙ List·getD-eq-default (slotsOf ts ds) free (omega (arith, rows-long ts ds)))));
+}
+
+pub token-given : {n r : ℕ} {ts ds : List ℕ} {t : Token} → FoundAt n ts r → TokenLoaded r ts ds t → TokenGiven n ts ds t
+token-given {n} e k = k .given n e
 
 -- ---- a station's token
 

@@ -9,10 +9,11 @@ use Rattle.rules.specs.Number.{max64}
 use Rattle.rules.specs.Token as Rules
 use Rattle.rules.specs.Table.{Slot, live}
 use Rattle.rules.specs.State as State
-use Rattle.rules.specs.State.{State, tokenSlots, caller, held, putToken, used, canAddToken, addToken}
+use Rattle.rules.specs.State.{State, tokenSlots, isNumbered, caller, held, putToken, used, canAddToken, addToken}
+use Rattle.rules.specs.Index.{foundIndex}
 use Rattle.rules.specs.Valid.{valid}
 use Rattle.rules.specs.Memory.{slotRow, slotDacl}
-use Rattle.token.specs.Meaning.{tokenOf, Sized}
+use Rattle.token.specs.Meaning.{tokenOf, slotsOf, Sized}
 use Rattle.token.specs.declared.Token.{Token}
 use Rattle.state.specs.Parts.{TokensIn, StationsIn}
 use Rattle.state.specs.StationFacts.{nextHandle}
@@ -22,6 +23,15 @@ use Rattle.state.specs.StationFacts.{nextHandle}
 pub record TokenGiven (n : ℕ) (ts ds : List ℕ) (r : Token) : Type 0 where
   pub sized : Sized r
   pub token : (σ : State) → valid σ ≡ true → TokensIn σ ts ds → tokenOf r ≡ State.tokenOf σ n
+
+-- find's result
+abbrev pub FoundAt : ℕ → List ℕ → ℕ → Type 0
+FoundAt n ts r = (bs : List ℕ) → r ≡ foundIndex (isNumbered n) (slotsOf ts bs)
+
+-- the slot of any number
+pub record TokenLoaded (slot : ℕ) (ts ds : List ℕ) (r : Token) : Type 0 where
+  pub sized : Sized r
+  pub given : (n : ℕ) → FoundAt n ts slot → TokenGiven n ts ds r
 
 pub record CallerGiven (s : ℕ) (ts ds ss : List ℕ) (r : Token) : Type 0 where
   pub sized : Sized r

@@ -8,7 +8,7 @@ ghost use Rattle.rules.specs.State.{noToken, usedOn, tokenSlots, stationCount};
 ghost use Rattle.rules.specs.Memory.{tokenWords, counterWords, stationWords};
 ghost use Rattle.token.specs.Meaning.{tokenOf, Sized};
 ghost use Rattle.state.specs.Parts.{Lent};
-ghost use Rattle.state.specs.TokenCalls.{TokenGiven, CallerGiven, Held, nextIn, NextToken, CanAdd, Stored, TokenPut, TokenAdded, Used};
+ghost use Rattle.state.specs.TokenCalls.{TokenLoaded, TokenGiven, CallerGiven, Held, nextIn, NextToken, CanAdd, Stored, TokenPut, TokenAdded, Used};
 use crate::stations::NEXT_TOKEN;
 use crate::stations::caller_number;
 use privilege::privileges::Privileges;
@@ -70,17 +70,25 @@ fn no_token() -> Token
     }
 }
 
+// The token in the slot that a number was found at.
+pub fn token_at(slot: usize, tokens: &[u64], dacls: &[u8]) -> Token
+    requires { ⌜ (length (now tokens) ≡ tokenSlots * tokenWords) × (length (now dacls) ≡ tokenSlots * maxDacl) ⌝ }
+    ensures { λ r. ⌜ TokenLoaded slot (now (tokens .entry)) (now (dacls .entry)) r ⌝ }
+{
+    if slot < TOKEN_SLOTS {
+        slots::load_at(tokens, dacls, slot)
+    } else {
+        no_token()
+    }
+}
+
 // The live token of that number.
 pub fn token_of(number: u64, tokens: &[u64], dacls: &[u8]) -> Token
     requires { ⌜ (length (now tokens) ≡ tokenSlots * tokenWords) × (length (now dacls) ≡ tokenSlots * maxDacl) ⌝ }
     ensures { λ r. ⌜ TokenGiven number (now (tokens .entry)) (now (dacls .entry)) r ⌝ }
 {
     let slot = slots::find(tokens, number);
-    if slot < TOKEN_SLOTS {
-        slots::load_at(tokens, dacls, slot)
-    } else {
-        no_token()
-    }
+    token_at(slot, tokens, dacls)
 }
 
 pub fn caller(station: u32, tokens: &[u64], dacls: &[u8], stations: &[u64]) -> Token

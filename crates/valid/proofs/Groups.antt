@@ -16,19 +16,9 @@ use Rattle.rules.specs.AdjustDefaults.{validOwner}
 use Rattle.rules.specs.Valid.{groupValid, is32}
 use Rattle.rules.specs.Memory.{unpack, word32}
 use Rattle.rules.proofs.Logic.{and-l, and-r}
-use Rattle.rules.proofs.Bits.{has-and, has-or, within-or, or-within, within-trans}
+use Rattle.rules.proofs.Bits.{digits, has-and, has-or, within-or, or-within, within-trans}
 use Rattle.valid.specs.Tests.{groupTest}
 use Rattle.valid.proofs.Truth.{same-truth, all-cong, all-and}
-
--- a table over two digits is a law for all of them
-digits : (P : ℕ → ℕ → Type 0) → P 0 0 → P 0 1 → P 1 0 → P 1 1 → (x y : ℕ) → x < 2 → y < 2 → P x y
-digits P a b c d zero zero hx hy = a
-digits P a b c d zero (suc zero) hx hy = b
-digits P a b c d (suc zero) zero hx hy = c
-digits P a b c d (suc zero) (suc zero) hx hy = d
-digits P a b c d zero (suc (suc y)) hx hy = absurd (omega arith)
-digits P a b c d (suc zero) (suc (suc y)) hx hy = absurd (omega arith)
-digits P a b c d (suc (suc x)) y hx hy = absurd (omega arith)
 
 -- ---- tests of what was gathered by `|`
 

@@ -5,8 +5,8 @@ use mathlib.Core.Path.{_≡_, refl}
 use lib.ListN.{drop}
 use Rattle.rules.specs.Number.{bad}
 use Rattle.rules.specs.Request.{times, group}
+use Rattle.request.specs.Entries.{folded}
 use Rattle.request.specs.Creating.{Room, soFar, step}
-use Rattle.request.proofs.Folding.{folded}
 use Rattle.request.proofs.Creating.{key-narrow, value-narrow, result, groups-end, groups-lost, groups-next}
 use Rattle.request.proofs.create.read_groups.Statement.{statement}
 use Rattle.request.proofs.create.read_groups.Tie as tie

@@ -8,11 +8,11 @@ pub duplicated-spec : {M : Type 1} → statement M
 duplicated-spec =
     tie.close
     (tie.spec
+    (λ c κs. search needs)
+    (λ c. search (needs, to-anonymous))
     (λ c. search needs)
     (λ c κs. search needs)
     (λ c. search (needs, to-primary))
-    (λ c κs. search needs)
-    (λ c. search (needs, to-anonymous))
     (λ c. search needs)
     (λ c. search needs)
     (λ c κs. search needs)

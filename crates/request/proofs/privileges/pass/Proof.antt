@@ -5,14 +5,15 @@ use borrow.Author.Needs.{needs}
 use Rattle.rules.specs.AdjustPrivileges.{validEntry, applied}
 use Rattle.rules.specs.Request.{times, entry}
 use Rattle.privilege.specs.Meaning.{privilegesOf}
-use Rattle.request.specs.Entries.{onward, passed}
+use Rattle.request.specs.Entries.{folded, stopped, turned, passed}
 use Rattle.request.specs.Adjusting.{progressOf}
-use Rattle.request.proofs.Passes.{pass-end, pass-lost, pass-next}
+use Rattle.request.proofs.Pairs.{is-none, is-pair}
+use Rattle.request.proofs.Folding.{fold-end, fold-lost, fold-next}
 use Rattle.request.proofs.privileges.pass.Statement.{statement}
 use Rattle.request.proofs.privileges.pass.Tie as tie
 
 abbrev Inv : tie.InvT-loop
-Inv p s start count g₀ at₀ left₀ g at left = onward (validEntry (privilegesOf p)) applied (progressOf g) (times left entry (drop at s)) ≡ passed (validEntry (privilegesOf p)) applied (privilegesOf p) (times count entry (drop start s))
+Inv p s start count g₀ at₀ left₀ g at left = folded (turned (validEntry (privilegesOf p)) applied) stopped (progressOf g) (times left entry (drop at s)) ≡ passed (validEntry (privilegesOf p)) applied (privilegesOf p) (times count entry (drop start s))
 
 abbrev μ : tie.MeasureT-loop
 μ p s start count g₀ at₀ left₀ g at left = left
@@ -25,9 +26,9 @@ pass-spec =
     (λ c κs. search needs)
     (λ c. search needs)
     (λ c. search needs)
-    (λ c. search (needs, pass-lost))
+    (λ c. search (needs, fold-lost, is-none))
     (λ c κs. search needs)
     (λ c. search needs)
     (λ c. search needs)
-    (λ c. search (needs, pass-next))
-    (λ c. search (needs, pass-end)))
+    (λ c. search (needs, fold-next, is-pair))
+    (λ c. search (needs, fold-end)))

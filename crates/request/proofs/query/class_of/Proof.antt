@@ -11,6 +11,6 @@ class-of-spec =
     (λ c. search (needs, class-unknown))
     (λ c κs. search needs)
     (λ c κs. search needs)
-    (λ c. search (needs, class-above))
     (λ c κs. search needs)
+    (λ c. search (needs, class-above))
     (λ c. search (needs, class-given)))

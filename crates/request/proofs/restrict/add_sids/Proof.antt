@@ -8,7 +8,7 @@ use Rattle.rules.specs.Number.{got, bad}
 use Rattle.rules.specs.Request.{times, u32}
 use Rattle.rules.specs.Token.{maxRestricting}
 use Rattle.token.specs.Meaning.{tokenOf, Sized}
-use Rattle.request.proofs.Folding.{folded}
+use Rattle.request.specs.Entries.{folded}
 use Rattle.request.proofs.Restricting.{number-narrow, addSid, adding, sids-end, sids-lost, sids-next}
 use Rattle.request.proofs.restrict.add_sids.Statement.{statement}
 use Rattle.request.proofs.restrict.add_sids.Tie as tie

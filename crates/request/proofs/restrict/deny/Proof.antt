@@ -3,9 +3,8 @@ use mathlib.Core.Path.{_≡_, refl}
 use lib.ListN.{drop}
 use borrow.Author.Needs.{needs}
 use Rattle.rules.specs.Request.{times, u32}
-use Rattle.request.specs.Entries.{stopped}
+use Rattle.request.specs.Entries.{stopped, folded}
 use Rattle.request.specs.Restricting.{marksOf, marked}
-use Rattle.request.proofs.Folding.{folded}
 use Rattle.request.proofs.Restricting.{denying, deny-end, deny-lost, deny-next}
 use Rattle.request.proofs.restrict.deny.Statement.{statement}
 use Rattle.request.proofs.restrict.deny.Tie as tie

@@ -1,6 +1,6 @@
 -- The token at the slot that find gives. Assumes nothing.
 use borrow.Author.Needs.{needs}
-use Rattle.state.proofs.TokenLooks.{token-found, token-missing}
+use Rattle.state.proofs.TokenLooks.{token-given}
 use Rattle.state.proofs.tokens.token_of.Statement.{statement}
 use Rattle.state.proofs.tokens.token_of.Tie as tie
 
@@ -10,6 +10,4 @@ token-of-spec =
     (tie.spec
     (λ c κs. search needs)
     (λ c κs. search needs)
-    (λ c κs. search needs)
-    (λ c. search (needs, token-found))
-    (λ c. search (needs, token-missing)))
+    (λ c. search (needs, token-given)))
