@@ -1,0 +1,22 @@
+-- Request 6. Assumes nothing.
+use borrow.Author.Needs.{needs}
+use Rattle.rules.specs.Request as requests
+use Rattle.rules.specs.Serve.{rule}
+use Rattle.serve.proofs.LayoutLaws.{entries-not-read, entries-served}
+use Rattle.serve.proofs.by_number.groups.Statement.{statement}
+use Rattle.serve.proofs.by_number.groups.Tie as tie
+
+pub groups-spec : {M : Type 1} → statement M
+unfolding rule
+groups-spec =
+    tie.close
+    (tie.spec
+    (λ c κs. search needs)
+    (λ c κs. search needs)
+    (λ c. search (needs, entries-not-read requests.groups))
+    (λ c. search needs)
+    (λ c κs. search needs)
+    (λ c. search needs)
+    (λ c. search needs)
+    (λ c. search needs)
+    (λ c. search (needs, entries-served requests.groups)))

@@ -1,0 +1,39 @@
+-- What the code between a body and its answer does, for every valid state that the parts hold. Assumes nothing.
+use Prim.Native.Nat.{ℕ}
+use mathlib.Core.Path.{_≡_}
+use mathlib.Core.Bool.{true}
+use mathlib.Core.List.{List}
+use Rattle.rules.specs.Request.{Request, Reader}
+use Rattle.rules.specs.State.{State}
+use Rattle.rules.specs.Valid.{valid}
+use Rattle.rules.specs.Serve.{decided, decision, serve}
+use Rattle.number.specs.Rest.{readFrom}
+use Rattle.number.specs.Meaning.{restOf}
+use Rattle.number.specs.declared.cursor.Cursor.{Cursor}
+use Rattle.handle.specs.declared.Handle.{Handle}
+use Rattle.state.specs.HandleFacts.{changed}
+use Rattle.state.specs.ReleaseFacts.{PartsIn}
+use Rattle.request.specs.Answer.{WroteFrame}
+use Rattle.request.specs.Carried.{Carried}
+use Rattle.request.specs.declared.outcome.Outcome.{Outcome}
+use Rattle.serve.specs.declared.Reply.{Reply}
+
+-- the parts hold a valid state
+pub record Held (hs : List Handle) (ss ts ds : List ℕ) : Type 0 where
+  pub state : State
+  pub isValid : valid state ≡ true
+  pub parts : PartsIn state hs ss ts ds
+
+-- the rest of a body, from a cursor on, is read by a layout, decided and carried out
+pub record LayoutCarried (layout : Reader Request) (station : ℕ) (s : List ℕ) (c : Cursor)
+    (hs : List Handle) (ss ts ds ss′ ts′ ds′ : List ℕ) (r : Outcome) : Type 0 where
+  pub carried : Carried (λ σ. decided σ station (readFrom layout (restOf s c))) hs ss ts ds ss′ ts′ ds′ r
+
+-- a whole body
+pub record BodyCarried (station : ℕ) (body : List ℕ) (hs : List Handle) (ss ts ds ss′ ts′ ds′ : List ℕ) (r : Outcome) : Type 0 where
+  pub carried : Carried (λ σ. decision σ station body) hs ss ts ds ss′ ts′ ds′ r
+
+-- the parts after it hold the rules' state after it, and the buffer has the rules' answer frame before its old bytes
+pub record BodyServed (station : ℕ) (body : List ℕ) (hs : List Handle) (ss ts ds ss′ ts′ ds′ out out′ : List ℕ) (r : Reply) : Type 0 where
+  pub parts : (σ : State) → valid σ ≡ true → PartsIn σ hs ss ts ds → PartsIn (serve σ station body .state) (changed hs (r .change)) ss′ ts′ ds′
+  pub answer : (σ : State) → valid σ ≡ true → PartsIn σ hs ss ts ds → WroteFrame (serve σ station body .answer) out out′ (r .written)

@@ -1,0 +1,302 @@
+// A function for each request number: the rest of the body in the request's layout, or refusal 1; then the request.
+ghost use Prim.Native.Nat.{_≤_, _<_};
+ghost use lib.ListN.{length};
+ghost use Rattle.rules.specs.State.{stationCount};
+ghost use Rattle.rules.specs.Request as rules;
+ghost use Rattle.rules.specs.Request.{numberLayout, createLayout, queryLayout, entriesLayout, scopeLayout, defaultsLayout, duplicateLayout, restrictLayout};
+ghost use Rattle.state.specs.Parts.{Lent};
+ghost use Rattle.serve.specs.Served.{LayoutCarried};
+use handle::Handles;
+use number::Cursor;
+use request::layout;
+use request::outcome;
+use request::outcome::Outcome;
+
+pub fn open_own(
+    station: u32,
+    s: &[u8],
+    c: Cursor,
+    handles: Handles,
+    tokens: &mut [u64],
+    dacls: &mut [u8],
+    stations: &mut [u64],
+) -> Outcome
+    requires { ⌜ Lent (now tokens) (now dacls) (now stations) × (station < stationCount) ⌝ }
+    ensures { λ r. ⌜ LayoutCarried (numberLayout rules.openOwn) station (now (s .entry)) c (handles .items) (now (stations .entry)) (now (tokens .entry)) (now (dacls .entry)) (now (stations .exit)) (now (tokens .exit)) (now (dacls .exit)) r ⌝ }
+{
+    let f = layout::number(s, c);
+    if !f.ok {
+        return outcome::refused(1);
+    }
+    request::open::open_own(station, f.value, handles, tokens, dacls, stations)
+}
+
+pub fn close(
+    station: u32,
+    s: &[u8],
+    c: Cursor,
+    handles: Handles,
+    tokens: &mut [u64],
+    dacls: &mut [u8],
+    stations: &mut [u64],
+) -> Outcome
+    requires { ⌜ Lent (now tokens) (now dacls) (now stations) × (station < stationCount) ⌝ }
+    ensures { λ r. ⌜ LayoutCarried (numberLayout rules.close) station (now (s .entry)) c (handles .items) (now (stations .entry)) (now (tokens .entry)) (now (dacls .entry)) (now (stations .exit)) (now (tokens .exit)) (now (dacls .exit)) r ⌝ }
+{
+    let f = layout::number(s, c);
+    if !f.ok {
+        return outcome::refused(1);
+    }
+    request::close::close(station, f.value, handles, tokens, dacls, stations)
+}
+
+pub fn create(
+    station: u32,
+    s: &[u8],
+    c: Cursor,
+    handles: Handles,
+    tokens: &mut [u64],
+    dacls: &mut [u8],
+    stations: &mut [u64],
+) -> Outcome
+    requires { ⌜ Lent (now tokens) (now dacls) (now stations) × (station < stationCount) ⌝ }
+    ensures { λ r. ⌜ LayoutCarried createLayout station (now (s .entry)) c (handles .items) (now (stations .entry)) (now (tokens .entry)) (now (dacls .entry)) (now (stations .exit)) (now (tokens .exit)) (now (dacls .exit)) r ⌝ }
+{
+    let f = layout::create(s, c);
+    if !f.ok {
+        return outcome::refused(1);
+    }
+    request::create_token::create_token(
+        station,
+        f.user,
+        f.session,
+        f.integrity,
+        f.present,
+        f.by_default,
+        s,
+        f.at,
+        f.count as u64,
+        handles,
+        tokens,
+        dacls,
+        stations,
+    )
+}
+
+pub fn query(
+    station: u32,
+    s: &[u8],
+    c: Cursor,
+    handles: Handles,
+    tokens: &mut [u64],
+    dacls: &mut [u8],
+    stations: &mut [u64],
+) -> Outcome
+    requires { ⌜ Lent (now tokens) (now dacls) (now stations) × (station < stationCount) ⌝ }
+    ensures { λ r. ⌜ LayoutCarried queryLayout station (now (s .entry)) c (handles .items) (now (stations .entry)) (now (tokens .entry)) (now (dacls .entry)) (now (stations .exit)) (now (tokens .exit)) (now (dacls .exit)) r ⌝ }
+{
+    let f = layout::query(s, c);
+    if !f.ok {
+        return outcome::refused(1);
+    }
+    request::query::query(
+        station,
+        f.handle,
+        f.class as u64,
+        f.capacity as u64,
+        handles,
+        tokens,
+        dacls,
+        stations,
+    )
+}
+
+pub fn privileges(
+    station: u32,
+    s: &[u8],
+    c: Cursor,
+    handles: Handles,
+    tokens: &mut [u64],
+    dacls: &mut [u8],
+    stations: &mut [u64],
+) -> Outcome
+    requires { ⌜ Lent (now tokens) (now dacls) (now stations) × (station < stationCount) ⌝ }
+    ensures { λ r. ⌜ LayoutCarried (entriesLayout rules.privileges) station (now (s .entry)) c (handles .items) (now (stations .entry)) (now (tokens .entry)) (now (dacls .entry)) (now (stations .exit)) (now (tokens .exit)) (now (dacls .exit)) r ⌝ }
+{
+    let f = layout::entries(s, c);
+    if !f.ok {
+        return outcome::refused(1);
+    }
+    request::adjust_privileges::adjust_privileges(
+        station,
+        f.handle,
+        s,
+        f.at,
+        f.count as u64,
+        handles,
+        tokens,
+        dacls,
+        stations,
+    )
+}
+
+pub fn groups(
+    station: u32,
+    s: &[u8],
+    c: Cursor,
+    handles: Handles,
+    tokens: &mut [u64],
+    dacls: &mut [u8],
+    stations: &mut [u64],
+) -> Outcome
+    requires { ⌜ Lent (now tokens) (now dacls) (now stations) × (station < stationCount) ⌝ }
+    ensures { λ r. ⌜ LayoutCarried (entriesLayout rules.groups) station (now (s .entry)) c (handles .items) (now (stations .entry)) (now (tokens .entry)) (now (dacls .entry)) (now (stations .exit)) (now (tokens .exit)) (now (dacls .exit)) r ⌝ }
+{
+    let f = layout::entries(s, c);
+    if !f.ok {
+        return outcome::refused(1);
+    }
+    request::adjust_groups::adjust_groups(
+        station,
+        f.handle,
+        s,
+        f.at,
+        f.count as u64,
+        handles,
+        tokens,
+        dacls,
+        stations,
+    )
+}
+
+pub fn scope(
+    station: u32,
+    s: &[u8],
+    c: Cursor,
+    handles: Handles,
+    tokens: &mut [u64],
+    dacls: &mut [u8],
+    stations: &mut [u64],
+) -> Outcome
+    requires { ⌜ Lent (now tokens) (now dacls) (now stations) × (station < stationCount) ⌝ }
+    ensures { λ r. ⌜ LayoutCarried scopeLayout station (now (s .entry)) c (handles .items) (now (stations .entry)) (now (tokens .entry)) (now (dacls .entry)) (now (stations .exit)) (now (tokens .exit)) (now (dacls .exit)) r ⌝ }
+{
+    let f = layout::scope(s, c);
+    if !f.ok {
+        return outcome::refused(1);
+    }
+    request::scope::scope(station, f.handle, f.value, handles, tokens, dacls, stations)
+}
+
+pub fn defaults(
+    station: u32,
+    s: &[u8],
+    c: Cursor,
+    handles: Handles,
+    tokens: &mut [u64],
+    dacls: &mut [u8],
+    stations: &mut [u64],
+) -> Outcome
+    requires { ⌜ Lent (now tokens) (now dacls) (now stations) × (station < stationCount) × (c .at ≤ length (now s)) ⌝ }
+    ensures { λ r. ⌜ LayoutCarried defaultsLayout station (now (s .entry)) c (handles .items) (now (stations .entry)) (now (tokens .entry)) (now (dacls .entry)) (now (stations .exit)) (now (tokens .exit)) (now (dacls .exit)) r ⌝ }
+{
+    let f = layout::defaults(s, c);
+    if !f.ok {
+        return outcome::refused(1);
+    }
+    request::adjust_defaults::adjust_defaults(
+        station,
+        f.handle,
+        f.owner,
+        f.group,
+        f.flag,
+        f.size as u64,
+        s,
+        f.at,
+        handles,
+        tokens,
+        dacls,
+        stations,
+    )
+}
+
+pub fn duplicate(
+    station: u32,
+    s: &[u8],
+    c: Cursor,
+    handles: Handles,
+    tokens: &mut [u64],
+    dacls: &mut [u8],
+    stations: &mut [u64],
+) -> Outcome
+    requires { ⌜ Lent (now tokens) (now dacls) (now stations) × (station < stationCount) ⌝ }
+    ensures { λ r. ⌜ LayoutCarried duplicateLayout station (now (s .entry)) c (handles .items) (now (stations .entry)) (now (tokens .entry)) (now (dacls .entry)) (now (stations .exit)) (now (tokens .exit)) (now (dacls .exit)) r ⌝ }
+{
+    let f = layout::duplicate(s, c);
+    if !f.ok {
+        return outcome::refused(1);
+    }
+    request::duplicate::duplicate(
+        station,
+        f.handle,
+        f.kind,
+        f.level,
+        f.mask,
+        handles,
+        tokens,
+        dacls,
+        stations,
+    )
+}
+
+pub fn restrict(
+    station: u32,
+    s: &[u8],
+    c: Cursor,
+    handles: Handles,
+    tokens: &mut [u64],
+    dacls: &mut [u8],
+    stations: &mut [u64],
+) -> Outcome
+    requires { ⌜ Lent (now tokens) (now dacls) (now stations) × (station < stationCount) ⌝ }
+    ensures { λ r. ⌜ LayoutCarried restrictLayout station (now (s .entry)) c (handles .items) (now (stations .entry)) (now (tokens .entry)) (now (dacls .entry)) (now (stations .exit)) (now (tokens .exit)) (now (dacls .exit)) r ⌝ }
+{
+    let f = layout::restrict(s, c);
+    if !f.ok {
+        return outcome::refused(1);
+    }
+    request::restrict_token::restrict_token(
+        station,
+        f.handle,
+        f.mark,
+        f.removed,
+        s,
+        f.deny_at,
+        f.deny_count as u64,
+        f.sid_at,
+        f.sid_count as u64,
+        handles,
+        tokens,
+        dacls,
+        stations,
+    )
+}
+
+pub fn install(
+    station: u32,
+    s: &[u8],
+    c: Cursor,
+    handles: Handles,
+    tokens: &mut [u64],
+    dacls: &mut [u8],
+    stations: &mut [u64],
+) -> Outcome
+    requires { ⌜ Lent (now tokens) (now dacls) (now stations) × (station < stationCount) ⌝ }
+    ensures { λ r. ⌜ LayoutCarried (numberLayout rules.install) station (now (s .entry)) c (handles .items) (now (stations .entry)) (now (tokens .entry)) (now (dacls .entry)) (now (stations .exit)) (now (tokens .exit)) (now (dacls .exit)) r ⌝ }
+{
+    let f = layout::number(s, c);
+    if !f.ok {
+        return outcome::refused(1);
+    }
+    request::install::install(station, f.value, handles, tokens, dacls, stations)
+}

@@ -1,0 +1,75 @@
+// A body is served: its request decided and carried out, its answer written.
+ghost use Prim.Native.Nat.{_≤_, _<_};
+ghost use lib.ListN.{length};
+ghost use Rattle.rules.specs.State.{stationCount};
+ghost use Rattle.rules.specs.Frame.{maxAnswer};
+ghost use Rattle.state.specs.Parts.{Lent};
+ghost use Rattle.serve.specs.Served.{Held, BodyCarried, BodyServed};
+use handle::Handles;
+use number::Cursor;
+use request::answer;
+use request::layout;
+use request::outcome;
+use request::outcome::Outcome;
+use state::handles::Change;
+
+mod by_number;
+
+// How many bytes the answer has, and the one handle that changes: a slot past the last is none.
+pub struct Reply {
+    pub written: usize,
+    pub change: Change,
+}
+
+// The request of a body, carried out.
+fn carry_out(
+    station: u32,
+    body: &[u8],
+    handles: Handles,
+    tokens: &mut [u64],
+    dacls: &mut [u8],
+    stations: &mut [u64],
+) -> Outcome
+    requires { ⌜ Lent (now tokens) (now dacls) (now stations) × (station < stationCount) ⌝ }
+    ensures { λ r. ⌜ BodyCarried station (now (body .entry)) (handles .items) (now (stations .entry)) (now (tokens .entry)) (now (dacls .entry)) (now (stations .exit)) (now (tokens .exit)) (now (dacls .exit)) r ⌝ }
+{
+    let first = layout::request_number(body);
+    let n = first.value;
+    let c = first.next;
+    match n {
+        1 => by_number::open_own(station, body, c, handles, tokens, dacls, stations),
+        2 => by_number::close(station, body, c, handles, tokens, dacls, stations),
+        3 => by_number::create(station, body, c, handles, tokens, dacls, stations),
+        4 => by_number::query(station, body, c, handles, tokens, dacls, stations),
+        5 => by_number::privileges(station, body, c, handles, tokens, dacls, stations),
+        6 => by_number::groups(station, body, c, handles, tokens, dacls, stations),
+        7 => by_number::scope(station, body, c, handles, tokens, dacls, stations),
+        8 => by_number::defaults(station, body, c, handles, tokens, dacls, stations),
+        9 => by_number::duplicate(station, body, c, handles, tokens, dacls, stations),
+        10 => by_number::restrict(station, body, c, handles, tokens, dacls, stations),
+        11 => by_number::install(station, body, c, handles, tokens, dacls, stations),
+        _ => outcome::refused(1),
+    }
+}
+
+pub fn serve(
+    station: u32,
+    body: &[u8],
+    handles: Handles,
+    tokens: &mut [u64],
+    dacls: &mut [u8],
+    stations: &mut [u64],
+    out: &mut [u8],
+) -> Reply
+    requires { ⌜ Lent (now tokens) (now dacls) (now stations) × (station < stationCount) × (maxAnswer ≤ length (now out)) × Held (handles .items) (now stations) (now tokens) (now dacls) ⌝ }
+    ensures { λ r. ⌜ BodyServed station (now (body .entry)) (handles .items) (now (stations .entry)) (now (tokens .entry)) (now (dacls .entry)) (now (stations .exit)) (now (tokens .exit)) (now (dacls .exit)) (now (out .entry)) (now (out .exit)) r ⌝ }
+{
+    let done = carry_out(station, body, handles, tokens, dacls, stations);
+    let a = done.answer;
+    let change = done.change;
+    let written = answer::write(a, tokens, dacls, out);
+    Reply {
+        written: written,
+        change: change,
+    }
+}
