@@ -1,6 +1,5 @@
 -- The handle record and the list by value in a walk: their types, machine values and relations; the types of lent slices. Assumes nothing.
 use mathlib.Core.Path.{refl}
-use mathlib.Core.List.{_∷_}
 use lib.Dec.{lit<}
 use mir.Syntax.{Ty, Lifetime, imm, mut, w64, tyInt, tyRef}
 use mir.Val.{Val}

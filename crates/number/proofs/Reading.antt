@@ -16,7 +16,7 @@ use Rattle.number.specs.declared.Number.the-variants as number
 use Rattle.number.specs.Meaning.{numberOf, Bounds, NumberAt}
 use Rattle.rules.proofs.Numbers.{below-or}
 
-longer-narrow : (limit b : ℕ) (r : Read ℕ) → limit < 128 → longer limit b r ≡ bad
+pub longer-narrow : (limit b : ℕ) (r : Read ℕ) → limit < 128 → longer limit b r ≡ bad
 unfolding longer
 longer-narrow limit b bad k = refl
 longer-narrow limit b (got n later) k = ⊎-elim

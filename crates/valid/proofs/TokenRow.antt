@@ -25,7 +25,7 @@ use Rattle.valid.proofs.Truth.{same-tests, eqb-same, implies-or, uncut,
 use Rattle.valid.proofs.Same.{same-append, same-zeros, same-pad, same-pad-take, same-map, cut32, cut8, cut-mark, cut-count}
 use Rattle.valid.proofs.Groups.{is32-low}
 
-drop-take : {A : Type 0} (n k : ℕ) (xs : List A) → drop n (take k xs) ≡ take (k - n) (drop n xs)
+pub drop-take : {A : Type 0} (n k : ℕ) (xs : List A) → drop n (take k xs) ≡ take (k - n) (drop n xs)
 drop-take zero k xs = ap (λ (j : ℕ). take j xs) {x = k} {y = k - 0} (omega arith)
 drop-take (suc n) zero xs = ap (λ (j : ℕ). take j (drop (suc n) xs)) {x = 0} {y = 0 - suc n} (omega arith)
 drop-take (suc n) (suc k) [] = sym (take-nil (suc k - suc n))

@@ -2,17 +2,29 @@
 //! with it. All is drawn from a seed, so that a failure can be run again.
 
 mod body;
+mod broker;
 mod call;
+mod counts;
+mod cuts;
 mod damage;
 mod damage_list;
+mod damaged;
 mod fields;
 mod rng;
+mod seeds;
+mod session;
 mod state;
 mod wishes;
 
 pub use body::body;
+pub use broker::{run, status, Broker, Calls, Step};
 pub use call::{Call, Script};
+pub use counts::Counts;
+pub use cuts::{check_cuts, record, Event};
 pub use damage_list::{Damage, DAMAGES};
+pub use damaged::{each_damage, garbage, poke};
 pub use fields::{fields, flat, Field};
 pub use rng::Rng;
+pub use seeds::{each_seed, one_seed};
+pub use session::{session, write_chunk};
 pub use state::{near_the_last_numbers, state};

@@ -1,7 +1,7 @@
 //! Valid memories are read, damaged ones are not.
 
-use gen::{state, Rng, DAMAGES};
-use model::{Memory, Model, RULES};
+use gen::{each_damage, poke, state, Rng, DAMAGES};
+use model::{Model, RULES};
 
 #[test]
 fn undamaged_memories_are_valid() {
@@ -24,51 +24,17 @@ fn breaks(rule: &'static str, what: &str) -> Vec<&'static str> {
 
 #[test]
 fn each_damage_breaks_its_rule_alone() {
-    for damage in DAMAGES {
-        let mut applied = 0;
-        for seed in 0..400 {
-            let mut rng = Rng::new(seed);
-            let model = state(&mut rng);
-            if let Some(memory) = damage.apply(&mut rng, &model) {
-                let place = format!("{}, {}, seed {seed}", damage.rule, damage.what);
-                assert_eq!(memory.broken_rules(), breaks(damage.rule, damage.what), "{place}");
-                assert_eq!(memory.model(), None, "{place}");
-                applied += 1;
-            }
-        }
-        println!("{applied:5} {}: {}", damage.rule, damage.what);
-        assert!(applied >= 10, "{}, {}: {applied} times", damage.rule, damage.what);
-    }
+    each_damage(400, |damage, _, memory| {
+        let place = format!("{}, {}", damage.rule, damage.what);
+        assert_eq!(memory.broken_rules(), breaks(damage.rule, damage.what), "{place}");
+        assert_eq!(memory.model(), None, "{place}");
+    });
 }
 
 #[test]
 fn every_rule_has_a_damage() {
     for (rule, _) in RULES {
         assert!(DAMAGES.iter().any(|damage| damage.rule == rule), "{rule}");
-    }
-}
-
-/// Writes a random or a telling value somewhere.
-fn poke(rng: &mut Rng, memory: &mut Memory) {
-    let odd = rng.bits();
-    let value = rng.pick(&[0, 1, 2, 3, 4, 64, 65, 256, 257, 1 << 32, u64::MAX, odd]);
-    let live = memory.tokens.chunks(100).position(|row| row[0] != 0).unwrap_or(0);
-    match rng.below(8) {
-        0 => memory.tokens[rng.below(1600)] = value,
-        1 => memory.tokens[100 * live + rng.below(100)] ^= 1 << rng.below(64),
-        2 => memory.tokens[100 * live + rng.below(20)] = value,
-        3 => memory.dacls[256 * live + rng.below(256)] = value as u8,
-        4 => {
-            let handle = &mut memory.handles[rng.below(32)];
-            match rng.below(4) {
-                0 => handle.station = value as u32,
-                1 => handle.number = value as u32,
-                2 => handle.token = value,
-                _ => handle.mask = value as u32,
-            }
-        }
-        5 => memory.stations[rng.below(26)] = value,
-        _ => memory.pending[2050 * rng.below(8) + rng.below(4)] = value as u8,
     }
 }
 

@@ -1,40 +1,12 @@
 //! Demand 3 on the model itself: what never grows, what stays, and that cuts change nothing.
 
-use gen::{state, Call, Rng, Script};
-use model::{Fed, Group, Model, Request, Token};
-
-/// What a call gave back: a feed's result or a reconnect's refusal.
-fn make(model: &mut Model, call: &Call) -> Fed {
-    match call {
-        Call::Feed { station, chunk, buffer_len } => model.feed(*station, chunk, *buffer_len),
-        Call::Reconnect { station } => Fed { refusal: model.reconnect(*station), ..Fed::default() },
-    }
-}
-
-/// Runs a script and hands each call, the state before and after it and its result to `check`.
-fn run(seed: u64, mut model: Model, calls: usize, check: impl Fn(&Call, &Model, &Model, &Fed)) {
-    let mut script = Script::new(seed);
-    for _ in 0..calls {
-        let call = script.next(&model);
-        let before = model.clone();
-        let fed = make(&mut model, &call);
-        if let (Call::Feed { station, .. }, 0) = (&call, fed.refusal) {
-            script.sent(*station, fed.used);
-        }
-        check(&call, &before, &model, &fed);
-    }
-}
+use gen::{each_seed, run, state, Call, Step};
+use model::{Group, Model, Request, Token};
 
 /// Many scripts, from the start and from random states.
-fn run_all(check: impl Fn(&Call, &Model, &Model, &Fed) + Copy) {
-    for seed in 0..20 {
-        println!("seed {seed} from the start");
-        run(seed, Model::start(), 500, check);
-    }
-    for seed in 100..200 {
-        println!("seed {seed} from a random state");
-        run(seed, state(&mut Rng::new(seed)), 100, check);
-    }
+fn run_all(check: impl Fn(&Step) + Copy) {
+    each_seed(0..20, |seed, _| run(seed, Model::start(), 500, check));
+    each_seed(100..200, |seed, rng| run(seed, state(rng), 100, check));
 }
 
 fn tokens(model: &Model) -> impl Iterator<Item = &Token> {
@@ -55,22 +27,16 @@ fn without_streams(model: &Model) -> Model {
     model
 }
 
-/// The status of an answer, if there is one.
-fn status(fed: &Fed) -> Option<u8> {
-    let first = *fed.answer.first()?;
-    fed.answer.get(1 + usize::from(first >= 0x80)).copied()
-}
-
 #[test]
 fn the_memory_always_holds_the_state() {
-    run_all(|call, _, after, _| {
-        assert_eq!(after.memory().model().as_ref(), Some(after), "{call:?}");
+    run_all(|Step { call, after, .. }| {
+        assert_eq!(after.memory().model().as_ref(), Some(*after), "{call:?}");
     });
 }
 
 #[test]
 fn present_privileges_never_grow_and_enabled_ones_are_among_them() {
-    run_all(|call, before, after, _| {
+    run_all(|Step { call, before, after, .. }| {
         for (old, new) in pairs(before, after) {
             assert_eq!(new.privileges.present & !old.privileges.present, 0, "{call:?}");
         }
@@ -83,7 +49,7 @@ fn present_privileges_never_grow_and_enabled_ones_are_among_them() {
 
 #[test]
 fn used_and_deny_only_marks_stay() {
-    run_all(|call, before, after, _| {
+    run_all(|Step { call, before, after, .. }| {
         for (old, new) in pairs(before, after) {
             assert_eq!(old.privileges.used & !new.privileges.used, 0, "{call:?}");
             assert!(!old.user_deny_only || new.user_deny_only, "{call:?}");
@@ -97,7 +63,7 @@ fn used_and_deny_only_marks_stay() {
 
 #[test]
 fn identity_never_changes() {
-    run_all(|call, before, after, _| {
+    run_all(|Step { call, before, after, .. }| {
         let identity = |token: &Token| {
             let limits = (token.restricting.clone(), token.write_restricted, token.user_deny_only);
             (token.user, token.session, token.kind, token.level, token.integrity, limits)
@@ -109,24 +75,21 @@ fn identity_never_changes() {
     });
 }
 
-/// The request that a feed ended, read off the bytes before and in the chunk.
-fn ended_request(call: &Call, before: &Model, fed: &Fed) -> Option<(usize, Request)> {
-    let Call::Feed { station, chunk, .. } = call else { return None };
-    let station = *station as usize;
-    status(fed)?;
-    let frame = [&before.stations[station].pending, &chunk[..fed.used]].concat();
-    let head = 1 + usize::from(frame[0] >= 0x80);
-    Some((station, Request::read(&frame[head..])?))
+/// The request that a feed ended.
+fn ended_request(step: &Step) -> Option<(usize, Request)> {
+    let (station, body) = step.ended()?;
+    Some((station, Request::read(&body)?))
 }
 
 #[test]
 fn a_copy_begins_with_no_privilege_that_its_source_lacked() {
-    run_all(|call, before, after, fed| {
-        let Some((station, request)) = ended_request(call, before, fed) else { return };
+    run_all(|step| {
+        let (before, after) = (step.before, step.after);
+        let Some((station, request)) = ended_request(step) else { return };
         let (Request::Duplicate { handle, .. } | Request::Restrict { handle, .. }) = request else {
             return;
         };
-        if status(fed) != Some(0) {
+        if step.status() != Some(0) {
             return;
         }
         let mut handles = before.handles.iter().flatten();
@@ -143,12 +106,13 @@ fn a_copy_begins_with_no_privilege_that_its_source_lacked() {
 
 #[test]
 fn refusals_alter_only_the_stream() {
-    run_all(|call, before, after, fed| {
+    run_all(|step| {
+        let Step { call, before, after, fed } = step;
         if fed.refusal != 0 {
             assert_eq!(before, after, "{call:?}");
             assert_eq!((fed.used, fed.answer.len()), (0, 0), "{call:?}");
         }
-        if status(fed) != Some(0) {
+        if step.status() != Some(0) {
             assert_eq!(without_streams(before), without_streams(after), "{call:?}");
         }
     });
@@ -156,7 +120,7 @@ fn refusals_alter_only_the_stream() {
 
 #[test]
 fn other_stations_streams_are_left_alone() {
-    run_all(|call, before, after, _| {
+    run_all(|Step { call, before, after, .. }| {
         let (Call::Feed { station, .. } | Call::Reconnect { station }) = call;
         for other in (0..8).filter(|&other| other != *station as usize) {
             assert_eq!(before.stations[other], after.stations[other], "{call:?}");
@@ -166,7 +130,7 @@ fn other_stations_streams_are_left_alone() {
 
 #[test]
 fn numbers_go_up_and_tokens_stay_in_their_slots() {
-    run_all(|call, before, after, _| {
+    run_all(|Step { call, before, after, .. }| {
         assert!(before.next_token <= after.next_token, "{call:?}");
         assert!(before.next_handle <= after.next_handle, "{call:?}");
         for (old, new) in before.tokens.iter().zip(&after.tokens) {
@@ -183,8 +147,9 @@ fn numbers_go_up_and_tokens_stay_in_their_slots() {
 
 #[test]
 fn modified_steps_by_one_on_the_adjusted_token_only() {
-    run_all(|call, before, after, fed| {
-        let request = ended_request(call, before, fed).map(|(_, request)| request);
+    run_all(|step| {
+        let Step { call, before, after, .. } = step;
+        let request = ended_request(step).map(|(_, request)| request);
         let is_adjustment = matches!(
             request,
             Some(
@@ -193,7 +158,7 @@ fn modified_steps_by_one_on_the_adjusted_token_only() {
                     | Request::Scope { .. }
                     | Request::Default { .. }
             )
-        ) && status(fed) == Some(0);
+        ) && step.status() == Some(0);
         let stepped: Vec<_> = pairs(before, after)
             .into_iter()
             .filter(|(old, new)| old.modified != new.modified)

@@ -6,7 +6,7 @@ use crate::serve::refused;
 use crate::state::{Model, Station, STATIONS};
 
 /// The shortest answer buffer that a feed takes.
-const MIN_BUFFER: usize = 1024;
+pub const MIN_BUFFER: usize = 1024;
 
 /// What a feed gives back.
 #[derive(Clone, Debug, Default, PartialEq, Eq)]
@@ -20,7 +20,7 @@ pub struct Fed {
 }
 
 impl Fed {
-    fn refused(refusal: Refusal) -> Self {
+    pub(crate) fn refused(refusal: Refusal) -> Self {
         Fed { refusal: refusal.number(), ..Fed::default() }
     }
 
@@ -36,12 +36,10 @@ impl Fed {
 impl Model {
     /// Feeds bytes up to the end of the first request or break, or of the chunk.
     pub fn feed(&mut self, station: u32, chunk: &[u8], buffer_len: usize) -> Fed {
-        let Some(station) = known(station) else {
-            return Fed::refused(Refusal::Station);
+        let station = match check_feed(station, buffer_len) {
+            Ok(station) => station,
+            Err(refusal) => return Fed::refused(refusal),
         };
-        if buffer_len < MIN_BUFFER {
-            return Fed::refused(Refusal::Buffer);
-        }
         for (at, &byte) in chunk.iter().enumerate() {
             if let Some(answer) = self.feed_byte(station, byte) {
                 return Fed::answered(at + 1, &answer);
@@ -74,8 +72,9 @@ impl Model {
 
     /// Drops the station's part of a request and its break; gives 0 or the refusal.
     pub fn reconnect(&mut self, station: u32) -> u32 {
-        let Some(station) = known(station) else {
-            return Refusal::Station.number();
+        let station = match check_station(station) {
+            Ok(station) => station,
+            Err(refusal) => return refusal.number(),
         };
         let token = self.stations[station].token;
         self.stations[station] = Station { token, ..Station::default() };
@@ -83,7 +82,15 @@ impl Model {
     }
 }
 
-/// The station's index, when there is such a station.
-fn known(station: u32) -> Option<usize> {
-    usize::try_from(station).ok().filter(|&station| station < STATIONS)
+/// The station's index, or refusal 11.
+pub(crate) fn check_station(station: u32) -> Result<usize, Refusal> {
+    let station = usize::try_from(station).ok().filter(|&station| station < STATIONS);
+    station.ok_or(Refusal::Station)
+}
+
+/// The same for a feed with an answer buffer of this length; refusal 11, then 12.
+pub(crate) fn check_feed(station: u32, buffer_len: usize) -> Result<usize, Refusal> {
+    let station = check_station(station)?;
+    Refusal::Buffer.unless(buffer_len >= MIN_BUFFER)?;
+    Ok(station)
 }

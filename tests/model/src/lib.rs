@@ -7,9 +7,11 @@
 mod adjust;
 mod feed;
 mod frame;
+mod lent;
 mod memory;
 mod number;
 mod privileges;
+mod program;
 mod query;
 mod refusal;
 mod request;
@@ -22,7 +24,7 @@ mod token;
 mod tokens;
 mod valid;
 
-pub use feed::Fed;
+pub use feed::{Fed, MIN_BUFFER};
 pub use frame::{framed, MAX_BODY};
 pub use memory::{
     Memory, DACL_BYTES, DACL_ROW, GROUP_WORD, HANDLE_ROWS, PENDING_BYTES, PENDING_ROW,
@@ -30,6 +32,7 @@ pub use memory::{
 };
 pub use number::{write_number, Reader};
 pub use privileges::{Privileges, ALL_PRIVILEGES, ASSIGN_PRIMARY, CREATE_TOKEN, IMPERSONATE, TCB};
+pub use program::{program, MAX_CHUNK};
 pub use refusal::Refusal;
 pub use request::{Request, NO_CHANGE, RESET_GROUPS, RESET_PRIVILEGES};
 pub use rights::Mask;

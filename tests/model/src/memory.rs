@@ -56,11 +56,11 @@ impl Model {
             [station.token, station.pending.len() as u64, station.broken.into()]
         });
         Memory {
-            tokens: self.tokens.iter().flat_map(token_row).collect(),
-            dacls: self.tokens.iter().flat_map(dacl).collect(),
+            tokens: self.tokens.each_ref().map(token_row).concat(),
+            dacls: self.tokens.each_ref().map(dacl).concat(),
             handles: self.handles.iter().map(|handle| handle.unwrap_or_default()).collect(),
             stations: next.into_iter().chain(words).collect(),
-            pending: self.stations.iter().flat_map(pending).collect(),
+            pending: self.stations.each_ref().map(pending).concat(),
         }
     }
 }

@@ -49,6 +49,11 @@ impl Memory {
         RULES.iter().filter(|(_, holds)| !holds(self)).map(|&(name, _)| name).collect()
     }
 
+    /// Whether each part has its size.
+    pub fn has_right_sizes(&self) -> bool {
+        size_is_right(self)
+    }
+
     fn live_tokens(&self) -> impl Iterator<Item = TokenRow<'_>> {
         self.token_rows().filter(|row| row.number() != 0)
     }

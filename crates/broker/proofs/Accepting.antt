@@ -1,0 +1,291 @@
+-- A chunk on valid memory: the parts and the station's row after it hold what the model says. Assumes nothing.
+use Prim.Native.Nat.{ℕ, _+_, _*_, _-_, _≤_, _<_}
+use native.Mathlib.Omega.{arith}
+use mathlib.Core.Path.{_≡_, refl, sym, ap, ap₂, subst, _∙_}
+use mathlib.Core.Bool.{Bool, true, false}
+use mathlib.Core.List.{List, [], _∷_, _++_}
+use lib.ListN.{length, take, drop, getD, set, replicate, length-map}
+use lib.Seq.{set-out, set-getD, length-take-le}
+use Rattle.table.specs.Lists.{pad, take-pad}
+use Rattle.table.specs.Table.{flat, record-at, put-record, record-flat, put-flat, part-at, put-lent}
+use Rattle.rules.specs.Basic.{all, implies, isEmpty}
+use Rattle.rules.specs.Number.{encode, encodeIn, lowFirst}
+use Rattle.rules.specs.Frame as Frame
+use Rattle.rules.specs.Frame.{frame, framed, framedBy, lengthOf}
+use Rattle.rules.specs.Station.{Station, startStation, withPending, cleared, brokenOff}
+use Rattle.rules.specs.State.{State, handleSlots, stationCount, withStations, stationAt, changeStation, stationToken}
+use Rattle.rules.specs.Valid.{isPart, streamValid, valid}
+use Rattle.rules.specs.Memory as Memory
+use Rattle.rules.specs.Memory.{pendingBytes, slotHandle, pendingRow, decode}
+use Rattle.rules.specs.Model.{fedFrom}
+use Rattle.rules.specs.Calls.{written, buffer}
+use Rattle.rules.proofs.Logic.{and-l, and-r, getD-mem}
+use Rattle.rules.proofs.Facts.{valid-facts, facts-valid}
+use Rattle.rules.proofs.Changes.{stream-facts}
+use Rattle.rules.proofs.Memory.{valid-state}
+use Rattle.rules.proofs.Rows.{length-pendingRow, part-short}
+use Rattle.handle.specs.Meaning.{none, handleOf}
+use Rattle.handle.specs.declared.Handle.{Handle}
+use Rattle.state.specs.Parts.{HandlesIn}
+use Rattle.state.specs.HandleFacts.{changed}
+use Rattle.state.specs.ReleaseFacts.{PartsIn}
+use Rattle.stream.specs.Join.{Stop, stopped}
+use Rattle.stream.specs.Meaning.{framedOf, Starts, stopOf, Joined}
+use Rattle.stream.specs.declared.Framed.the-variants as code
+use Rattle.stream.specs.declared.Stopped.{Stopped}
+use Rattle.stream.proofs.Feeding.{stopAt, stream-eaten, fed-part, fed-broken, fed-whole}
+use Rattle.valid.specs.Meaning.{memoryOf}
+use Rattle.serve.specs.Served.{Held, BodyServed}
+use Rattle.serve.specs.declared.Reply.{Reply}
+use Rattle.broker.specs.Streams.{withStream, StreamGiven, StreamSet}
+use Rattle.broker.specs.Accepted.{quiet, zeroed, body, PartKept, BrokenOff, FrameServed, RowHeld, RowFed, Accepted}
+use Rattle.broker.specs.declared.station.Stream.{Stream}
+use Rattle.broker.specs.declared.by_value.Turn.{Turn}
+use Rattle.broker.proofs.StreamWords.{row-put, no-pending}
+use Rattle.broker.proofs.Parts.{written-as, held-parts, held-pending}
+use Rattle.broker.proofs.StreamsKept.{served-rows}
+use Rattle.broker.proofs.PendingRows.{drop-take, joined-longer, row-joined, row-zeroed}
+
+-- ---- a station's stream changed, in a state and in its parts
+
+pub cleared-valid : (σ : State) (s : ℕ) → valid σ ≡ true → valid (changeStation s cleared σ) ≡ true
+unfolding stationToken cleared withPending streamValid all isPart framed framedBy lengthOf implies isEmpty
+cleared-valid σ s v = facts-valid (changeStation s cleared σ) (stream-facts σ s cleared (λ x. refl) (λ x m. refl) (valid-facts σ v))
+
+module _ {s n : ℕ} {b : Bool} {hs : List Handle} {ss ts ds ss′ : List ℕ} (w : StreamSet s n b ss ss′) (σ : State) (bytes : List ℕ) (e : length bytes ≡ n) where
+  parts-set : PartsIn σ hs ss ts ds → PartsIn (changeStation s (withStream bytes b) σ) hs ss′ ts ds
+  unfolding changeStation withStations
+  parts-set p = record {
+    handles = record { records = p .handles .records };
+    stations = w .stations σ bytes e (p .stations);
+    tokens = record { words = p .tokens .words; bytes = p .tokens .bytes };
+  }
+
+parts-cleared : {s : ℕ} {hs : List Handle} {ss ts ds ss′ : List ℕ} → StreamSet s 0 false ss ss′ → (σ : State) → PartsIn σ hs ss ts ds → PartsIn (changeStation s cleared σ) hs ss′ ts ds
+unfolding withStream cleared withPending
+parts-cleared w σ p = parts-set w σ [] refl p
+
+pub held-cleared : {s : ℕ} {hs : List Handle} {ss ts ds ss′ : List ℕ} → StreamSet s 0 false ss ss′ → Held hs ss ts ds → Held hs ss′ ts ds
+held-cleared {s} w k = record { state = changeStation s cleared (k .state); isValid = cleared-valid (k .state) s (k .isValid); parts = parts-cleared w (k .state) (k .parts) }
+
+-- ---- a frame's body is served
+
+pub frame-served : (s start count used : ℕ) (hs : List Handle) {ss ts ds row out ss₁ ss′ ts′ ds′ row′ out′ : List ℕ} (r : Reply) → StreamSet s 0 false ss ss₁
+    → BodyServed s (take (count - start) (drop start row)) hs ss₁ ts ds ss′ ts′ ds′ out out′ r → row′ ≡ zeroed count row
+    → FrameServed s start count used hs ss ts ds row out ss′ ts′ ds′ row′ out′ (record { fed = record { refusal = 0; used = used; answered = r .written }; change = r .change })
+frame-served s start count used hs r w b e = record {
+  refusal = refl;
+  used = refl;
+  emptied = e;
+  parts = λ σ v p. b .parts (changeStation s cleared σ) (cleared-valid σ s v) (parts-cleared w σ p);
+  answer = λ σ v p. b .answer (changeStation s cleared σ) (cleared-valid σ s v) (parts-cleared w σ p);
+}
+
+-- ---- the stream breaks
+
+two-bytes : (out : List ℕ) → 1024 ≤ length out → set (set out 0 1) 1 10 ≡ 1 ∷ 10 ∷ drop 2 out
+two-bytes [] h = absurd (omega arith)
+two-bytes (x ∷ []) h = absurd (omega arith)
+two-bytes (x ∷ y ∷ out) h = refl
+
+pub broken-off : (s count used : ℕ) {ss row out ss′ row′ : List ℕ} → 1024 ≤ length out → row′ ≡ zeroed count row → StreamSet s 0 true ss ss′
+    → BrokenOff s count used ss row out ss′ row′ (set (set out 0 1) 1 10) (record { fed = record { refusal = 0; used = used; answered = 2 }; change = record { slot = handleSlots; handle = none } })
+broken-off s count used {out = out} h e w = record { turn = refl; stations = w; emptied = e; answer = two-bytes out h }
+
+-- ---- what a valid state gives
+
+module _ (σ : State) (v : valid σ ≡ true) where
+  station-count : length (σ .stations) ≡ stationCount
+  station-count = valid-facts σ v .loose .stations
+
+  none-changed : {hs : List Handle} → HandlesIn σ hs → set hs handleSlots none ≡ hs
+  none-changed {hs} i =
+      set-out hs handleSlots none
+      (omega (arith, length-map hs handleOf, ap length (i .records), length-map (σ .handles .slots) slotHandle, valid-facts σ v .loose .handles .sized))
+
+  parts-kept : {hs : List Handle} {ss ts ds : List ℕ} → PartsIn σ hs ss ts ds → PartsIn σ (set hs handleSlots none) ss ts ds
+  parts-kept p = rw (none-changed (p .handles)) p
+
+  module _ (s : ℕ) (h : s < stationCount) where
+    inside : s < length (σ .stations)
+    inside = rw station-count h
+
+    stream-valid : streamValid (stationAt σ s) ≡ true
+    unfolding stationAt
+    stream-valid = valid-facts σ v .loose .eachStation (getD (σ .stations) s startStation) (getD-mem (σ .stations) s startStation inside)
+
+    short : length (stationAt σ s .pending) < pendingBytes
+    unfolding streamValid
+    short = let e = stream-valid in part-short (stationAt σ s .pending) (search (and-l, and-r))
+
+    -- the station's own row is put back
+    row-back : put-record pendingBytes s (pendingRow (stationAt σ s)) (flat pendingRow (σ .stations)) ≡ flat pendingRow (σ .stations)
+    unfolding stationAt
+    row-back = put-flat pendingRow pendingBytes length-pendingRow s (getD (σ .stations) s startStation) (σ .stations) inside ∙ ap (flat pendingRow) (set-getD (σ .stations) s startStation)
+
+    -- a row of zeros is put
+    row-emptied : (f : Station → Station) → ((x : Station) → f x .pending ≡ []) → put-record pendingBytes s (replicate pendingBytes 0) (flat pendingRow (σ .stations)) ≡ flat pendingRow (changeStation s f σ .stations)
+    unfolding pendingRow cleared withPending
+    row-emptied f e = ap (λ (r : List ℕ). put-record pendingBytes s r (flat pendingRow (σ .stations))) (sym (no-pending (stationAt σ s)) ∙ ap (pad pendingBytes) (sym (e (stationAt σ s)))) ∙ row-put σ s f inside
+
+-- ---- what join asks
+
+module _ {s : ℕ} {hs : List Handle} {ss ts ds row : List ℕ} (k : RowHeld s hs ss ts ds row) where
+  pub held-row : Held hs ss ts ds
+  held-row = record { state = k .state; isValid = k .isValid; parts = k .parts }
+
+  pub count-short : (g : Stream) → s < stationCount → StreamGiven s ss g → g .count < pendingBytes
+  count-short g h i = rw (i .count (k .state) (k .parts .stations)) (short (k .state) (k .isValid) s h)
+
+-- what the joined bytes are asked for
+
+module _ {chunk row row₁ : List ℕ} {n : ℕ} {r : Stopped} (j : Joined chunk row n row₁ r) where
+  pub count-fits : length row ≡ pendingBytes → length row₁ ≡ length row → r .count ≤ length row₁
+  count-fits e l = omega (arith, j .fits)
+
+  pub start-fits : {start : ℕ} → r .what ≡ code.Whole start → start ≤ r .count
+  start-fits q = subst (Starts (r .count)) q (j .bounds) .1
+
+-- ---- a chunk
+
+module _ (s : ℕ) (chunk : List ℕ) {hs : List Handle} {ss ts ds row : List ℕ} (g : Stream) (h : s < stationCount) (i : StreamGiven s ss g) where
+  -- the stream is broken
+  pub chunk-eaten : {out : List ℕ} {u : Turn} → g .broken ≡ true → u ≡ quiet 0 (length chunk) handleSlots → RowFed s chunk hs ss ts ds row out ss ts ds row out u
+  unfolding buffer
+  chunk-eaten b q = record {
+    fed = λ σ v p e. rw (stream-eaten σ s chunk (sym (i .broken σ (p .stations)) ∙ b), q) (record {
+      refusal = refl;
+      used = refl;
+      answered = refl;
+      answer = refl;
+      parts = parts-kept σ v p;
+      pending = ap (λ (r : List ℕ). put-record pendingBytes s r (flat pendingRow (σ .stations))) e ∙ row-back σ v s h;
+    });
+  }
+
+  module _ (intact : g .broken ≡ false) {row₁ : List ℕ} (r : Stopped) (j : Joined chunk row (g .count) row₁ r) (l : length row₁ ≡ length row) where
+    module _ (σ : State) (v : valid σ ≡ true) (p : PartsIn σ hs ss ts ds) (e : row ≡ pendingRow (stationAt σ s)) where
+      unbroken : stationAt σ s .isBroken ≡ false
+      unbroken = sym (i .broken σ (p .stations)) ∙ intact
+
+      before : take (g .count) row ≡ stationAt σ s .pending
+      unfolding pendingRow
+      before = ap₂ (λ (n : ℕ) (x : List ℕ). take n x) (i .count σ (p .stations)) e ∙ take-pad pendingBytes (stationAt σ s .pending) (omega (arith, short σ v s h))
+
+      stop : stopOf row₁ r ≡ stopAt σ s chunk
+      stop = j .means ∙ ap (λ (x : List ℕ). stopped x chunk) before
+
+      joined-bytes : take (r .count) row₁ ≡ stopAt σ s chunk .joined
+      joined-bytes = ap (λ (x : Stop). x .joined) stop
+
+      joined-count : length (stopAt σ s chunk .joined) ≡ r .count
+      joined-count = ap length (sym joined-bytes) ∙ length-take-le (r .count) row₁ (omega (arith, j .fits, ap length e, length-pendingRow (stationAt σ s)))
+
+      after : row₁ ≡ stopAt σ s chunk .joined ++ drop (r .count) (pad pendingBytes (stationAt σ s .pending))
+      unfolding pendingRow
+      after = j .row ∙ ap₂ (λ (x y : List ℕ). stopped x chunk .joined ++ drop (r .count) y) before e
+
+      joined-row : row₁ ≡ pad pendingBytes (stopAt σ s chunk .joined)
+      joined-row = row-joined (stationAt σ s .pending) (stopAt σ s chunk .joined) row₁ (r .count) (joined-longer (stationAt σ s .pending) chunk) joined-count (j .fits) after
+
+      zeroed-row : zeroed (r .count) row₁ ≡ replicate pendingBytes 0
+      zeroed-row = row-zeroed (stationAt σ s .pending) (stopAt σ s chunk .joined) row₁ (r .count) (joined-longer (stationAt σ s .pending) chunk) joined-count (j .fits) after
+
+    pub chunk-joins : r .what ≡ code.Part → {ss′ out : List ℕ} {u : Turn} → PartKept s (r .count) (r .used) ss ss′ u
+        → RowFed s chunk hs ss ts ds row out ss′ ts ds row₁ out u
+    unfolding buffer pendingRow withPending withStream
+    chunk-joins q w = record {
+      fed = λ σ v p e.
+          let t = stop σ v p e in
+          rw (fed-part σ s (inside σ v s h) (unbroken σ v p e) chunk (sym (ap (λ x. x .what) t) ∙ ap (framedOf row₁ (r .count)) q), w .turn) (record {
+            refusal = refl;
+            used = ap (λ x. x .used) t;
+            answered = refl;
+            answer = refl;
+            parts = parts-set (w .stations) σ (stopAt σ s chunk .joined) (joined-count σ v p e) (parts-kept σ v p);
+            pending =
+                ap (λ (x : List ℕ). put-record pendingBytes s x (flat pendingRow (σ .stations))) (joined-row σ v p e)
+                ∙ row-put σ s (withPending (stopAt σ s chunk .joined)) (inside σ v s h);
+          });
+    }
+
+    pub chunk-breaks : r .what ≡ code.Broken → {out ss′ row′ out′ : List ℕ} {u : Turn} → BrokenOff s (r .count) (r .used) ss row₁ out ss′ row′ out′ u
+        → RowFed s chunk hs ss ts ds row out ss′ ts ds row′ out′ u
+    unfolding buffer frame encode encodeIn lowFirst brokenOff withStream
+    chunk-breaks q w = record {
+      fed = λ σ v p e.
+          let t = stop σ v p e in
+          rw (fed-broken σ s (inside σ v s h) (unbroken σ v p e) chunk (sym (ap (λ x. x .what) t) ∙ ap (framedOf row₁ (r .count)) q), w .turn) (record {
+            refusal = refl;
+            used = ap (λ x. x .used) t;
+            answered = refl;
+            answer = w .answer;
+            parts = parts-set (w .stations) σ [] refl (parts-kept σ v p);
+            pending =
+                ap (λ (x : List ℕ). put-record pendingBytes s x (flat pendingRow (σ .stations))) (w .emptied ∙ zeroed-row σ v p e)
+                ∙ row-emptied σ v s h brokenOff (λ x. refl);
+          });
+    }
+
+    pub chunk-serves : (start : ℕ) → r .what ≡ code.Whole start → {out ss′ ts′ ds′ row′ out′ : List ℕ} {u : Turn}
+        → FrameServed s start (r .count) (r .used) hs ss ts ds row₁ out ss′ ts′ ds′ row′ out′ u
+        → RowFed s chunk hs ss ts ds row out ss′ ts′ ds′ row′ out′ u
+    unfolding buffer cleared withPending
+    chunk-serves start q w = record {
+      fed = λ σ v p e.
+          let t = stop σ v p e in
+          let b : stopAt σ s chunk .what ≡ Frame.whole (body start (r .count) row₁) = sym (ap (λ x. x .what) t) ∙ ap (framedOf row₁ (r .count)) q ∙ ap Frame.whole (drop-take start (r .count) row₁) in
+          rw (fed-whole σ s (inside σ v s h) (unbroken σ v p e) chunk (body start (r .count) row₁) b) (record {
+            refusal = w .refusal;
+            used = w .used ∙ ap (λ x. x .used) t;
+            answered = w .answer σ v p .size;
+            answer = w .answer σ v p .bytes;
+            parts = w .parts σ v p;
+            pending =
+                ap (λ (x : List ℕ). put-record pendingBytes s x (flat pendingRow (σ .stations))) (w .emptied ∙ zeroed-row σ v p e)
+                ∙ row-emptied σ v s h cleared (λ x. refl)
+                ∙ sym (served-rows (changeStation s cleared σ) s (body start (r .count) row₁));
+          });
+    }
+
+-- ---- valid memory
+
+module _ (s : ℕ) (chunk : List ℕ) (hs : List Handle) (ts ds ss ps : List ℕ) (h : s < stationCount) (v : Memory.valid (memoryOf ts ds hs ss ps) ≡ true) where
+  abbrev held : State
+  held = decode (memoryOf ts ds hs ss ps)
+
+  abbrev lent : List ℕ
+  lent = take (s * pendingBytes + pendingBytes - s * pendingBytes) (drop (s * pendingBytes) ps)
+
+  state-valid : valid held ≡ true
+  state-valid = valid-state (memoryOf ts ds hs ss ps) v
+
+  lent-row : lent ≡ pendingRow (stationAt held s)
+  unfolding stationAt
+  lent-row =
+      part-at pendingBytes s ps
+      ∙ ap (record-at pendingBytes s) (held-pending ts ds hs ss ps v .rows)
+      ∙ record-flat pendingRow pendingBytes length-pendingRow s (held .stations) startStation (inside held state-valid s h)
+
+  pub lent-long : length lent ≡ pendingBytes
+  lent-long = ap length lent-row ∙ length-pendingRow (stationAt held s)
+
+  pub row-held : RowHeld s hs ss ts ds lent
+  row-held = record { state = held; isValid = state-valid; parts = held-parts ts ds hs ss ps v; pending = lent-row }
+
+  pub accepts : {out ss′ ts′ ds′ row′ out′ : List ℕ} {u : Turn} → RowFed s chunk hs ss ts ds lent out ss′ ts′ ds′ row′ out′ u
+      → Accepted s chunk hs ts ds ss ps out ts′ ds′ ss′ (take (s * pendingBytes) ps ++ (row′ ++ drop (s * pendingBytes + pendingBytes - s * pendingBytes) (drop (s * pendingBytes) ps))) out′ u
+  unfolding written
+  accepts {out} {ss′} {ts′} {ds′} {row′} {out′} {u} r =
+      let f = r .fed held state-valid (held-parts ts ds hs ss ps v) lent-row in
+      record {
+        fed = record {
+          refusal = f .refusal;
+          used = f .used;
+          answered = f .answered;
+          answer = f .answer;
+          memory =
+              written-as ts′ ds′ (changed hs (u .change)) ss′ _ (fedFrom 0 s chunk held .after) (f .parts)
+              (record { rows = put-lent pendingBytes s ps refl ∙ ap (put-record pendingBytes s row′) (held-pending ts ds hs ss ps v .rows) ∙ f .pending });
+        };
+      }

@@ -1,0 +1,33 @@
+-- The calls over the lent handle list, from the promises of the calls that have it by value. Assumes nothing.
+use Prim.Native.Nat.{ℕ}
+use mathlib.Core.Path.{_≡_, refl, sym, subst}
+use mathlib.Core.List.{List}
+use lib.ListN.{length}
+use mir.Val.{Val}
+use denote.Ref.{RefT}
+use denote.Slice.{sliceVal}
+use Rattle.rules.specs.Calls.{startOn, feedOn}
+use Rattle.handle.specs.declared.Handle.{Handle}
+use Rattle.handle.specs.Loaded.{loaded}
+use Rattle.valid.specs.Meaning.{memoryOf}
+use Rattle.state.specs.HandleFacts.{changed}
+use Rattle.broker.specs.declared.by_value.Started.{Started}
+use Rattle.broker.specs.declared.by_value.Turn.{Turn}
+use Rattle.broker.specs.Promise.{Does, Feeds, StartsWith, FeedsWith, freed}
+
+-- the machine value of a lent slice
+abbrev pub sv : {X : Type 0} → RefT (List X) → Val
+sv x = sliceVal (x .ptr) (length (x .now))
+
+-- zs: the list after its first slots were freed
+pub started-at : (hs : List Handle) {zs : List Handle} {ts ds ss ps ts′ ds′ ss′ ps′ : List ℕ} {r : Started} → StartsWith (length hs) ts ds ss ps ts′ ds′ ss′ ps′ r → zs ≡ freed (r .freed) hs
+    → Does (startOn (memoryOf ts ds hs ss ps)) (memoryOf ts′ ds′ zs ss′ ps′) (r .refusal)
+started-at hs {ts = ts} {ds} {ss} {ps} {ts′} {ds′} {ss′} {ps′} {r} e z =
+    subst (λ (zs : List Handle). Does (startOn (memoryOf ts ds hs ss ps)) (memoryOf ts′ ds′ zs ss′ ps′) (r .refusal)) (sym z) (e .started hs refl)
+
+-- zs: the list after the change
+pub fed-at : (hs : List Handle) {zs items : List Handle} {station : ℕ} {chunk ts ds ss ps out ts′ ds′ ss′ ps′ out′ : List ℕ} {r : Turn}
+    → FeedsWith station chunk (length hs) items ts ds ss ps out ts′ ds′ ss′ ps′ out′ r → items ≡ loaded hs → zs ≡ changed hs (r .change)
+    → Feeds (feedOn (memoryOf ts ds hs ss ps) station chunk (length out)) (memoryOf ts′ ds′ zs ss′ ps′) out out′ (r .fed)
+fed-at hs {station = station} {chunk} {ts} {ds} {ss} {ps} {out} {ts′} {ds′} {ss′} {ps′} {out′} {r} e l z =
+    subst (λ (zs : List Handle). Feeds (feedOn (memoryOf ts ds hs ss ps) station chunk (length out)) (memoryOf ts′ ds′ zs ss′ ps′) out out′ (r .fed)) (sym z) (e .fed hs refl (sym l))

@@ -1,0 +1,9 @@
+pub mod StreamWords
+pub mod Parts
+pub mod Reconnecting
+pub mod Starting
+pub mod StreamsKept
+pub mod PendingRows
+pub mod Lent
+pub mod Accepting
+pub mod Feeding

@@ -1,0 +1,20 @@
+-- The row is cleared, the words are set, and the two bytes are the frame 01 0A. Assumes nothing.
+use native.Mathlib.Omega.{arith}
+use lib.ListN.{length-set}
+use borrow.Author.Needs.{needs}
+use Rattle.broker.proofs.Accepting.{broken-off}
+use Rattle.broker.proofs.accept.break_off.Statement.{statement}
+use Rattle.broker.proofs.accept.break_off.Tie as tie
+
+pub break-off-spec : {M : Type 1} → statement M
+break-off-spec =
+    tie.close
+    (tie.spec
+    (λ c κs. search needs)
+    (λ c κs. search needs)
+    (λ c. search needs)
+    (λ c. simp length-set (omega arith))
+    (λ c. search needs)
+    (λ c. search needs)
+    (λ c. search needs)
+    (λ c. search (needs, broken-off)))

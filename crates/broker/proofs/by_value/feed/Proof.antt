@@ -1,0 +1,29 @@
+-- By the tests of 11, 12 and 13. Assumes nothing.
+use borrow.Author.Needs.{needs}
+use Rattle.broker.proofs.Parts.{tested-valid, tested-lent}
+use Rattle.broker.proofs.Feeding.{feed-no-station, feed-short, feed-invalid, feeds-with}
+use Rattle.broker.proofs.by_value.feed.Statement.{statement}
+use Rattle.broker.proofs.by_value.feed.Tie as tie
+
+pub feed-spec : {M : Type 1} → statement M
+feed-spec =
+    tie.close
+    (tie.spec
+    (λ c κs. search needs)
+    (λ c. search (needs, feed-no-station))
+    (λ c κs. search needs)
+    (λ c. search (needs, feed-short))
+    (λ c κs. search needs)
+    (λ c κs. search needs)
+    (λ c. search needs)
+    (λ c. search needs)
+    (λ c. search needs)
+    (λ c. search needs)
+    (λ c. search (needs, feed-invalid))
+    (λ c κs. let e = c .before .before .before .before .before in (tested-lent (e .before .is-valid .ensures) (e .if3 .left), tested-valid (e .before .is-valid .ensures) (e .if3 .left), search needs, search needs))
+    (λ c. search needs)
+    (λ c. search needs)
+    (λ c. search needs)
+    (λ c. search needs)
+    (λ c. search needs)
+    (λ c. search (needs, feeds-with)))

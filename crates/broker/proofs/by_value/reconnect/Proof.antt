@@ -1,0 +1,20 @@
+-- By the tests of 11 and 13. Assumes nothing.
+use borrow.Author.Needs.{needs}
+use Rattle.broker.proofs.Parts.{stations-long, pending-long}
+use Rattle.broker.proofs.Reconnecting.{reconnect-no-station, reconnect-invalid, reconnects-with}
+use Rattle.broker.proofs.by_value.reconnect.Statement.{statement}
+use Rattle.broker.proofs.by_value.reconnect.Tie as tie
+
+pub reconnect-spec : {M : Type 1} → statement M
+reconnect-spec =
+    tie.close
+    (tie.spec
+    (λ c. search (needs, reconnect-no-station))
+    (λ c κs. search needs)
+    (λ c. search needs)
+    (λ c. search needs)
+    (λ c. search (needs, reconnect-invalid))
+    (λ c κs. search (needs, stations-long, pending-long))
+    (λ c. search needs)
+    (λ c. search needs)
+    (λ c. search (needs, reconnects-with)))

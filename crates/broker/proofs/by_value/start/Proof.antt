@@ -1,0 +1,18 @@
+-- By the test of the sizes. Assumes nothing.
+use borrow.Author.Needs.{needs}
+use Rattle.broker.proofs.Starting.{start-refused, start-lent, starts}
+use Rattle.broker.proofs.by_value.start.Statement.{statement}
+use Rattle.broker.proofs.by_value.start.Tie as tie
+
+pub start-spec : {M : Type 1} → statement M
+start-spec =
+    tie.close
+    (tie.spec
+    (λ c κs. search needs)
+    (λ c. search (needs, start-refused))
+    (λ c κs. search (needs, start-lent))
+    (λ c. search needs)
+    (λ c. search needs)
+    (λ c. search needs)
+    (λ c. search needs)
+    (λ c. search (needs, starts)))

@@ -1,0 +1,20 @@
+-- What is written at the start. Assumes nothing.
+use Prim.Native.Nat.{ℕ}
+use mathlib.Core.Path.{_≡_}
+use mathlib.Core.List.{List}
+use lib.ListN.{replicate}
+use Rattle.rules.specs.State.{start, handleSlots}
+use Rattle.rules.specs.Memory.{encode}
+use Rattle.handle.specs.Meaning.{none}
+use Rattle.state.specs.Parts.{TokensIn, StationsIn}
+use Rattle.valid.specs.Meaning.{memoryOf}
+
+pub record FirstTokens (ts ds : List ℕ) : Type 0 where
+  pub tokens : TokensIn start ts ds
+
+pub record FirstStations (ss : List ℕ) : Type 0 where
+  pub stations : StationsIn start ss
+
+-- with 32 free handles beside it
+pub record Begun (ts ds ss ps : List ℕ) : Type 0 where
+  pub memory : memoryOf ts ds (replicate handleSlots none) ss ps ≡ encode start

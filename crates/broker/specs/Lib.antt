@@ -1,0 +1,5 @@
+pub mod Promise
+pub mod Accepted
+pub mod Initial
+pub mod Streams
+pub mod Tested

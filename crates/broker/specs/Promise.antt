@@ -1,0 +1,47 @@
+-- What a call did, as the rules' `Calls` say it: `d` is what they say of this call. Assumes nothing.
+use Prim.Native.Nat.{ℕ, _≤_}
+use mathlib.Core.Path.{_≡_}
+use mathlib.Core.List.{List, _++_}
+use lib.ListN.{length, drop, replicate}
+use Rattle.rules.specs.Memory.{Memory}
+use Rattle.rules.specs.Calls.{Done, startOn, feedOn, reconnectOn, buffer}
+use Rattle.handle.specs.Meaning.{none}
+use Rattle.handle.specs.Loaded.{loaded}
+use Rattle.handle.specs.declared.Handle.{Handle}
+use Rattle.valid.specs.Meaning.{memoryOf}
+use Rattle.state.specs.HandleFacts.{changed}
+use Rattle.broker.specs.declared.Fed.{Fed}
+use Rattle.broker.specs.declared.by_value.Turn.{Turn}
+use Rattle.broker.specs.declared.by_value.Started.{Started}
+
+-- start and reconnect return the refusal
+pub record Does (d : Done) (after : Memory) (r : ℕ) : Type 0 where
+  pub refusal : r ≡ d .refusal
+  pub memory : after ≡ d .memory
+
+-- feed returns the refusal, the bytes used and the answer's length; the answer stands at the start of the buffer, and the bytes after it stay
+pub record Feeds (d : Done) (after : Memory) (out out′ : List ℕ) (r : Fed) : Type 0 where
+  pub refusal : r .refusal ≡ d .refusal
+  pub used : r .used ≡ d .used
+  pub answered : r .answered ≡ length (d .answer)
+  pub memory : after ≡ d .memory
+  pub answer : out′ ≡ buffer (d .answer) out
+
+-- ---- the same with the handle list by value: `count` is the lent list's length, `items` are its first 32 handles
+
+-- the first n handles become free slots
+abbrev pub freed : ℕ → List Handle → List Handle
+freed n hs = replicate n none ++ drop n hs
+
+pub record StartsWith (count : ℕ) (ts ds ss ps ts′ ds′ ss′ ps′ : List ℕ) (r : Started) : Type 0 where
+  pub started : (hs : List Handle) → length hs ≡ count
+      → Does (startOn (memoryOf ts ds hs ss ps)) (memoryOf ts′ ds′ (freed (r .freed) hs) ss′ ps′) (r .refusal)
+  pub inside : r .freed ≤ count
+
+pub record FeedsWith (station : ℕ) (chunk : List ℕ) (count : ℕ) (items : List Handle) (ts ds ss ps out ts′ ds′ ss′ ps′ out′ : List ℕ) (r : Turn) : Type 0 where
+  pub fed : (hs : List Handle) → length hs ≡ count → loaded hs ≡ items
+      → Feeds (feedOn (memoryOf ts ds hs ss ps) station chunk (length out)) (memoryOf ts′ ds′ (changed hs (r .change)) ss′ ps′) out out′ (r .fed)
+
+pub record ReconnectsWith (station count : ℕ) (items : List Handle) (ts ds ss ps ss′ ps′ : List ℕ) (r : ℕ) : Type 0 where
+  pub reconnected : (hs : List Handle) → length hs ≡ count → loaded hs ≡ items
+      → Does (reconnectOn (memoryOf ts ds hs ss ps) station) (memoryOf ts ds hs ss′ ps′) r

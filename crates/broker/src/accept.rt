@@ -1,0 +1,184 @@
+// A chunk on valid memory: its bytes up to the end of the first request or break, or all.
+ghost use mathlib.Core.Path.{_≡_};
+ghost use mathlib.Core.Bool.{true};
+ghost use Prim.Native.Nat.{_*_, _≤_, _<_};
+ghost use lib.ListN.{length};
+ghost use Rattle.rules.specs.Frame.{maxAnswer};
+ghost use Rattle.rules.specs.State.{stationCount};
+ghost use Rattle.rules.specs.Memory as Memory;
+ghost use Rattle.rules.specs.Memory.{pendingBytes};
+ghost use Rattle.state.specs.Parts.{Lent};
+ghost use Rattle.state.specs.StationFacts.{stationsSize};
+ghost use Rattle.valid.specs.Meaning as Sizes;
+ghost use Rattle.valid.specs.Meaning.{memoryOf};
+ghost use Rattle.serve.specs.Served.{Held};
+ghost use Rattle.broker.specs.Accepted.{quiet, PartKept, BrokenOff, FrameServed, RowHeld, RowFed, Accepted};
+use crate::Fed;
+use crate::by_value::Turn;
+use crate::station;
+use crate::station::PENDING_BYTES;
+use handle::Handles;
+use handle::NONE;
+use handle::SLOTS;
+use state::handles::Change;
+use stream::Framed;
+
+// No answer, and no handle changes: the slot is past the end of the lent list.
+pub fn unanswered(refusal: u32, used: usize, slots: usize) -> Turn
+    ensures { λ r. ⌜ r ≡ quiet refusal used slots ⌝ }
+{
+    Turn {
+        fed: Fed {
+            refusal: refusal,
+            used: used,
+            answered: 0,
+        },
+        change: Change {
+            slot: slots,
+            handle: NONE,
+        },
+    }
+}
+
+// The first count bytes of the row are a part of a frame: they stay pending.
+fn keep(station: u32, count: usize, used: usize, stations: &mut [u64]) -> Turn
+    requires { ⌜ (station < stationCount) × (length (now stations) ≡ stationsSize) ⌝ }
+    ensures { λ r. ⌜ PartKept station count used (now (stations .entry)) (now (stations .exit)) r ⌝ }
+{
+    station::set_stream(station, count, false, stations);
+    unanswered(0, used, SLOTS)
+}
+
+// Nothing is pending any more, and the break is answered once, by the frame 01 0A.
+fn break_off(
+    station: u32,
+    count: usize,
+    used: usize,
+    stations: &mut [u64],
+    row: &mut [u8],
+    out: &mut [u8],
+) -> Turn
+    requires { ⌜ (station < stationCount) × (length (now stations) ≡ stationsSize) × (count ≤ length (now row)) × (maxAnswer ≤ length (now out)) ⌝ }
+    ensures { λ r. ⌜ BrokenOff station count used (now (stations .entry)) (now (row .entry)) (now (out .entry)) (now (stations .exit)) (now (row .exit)) (now (out .exit)) r ⌝ }
+{
+    stream::clear(row, count);
+    station::set_stream(station, 0, true, stations);
+    out[0] = 1;
+    out[1] = 10;
+    Turn {
+        fed: Fed {
+            refusal: 0,
+            used: used,
+            answered: 2,
+        },
+        change: Change {
+            slot: SLOTS,
+            handle: NONE,
+        },
+    }
+}
+
+// The first count bytes of the row are a frame, whose body begins at start: nothing is pending any more, and the body is served.
+fn serve_frame(
+    station: u32,
+    start: usize,
+    count: usize,
+    used: usize,
+    handles: Handles,
+    tokens: &mut [u64],
+    dacls: &mut [u8],
+    stations: &mut [u64],
+    row: &mut [u8],
+    out: &mut [u8],
+) -> Turn
+    requires { ⌜ Lent (now tokens) (now dacls) (now stations) × (station < stationCount) × (maxAnswer ≤ length (now out)) × Held (handles .items) (now stations) (now tokens) (now dacls) × (start ≤ count) × (count ≤ length (now row)) ⌝ }
+    ensures { λ r. ⌜ FrameServed station start count used (handles .items) (now (stations .entry)) (now (tokens .entry)) (now (dacls .entry)) (now (row .entry)) (now (out .entry)) (now (stations .exit)) (now (tokens .exit)) (now (dacls .exit)) (now (row .exit)) (now (out .exit)) r ⌝ }
+{
+    station::set_stream(station, 0, false, stations);
+    let reply = serve::serve(
+        station,
+        &row[start..count],
+        handles,
+        tokens,
+        dacls,
+        stations,
+        out,
+    );
+    stream::clear(row, count);
+    let change = reply.change;
+    Turn {
+        fed: Fed {
+            refusal: 0,
+            used: used,
+            answered: reply.written,
+        },
+        change: change,
+    }
+}
+
+// The row is the station's pending bytes.
+fn accept_row(
+    station: u32,
+    chunk: &[u8],
+    handles: Handles,
+    tokens: &mut [u64],
+    dacls: &mut [u8],
+    stations: &mut [u64],
+    row: &mut [u8],
+    out: &mut [u8],
+) -> Turn
+    requires { ⌜ Lent (now tokens) (now dacls) (now stations) × (station < stationCount) × (maxAnswer ≤ length (now out)) × (length (now row) ≡ pendingBytes) × RowHeld station (handles .items) (now stations) (now tokens) (now dacls) (now row) ⌝ }
+    ensures { λ r. ⌜ RowFed station (now (chunk .entry)) (handles .items) (now (stations .entry)) (now (tokens .entry)) (now (dacls .entry)) (now (row .entry)) (now (out .entry)) (now (stations .exit)) (now (tokens .exit)) (now (dacls .exit)) (now (row .exit)) (now (out .exit)) r ⌝ }
+{
+    let before = station::stream_of(station, stations);
+    if before.broken {
+        return unanswered(0, chunk.len(), SLOTS);
+    }
+    let stop = stream::join(chunk, row, before.count);
+    let used = stop.used;
+    let count = stop.count;
+    let what = stop.what;
+    match what {
+        Framed::Part => keep(station, count, used, stations),
+        Framed::Broken => break_off(station, count, used, stations, row, out),
+        Framed::Whole { start } => serve_frame(
+            station,
+            start,
+            count,
+            used,
+            handles,
+            tokens,
+            dacls,
+            stations,
+            row,
+            out,
+        ),
+    }
+}
+
+pub fn accept(
+    station: u32,
+    chunk: &[u8],
+    handles: Handles,
+    tokens: &mut [u64],
+    dacls: &mut [u8],
+    stations: &mut [u64],
+    pending: &mut [u8],
+    out: &mut [u8],
+) -> Turn
+    requires { ⌜ Sizes.Lent (now tokens) (now dacls) (now stations) (now pending) × (Memory.valid (memoryOf (now tokens) (now dacls) (handles .items) (now stations) (now pending)) ≡ true) × (station < stationCount) × (maxAnswer ≤ length (now out)) ⌝ }
+    ensures { λ r. ⌜ Accepted station (now (chunk .entry)) (handles .items) (now (tokens .entry)) (now (dacls .entry)) (now (stations .entry)) (now (pending .entry)) (now (out .entry)) (now (tokens .exit)) (now (dacls .exit)) (now (stations .exit)) (now (pending .exit)) (now (out .exit)) r ⌝ }
+{
+    let at = station as usize * PENDING_BYTES;
+    let end = at + PENDING_BYTES;
+    accept_row(
+        station,
+        chunk,
+        handles,
+        tokens,
+        dacls,
+        stations,
+        &mut pending[at..end],
+        out,
+    )
+}

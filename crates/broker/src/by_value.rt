@@ -1,0 +1,108 @@
+// The three calls with the handle list by value: what the calls over the lent list wrap, and what the program uses.
+ghost use Rattle.broker.specs.Promise.{StartsWith, FeedsWith, ReconnectsWith};
+use crate::Fed;
+use crate::accept;
+use crate::initial;
+use crate::memory;
+use crate::station;
+use handle::Handles;
+use handle::SLOTS;
+use state::handles::Change;
+
+const STATIONS: u32 = 8;
+
+// No answer is longer.
+const MAX_ANSWER: usize = 1024;
+
+// The refusal, and how many handles become free slots: 32, or none.
+pub struct Started {
+    pub refusal: u32,
+    pub freed: usize,
+}
+
+// What feed returns, and the one handle that changes: a slot past the end of the lent list is none.
+pub struct Turn {
+    pub fed: Fed,
+    pub change: Change,
+}
+
+pub fn start(
+    tokens: &mut [u64],
+    dacls: &mut [u8],
+    count: usize,
+    stations: &mut [u64],
+    pending: &mut [u8],
+) -> Started
+    ensures { λ r. ⌜ StartsWith count (now (tokens .entry)) (now (dacls .entry)) (now (stations .entry)) (now (pending .entry)) (now (tokens .exit)) (now (dacls .exit)) (now (stations .exit)) (now (pending .exit)) r ⌝ }
+{
+    let t = tokens.len();
+    let d = dacls.len();
+    let s = stations.len();
+    let p = pending.len();
+    if !memory::is_sized(t, d, count, s, p) {
+        return Started {
+            refusal: 13,
+            freed: 0,
+        };
+    }
+    initial::write(tokens, dacls, stations, pending);
+    Started {
+        refusal: 0,
+        freed: SLOTS,
+    }
+}
+
+pub fn feed(
+    station: u32,
+    chunk: &[u8],
+    out: &mut [u8],
+    tokens: &mut [u64],
+    dacls: &mut [u8],
+    count: usize,
+    handles: Handles,
+    stations: &mut [u64],
+    pending: &mut [u8],
+) -> Turn
+    ensures { λ r. ⌜ FeedsWith station (now (chunk .entry)) count (handles .items) (now (tokens .entry)) (now (dacls .entry)) (now (stations .entry)) (now (pending .entry)) (now (out .entry)) (now (tokens .exit)) (now (dacls .exit)) (now (stations .exit)) (now (pending .exit)) (now (out .exit)) r ⌝ }
+{
+    if STATIONS <= station {
+        return accept::unanswered(11, 0, count);
+    }
+    if out.len() < MAX_ANSWER {
+        return accept::unanswered(12, 0, count);
+    }
+    if !memory::is_valid(tokens, dacls, count, handles, stations, pending) {
+        return accept::unanswered(13, 0, count);
+    }
+    accept::accept(
+        station,
+        chunk,
+        handles,
+        tokens,
+        dacls,
+        stations,
+        pending,
+        out,
+    )
+}
+
+pub fn reconnect(
+    station: u32,
+    tokens: &[u64],
+    dacls: &[u8],
+    count: usize,
+    handles: Handles,
+    stations: &mut [u64],
+    pending: &mut [u8],
+) -> u32
+    ensures { λ r. ⌜ ReconnectsWith station count (handles .items) (now (tokens .entry)) (now (dacls .entry)) (now (stations .entry)) (now (pending .entry)) (now (stations .exit)) (now (pending .exit)) r ⌝ }
+{
+    if STATIONS <= station {
+        return 11;
+    }
+    if !memory::is_valid(tokens, dacls, count, handles, stations, pending) {
+        return 13;
+    }
+    station::drop_stream(station, stations, pending);
+    0
+}

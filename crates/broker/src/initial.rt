@@ -1,0 +1,105 @@
+// The start's memory (document 01: 'Start: token 1 ..').
+ghost use mathlib.Core.Path.{_≡_};
+ghost use Prim.Native.Nat.{_*_};
+ghost use lib.ListN.{length};
+ghost use Rattle.rules.specs.Token.{maxDacl, startToken};
+ghost use Rattle.rules.specs.State.{tokenSlots};
+ghost use Rattle.rules.specs.Memory.{tokenWords};
+ghost use Rattle.token.specs.Meaning.{tokenOf, Sized};
+ghost use Rattle.state.specs.StationFacts.{stationsSize};
+ghost use Rattle.valid.specs.Meaning.{Lent};
+ghost use Rattle.broker.specs.Initial.{FirstTokens, FirstStations, Begun};
+use crate::memory::DACLS;
+use crate::memory::PENDING;
+use crate::memory::TOKENS;
+use privilege::privileges::Privileges;
+use request::new_token::new_token;
+use token::Group;
+use token::Identity;
+use token::MAX_GROUPS;
+use token::Token;
+use token::slots;
+use token::words;
+
+// Privileges 2 to 36.
+const EXISTING: u64 = 0x1FFFFFFFFC;
+
+// SYSTEM's, with every privilege present, enabled and default.
+fn first_token() -> Token
+    ensures { λ r. ⌜ (tokenOf r ≡ startToken) × Sized r ⌝ }
+{
+    let identity = Identity {
+        user: 18,
+        session: 999,
+        kind: 1,
+        level: 0,
+        integrity: 16384,
+    };
+    let privileges = Privileges {
+        present: EXISTING,
+        enabled: EXISTING,
+        by_default: EXISTING,
+        used: 0,
+    };
+    let groups = [Group {
+        sid: 0,
+        attributes: 0,
+    }; MAX_GROUPS];
+    new_token(1, identity, privileges, groups, 0)
+}
+
+// Token 1 in the first slot; the others are free.
+fn write_tokens(tokens: &mut [u64], dacls: &mut [u8])
+    requires { ⌜ (length (now tokens) ≡ tokenSlots * tokenWords) × (length (now dacls) ≡ tokenSlots * maxDacl) ⌝ }
+    ensures { λ _. ⌜ FirstTokens (now (tokens .exit)) (now (dacls .exit)) ⌝ }
+{
+    words::zero_words(TOKENS, tokens);
+    words::zero_bytes(DACLS, dacls);
+    slots::store_at(first_token(), tokens, dacls, 0);
+}
+
+// The next numbers are 2 and 1; token 1 is primary at every station, whose stream is empty and not broken.
+fn write_stations(stations: &mut [u64])
+    requires { ⌜ length (now stations) ≡ stationsSize ⌝ }
+    ensures { λ _. ⌜ FirstStations (now (stations .exit)) ⌝ }
+{
+    let first = [
+        2,
+        1,
+        1,
+        0,
+        0,
+        1,
+        0,
+        0,
+        1,
+        0,
+        0,
+        1,
+        0,
+        0,
+        1,
+        0,
+        0,
+        1,
+        0,
+        0,
+        1,
+        0,
+        0,
+        1,
+        0,
+        0,
+    ];
+    words::copy_words(&first, stations);
+}
+
+// Any memory of the right sizes is overwritten.
+pub fn write(tokens: &mut [u64], dacls: &mut [u8], stations: &mut [u64], pending: &mut [u8])
+    requires { ⌜ Lent (now tokens) (now dacls) (now stations) (now pending) ⌝ }
+    ensures { λ _. ⌜ Begun (now (tokens .exit)) (now (dacls .exit)) (now (stations .exit)) (now (pending .exit)) ⌝ }
+{
+    write_tokens(tokens, dacls);
+    write_stations(stations);
+    words::zero_bytes(PENDING, pending);
+}

@@ -1,0 +1,105 @@
+// The broker: start, feed and reconnect over the memory that a host lends. No call asks anything of its input.
+ghost use mathlib.Core.Path.{_≡_};
+ghost use lib.ListN.{length};
+ghost use Rattle.rules.specs.Index.{foundIndex};
+ghost use Rattle.rules.specs.Handle.{isHandle};
+ghost use Rattle.handle.specs.Meaning.{slotsOf};
+ghost use Rattle.handle.specs.Loaded.{loaded};
+ghost use Rattle.rules.specs.Calls.{startOn, feedOn, reconnectOn};
+ghost use Rattle.valid.specs.Meaning.{memoryOf};
+ghost use Rattle.broker.specs.Promise.{Does, Feeds};
+use handle::Handle;
+use handle::list;
+
+mod accept;
+pub mod by_value;
+mod initial;
+mod memory;
+mod station;
+
+// What a feed returns: the refusal (0, or 11 to 13), the bytes used, the whole answer's length.
+#[repr(C)]
+pub struct Fed {
+    pub refusal: u32,
+    pub used: usize,
+    pub answered: usize,
+}
+
+// The start's memory, over any memory of the right sizes; else 13.
+#[no_mangle]
+pub extern "C" fn obriska_start(
+    tokens: &mut [u64],
+    dacls: &mut [u8],
+    handles: &mut [Handle],
+    stations: &mut [u64],
+    pending: &mut [u8],
+) -> u32
+    ensures { λ r. ⌜ Does (startOn (memoryOf (now (tokens .entry)) (now (dacls .entry)) (now (handles .entry)) (now (stations .entry)) (now (pending .entry)))) (memoryOf (now (tokens .exit)) (now (dacls .exit)) (now (handles .exit)) (now (stations .exit)) (now (pending .exit))) r ⌝ }
+{
+    let s = by_value::start(tokens, dacls, handles.len(), stations, pending);
+    list::clear_first(handles, s.freed);
+    s.refusal
+}
+
+// A station's chunk: its bytes up to the end of the first request or break, or all.
+#[no_mangle]
+pub extern "C" fn obriska_feed(
+    station: u32,
+    chunk: &[u8],
+    answer: &mut [u8],
+    tokens: &mut [u64],
+    dacls: &mut [u8],
+    handles: &mut [Handle],
+    stations: &mut [u64],
+    pending: &mut [u8],
+) -> Fed
+    ensures { λ r. ⌜ Feeds (feedOn (memoryOf (now (tokens .entry)) (now (dacls .entry)) (now (handles .entry)) (now (stations .entry)) (now (pending .entry))) station (now (chunk .entry)) (length (now (answer .entry)))) (memoryOf (now (tokens .exit)) (now (dacls .exit)) (now (handles .exit)) (now (stations .exit)) (now (pending .exit))) (now (answer .entry)) (now (answer .exit)) r ⌝ }
+{
+    let count = handles.len();
+    let held = list::load(handles);
+    let turn = by_value::feed(
+        station,
+        chunk,
+        answer,
+        tokens,
+        dacls,
+        count,
+        held,
+        stations,
+        pending,
+    );
+    list::place(handles, turn.change.slot, turn.change.handle);
+    turn.fed
+}
+
+// A station's part request and its break are dropped.
+#[no_mangle]
+pub extern "C" fn obriska_reconnect(
+    station: u32,
+    tokens: &[u64],
+    dacls: &[u8],
+    handles: &[Handle],
+    stations: &mut [u64],
+    pending: &mut [u8],
+) -> u32
+    ensures { λ r. ⌜ Does (reconnectOn (memoryOf (now (tokens .entry)) (now (dacls .entry)) (now (handles .entry)) (now (stations .entry)) (now (pending .entry))) station) (memoryOf (now (tokens .entry)) (now (dacls .entry)) (now (handles .entry)) (now (stations .exit)) (now (pending .exit))) r ⌝ }
+{
+    let held = list::load(handles);
+    by_value::reconnect(
+        station,
+        tokens,
+        dacls,
+        handles.len(),
+        held,
+        stations,
+        pending,
+    )
+}
+
+// The slot of a station's live handle of that number, front to back among the first 32; 32 if there is none. It changes nothing.
+#[no_mangle]
+pub extern "C" fn obriska_find(handles: &[Handle], station: u32, number: u32) -> usize
+    ensures { λ r. ⌜ r ≡ foundIndex (isHandle station number) (slotsOf (loaded (now (handles .entry)))) ⌝ }
+{
+    list::find(handles, station, number)
+}

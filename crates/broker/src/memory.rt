@@ -1,0 +1,39 @@
+// The lent memory as a whole, with the handle list by value beside its length: its sizes, and refusal 13's test.
+ghost use Rattle.broker.specs.Tested.{ValidTested, SizesTested};
+use handle::Handles;
+use handle::SLOTS;
+
+pub const TOKENS: usize = 1600;
+
+pub const DACLS: usize = 4096;
+
+const STATIONS: usize = 26;
+
+pub const PENDING: usize = 16400;
+
+// The lengths are those that document 01 fixes.
+pub fn is_sized(tokens: usize, dacls: usize, count: usize, stations: usize, pending: usize) -> bool
+    ensures { λ r. ⌜ SizesTested tokens dacls count stations pending r ⌝ }
+{
+    (tokens == TOKENS)
+        & (dacls == DACLS)
+        & (count == SLOTS)
+        & (stations == STATIONS)
+        & (pending == PENDING)
+}
+
+pub fn is_valid(
+    tokens: &[u64],
+    dacls: &[u8],
+    count: usize,
+    handles: Handles,
+    stations: &[u64],
+    pending: &[u8],
+) -> bool
+    ensures { λ r. ⌜ ValidTested count (handles .items) (now (tokens .entry)) (now (dacls .entry)) (now (stations .entry)) (now (pending .entry)) r ⌝ }
+{
+    if count != SLOTS {
+        return false;
+    }
+    valid::valid(tokens, dacls, handles, stations, pending)
+}

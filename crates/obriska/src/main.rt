@@ -1,0 +1,247 @@
+// The program (document 01: 'a thin program'): chunks from standard input, each a station, a length and so many bytes; answers to standard output.
+ghost use mathlib.Core.Path.{_≡_};
+ghost use Prim.Native.Nat.{_≤_};
+ghost use lib.ListN.{length};
+ghost use Rattle.valid.specs.Meaning.{memoryOf};
+ghost use Rattle.obriska.specs.Serving.{bufferBytes, Steps, Serves, Room, Refilled, Advances};
+use handle::Handles;
+use libc::STDIN_FILENO;
+use libc::STDOUT_FILENO;
+use session::input;
+use session::input::Next;
+use session::turn;
+
+// The most chunks, so that the program ends.
+const CHUNKS: u64 = 4294967295;
+
+// After one feed: how much of the chunk is used, whether the answer was written, the handles.
+struct Step {
+    used: usize,
+    written: bool,
+    handles: Handles,
+}
+
+// After a chunk: whether all its answers were written, the handles.
+struct Served {
+    written: bool,
+    handles: Handles,
+}
+
+// After a chunk or a read: whether to go on, how many chunks it was, where the bytes held begin and end, the handles.
+struct Advanced {
+    going: bool,
+    chunks: u64,
+    from: usize,
+    end: usize,
+    handles: Handles,
+}
+
+// Feeds a chunk once and writes the answer. A refused chunk is used up: it is skipped, and has no answer.
+fn feed_once(
+    station: u32,
+    chunk: &[u8],
+    answer: &mut [u8],
+    tokens: &mut [u64],
+    dacls: &mut [u8],
+    handles: Handles,
+    stations: &mut [u64],
+    pending: &mut [u8],
+) -> Step
+    ensures { λ r. ⌜ Steps station (now (chunk .entry)) (memoryOf (now (tokens .entry)) (now (dacls .entry)) (handles .items) (now (stations .entry)) (now (pending .entry))) (memoryOf (now (tokens .exit)) (now (dacls .exit)) (r .handles .items) (now (stations .exit)) (now (pending .exit))) (length (now (answer .entry))) r ⌝ }
+{
+    let t = turn::feed(
+        station,
+        chunk,
+        answer,
+        tokens,
+        dacls,
+        handles,
+        stations,
+        pending,
+    );
+    let n = t.fed.answered;
+    let written = io::write_all(STDOUT_FILENO, &answer[..n]);
+    let next = t.handles;
+    if t.fed.refusal != 0 {
+        return Step {
+            used: chunk.len(),
+            written,
+            handles: next,
+        };
+    }
+    Step {
+        used: t.fed.used,
+        written,
+        handles: next,
+    }
+}
+
+// Feeds a chunk until it is used up, or an answer can't be written.
+fn serve(
+    station: u32,
+    chunk: &[u8],
+    answer: &mut [u8],
+    tokens: &mut [u64],
+    dacls: &mut [u8],
+    handles: Handles,
+    stations: &mut [u64],
+    pending: &mut [u8],
+) -> Served
+    ensures { λ r. ⌜ Serves station (now (chunk .entry)) (memoryOf (now (tokens .entry)) (now (dacls .entry)) (handles .items) (now (stations .entry)) (now (pending .entry))) (memoryOf (now (tokens .exit)) (now (dacls .exit)) (r .handles .items) (now (stations .exit)) (now (pending .exit))) (length (now (answer .entry))) (r .written) ⌝ }
+{
+    let mut held = handles;
+    let mut used: usize = 0;
+    while used < chunk.len() {
+        let t = feed_once(
+            station,
+            &chunk[used..],
+            answer,
+            tokens,
+            dacls,
+            held,
+            stations,
+            pending,
+        );
+        held = t.handles;
+        if !t.written {
+            return Served {
+                written: false,
+                handles: held,
+            };
+        }
+        used += t.used;
+    }
+    Served {
+        written: true,
+        handles: held,
+    }
+}
+
+// The bytes held move to the front of the buffer, and one read puts what is there behind them. Their end; 0 where the input
+// has ended or the read failed.
+fn refill(buffer: &mut [u8], from: usize, end: usize) -> usize
+    requires { ⌜ Room from end (now buffer) ⌝ }
+    ensures { λ r. ⌜ Refilled from end (now (buffer .entry)) (now (buffer .exit)) r ⌝ }
+{
+    let kept = input::keep(buffer, from, end);
+    let got = libc::read(STDIN_FILENO, &mut buffer[kept..]);
+    let n = io::count(got, &buffer[kept..]);
+    if n == 0 {
+        return 0;
+    }
+    kept + n
+}
+
+// One chunk of the bytes held is served, or more are read where none is whole.
+fn advance(
+    buffer: &mut [u8],
+    answer: &mut [u8],
+    tokens: &mut [u64],
+    dacls: &mut [u8],
+    handles: Handles,
+    stations: &mut [u64],
+    pending: &mut [u8],
+    from: usize,
+    end: usize,
+) -> Advanced
+    requires { ⌜ (from ≤ end) × (end ≤ length (now buffer)) × (length (now buffer) ≡ bufferBytes) ⌝ }
+    ensures { λ r. ⌜ Advances from end (now (buffer .entry)) (now (buffer .exit)) (memoryOf (now (tokens .entry)) (now (dacls .entry)) (handles .items) (now (stations .entry)) (now (pending .entry))) (memoryOf (now (tokens .exit)) (now (dacls .exit)) (r .handles .items) (now (stations .exit)) (now (pending .exit))) (length (now (answer .entry))) r ⌝ }
+{
+    match input::next_chunk(&buffer[..end], from) {
+        Next::Stop => Advanced {
+            going: false,
+            chunks: 0,
+            from,
+            end,
+            handles,
+        },
+        Next::More => {
+            let filled = refill(buffer, from, end);
+            Advanced {
+                going: 0 < filled,
+                chunks: 0,
+                from: 0,
+                end: filled,
+                handles,
+            }
+        }
+        Next::Chunk { station, at, size } => {
+            let to = at + size;
+            let s = serve(
+                station,
+                &buffer[at..to],
+                answer,
+                tokens,
+                dacls,
+                handles,
+                stations,
+                pending,
+            );
+            let held = s.handles;
+            Advanced {
+                going: s.written,
+                chunks: 1,
+                from: to,
+                end,
+                handles: held,
+            }
+        }
+    }
+}
+
+// Chunk after chunk, until the input ends or is not what it should be, or nothing more can be written.
+fn run(
+    buffer: &mut [u8],
+    answer: &mut [u8],
+    tokens: &mut [u64],
+    dacls: &mut [u8],
+    handles: Handles,
+    stations: &mut [u64],
+    pending: &mut [u8],
+)
+    requires { ⌜ length (now buffer) ≡ bufferBytes ⌝ }
+{
+    let mut held = handles;
+    let mut left = CHUNKS;
+    let mut from: usize = 0;
+    let mut end: usize = 0;
+    while 0 < left {
+        let a = advance(
+            buffer,
+            answer,
+            tokens,
+            dacls,
+            held,
+            stations,
+            pending,
+            from,
+            end,
+        );
+        if !a.going {
+            return;
+        }
+        held = a.handles;
+        from = a.from;
+        end = a.end;
+        left -= a.chunks;
+    }
+}
+
+fn main() {
+    let mut buffer = [0u8; 65536];
+    let mut answer = [0u8; 1024];
+    let mut tokens = [0u64; 1600];
+    let mut dacls = [0u8; 4096];
+    let mut stations = [0u64; 26];
+    let mut pending = [0u8; 16400];
+    let handles = turn::start(&mut tokens, &mut dacls, &mut stations, &mut pending);
+    run(
+        &mut buffer,
+        &mut answer,
+        &mut tokens,
+        &mut dacls,
+        handles,
+        &mut stations,
+        &mut pending,
+    );
+}

@@ -1,0 +1,79 @@
+-- What the broker's calls by value give to the session. Assumes nothing.
+use Prim.Native.Nat.{ℕ, zero, suc, _+_, _≤_, _<_}
+use native.Mathlib.Omega.{arith}
+use mathlib.Core.Path.{_≡_, refl, sym, ap, subst, _∙_}
+use mathlib.Core.Bool.{true}
+use mathlib.Core.List.{List, [], _∷_, _++_}
+use lib.ListN.{length, getD, take, drop, set, replicate, length-append, length-set, length-replicate}
+use lib.Seq.{take-at, take-length}
+use Rattle.rules.specs.Basic.{all}
+use Rattle.rules.specs.Valid.{isByte}
+use Rattle.rules.specs.State.{handleSlots}
+use Rattle.rules.specs.Memory.{Memory, decode, valid}
+use Rattle.rules.specs.Calls.{feedOn, buffer}
+use Rattle.handle.specs.Meaning.{none, Sized}
+use Rattle.handle.specs.Loaded.{loaded}
+use Rattle.handle.specs.declared.Handle.{Handle}
+use Rattle.handle.specs.declared.Handles.{Handles}
+use Rattle.valid.specs.Meaning.{memoryOf}
+use Rattle.valid.proofs.Truth.{all-below}
+use Rattle.state.specs.HandleFacts.{changed}
+use Rattle.broker.specs.Promise.{Feeds, freed, StartsWith, FeedsWith}
+use Rattle.broker.specs.declared.by_value.Turn.{Turn}
+use Rattle.broker.specs.declared.by_value.Started.{Started}
+use Rattle.session.specs.Program.{nothing, fed}
+use Rattle.session.specs.Turns.{Starts, answering, Turns}
+use Rattle.session.specs.declared.turn.Turned.{Turned}
+use Rattle.session.proofs.Feeding.{call-goes, call-valid, call-taken, call-skipped}
+
+-- ---- start
+
+none-freed : (n k : ℕ) → k ≤ n → freed k (replicate n none) ≡ replicate n none
+none-freed n zero h = refl
+none-freed zero (suc k) h = absurd (omega arith)
+none-freed (suc n) (suc k) h = ap (λ (hs : List Handle). none ∷ hs) (none-freed n k (omega arith))
+
+pub started : (ts ds ss ps ts′ ds′ ss′ ps′ : List ℕ) (x : Started) → StartsWith handleSlots ts ds ss ps ts′ ds′ ss′ ps′ x
+    → Starts ts ds ss ps ts′ ds′ ss′ ps′ (record { items = replicate handleSlots none })
+started ts ds ss ps ts′ ds′ ss′ ps′ x w =
+    let hs : List Handle = replicate handleSlots none in
+    record {
+      handles = refl;
+      memory = ap (λ (y : List Handle). memoryOf ts′ ds′ y ss′ ps′) (sym (none-freed handleSlots (x .freed) (w .inside))) ∙ w .started hs (length-replicate handleSlots none) .memory;
+    }
+
+-- ---- feed
+
+of-bytes : (xs : List ℕ) → ((i : ℕ) → getD xs i 0 < 256) → all isByte xs ≡ true
+unfolding isByte
+of-bytes xs h = subst (λ (ys : List ℕ). all isByte ys ≡ true) (take-length xs) (all-below 256 xs h (length xs))
+
+module _ (s : ℕ) (chunk : List ℕ) (bytes : (i : ℕ) → getD chunk i 0 < 256) (m m′ : Memory) (out out′ : List ℕ) (r : Turned) (f : Feeds (feedOn m s chunk (length out)) m′ out out′ (r .fed)) where
+  answer : take (r .fed .answered) out′ ≡ feedOn m s chunk (length out) .answer
+  unfolding buffer
+  answer = ap (take (r .fed .answered)) (f .answer) ∙ take-at _ _ (r .fed .answered) (sym (f .answered))
+
+  turns : Turns s chunk m m′ out out′ r
+  unfolding buffer
+  turns =
+      let d = feedOn m s chunk (length out) in
+      let g = call-goes m s chunk (length out) in
+      record {
+        feeds = f;
+        inside = omega (arith, f .used, g .inside);
+        fits = omega (arith, f .answered, ap length (f .answer), length-append (d .answer) (drop (length (d .answer)) out));
+        forward = λ e h. omega (arith, f .used, g .forward (sym (f .refusal) ∙ e) h);
+        stays = λ v. rw (f .memory) (call-valid m v s chunk (length out) (of-bytes chunk bytes));
+        taken = λ v fits some e. rw (answer, f .memory, f .used) (call-taken m v s chunk (length out) (of-bytes chunk bytes) fits some (sym (f .refusal) ∙ e));
+        skipped = λ v fits some z. rw (f .memory) (call-skipped m v s chunk (length out) (of-bytes chunk bytes) fits some (λ e. z (f .refusal ∙ e)));
+      }
+
+module _ (chunk : List ℕ) (bytes : (i : ℕ) → getD chunk i 0 < 256) (s : ℕ) (hs : List Handle) (ts ds ss ps out ts′ ds′ ss′ ps′ out′ : List ℕ) (x : Turn) where
+  pub turned : FeedsWith s chunk handleSlots hs ts ds ss ps out ts′ ds′ ss′ ps′ out′ x
+      → (n : Handles) → (n .items ≡ changed hs (x .change)) × Sized n
+      → Turns s chunk (memoryOf ts ds hs ss ps) (memoryOf ts′ ds′ (n .items) ss′ ps′) out out′ (record { fed = x .fed; handles = n })
+  turned w n e =
+      let l : length hs ≡ handleSlots = sym (length-set hs (x .change .slot) (x .change .handle)) ∙ sym (ap length (e .0)) ∙ e .1 .long in
+      let all : loaded hs ≡ hs = take-at hs (replicate handleSlots none) handleSlots l in
+      turns s chunk bytes (memoryOf ts ds hs ss ps) (memoryOf ts′ ds′ (n .items) ss′ ps′) out out′ (record { fed = x .fed; handles = n })
+      (rw (e .0) (w .fed hs l all))

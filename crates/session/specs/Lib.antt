@@ -1,0 +1,5 @@
+pub mod Program
+pub mod Blocks
+pub mod Input
+pub mod Turns
+pub mod AsCalls

@@ -1,0 +1,60 @@
+// The broker's calls over memory that the program holds: the lent parts, and the handles by value.
+ghost use Rattle.valid.specs.Meaning.{memoryOf};
+ghost use Rattle.session.specs.Turns.{Starts, Turns};
+use broker::Fed;
+use broker::by_value;
+use handle::Handles;
+use handle::NONE;
+use handle::SLOTS;
+
+// What a feed returns, and the handles after it.
+pub struct Turned {
+    pub fed: Fed,
+    pub handles: Handles,
+}
+
+// The start's memory; its handles.
+pub fn start(
+    tokens: &mut [u64],
+    dacls: &mut [u8],
+    stations: &mut [u64],
+    pending: &mut [u8],
+) -> Handles
+    ensures { λ r. ⌜ Starts (now (tokens .entry)) (now (dacls .entry)) (now (stations .entry)) (now (pending .entry)) (now (tokens .exit)) (now (dacls .exit)) (now (stations .exit)) (now (pending .exit)) r ⌝ }
+{
+    by_value::start(tokens, dacls, SLOTS, stations, pending);
+    Handles {
+        items: [NONE; SLOTS],
+    }
+}
+
+// One feed of a station's chunk.
+pub fn feed(
+    station: u32,
+    chunk: &[u8],
+    out: &mut [u8],
+    tokens: &mut [u64],
+    dacls: &mut [u8],
+    handles: Handles,
+    stations: &mut [u64],
+    pending: &mut [u8],
+) -> Turned
+    ensures { λ r. ⌜ Turns station (now (chunk .entry)) (memoryOf (now (tokens .entry)) (now (dacls .entry)) (handles .items) (now (stations .entry)) (now (pending .entry))) (memoryOf (now (tokens .exit)) (now (dacls .exit)) (r .handles .items) (now (stations .exit)) (now (pending .exit))) (now (out .entry)) (now (out .exit)) r ⌝ }
+{
+    let turn = by_value::feed(
+        station,
+        chunk,
+        out,
+        tokens,
+        dacls,
+        SLOTS,
+        handles,
+        stations,
+        pending,
+    );
+    let fed = turn.fed;
+    Turned {
+        fed: fed,
+        handles: handle::place(handles, turn.change.slot, turn.change.handle),
+    }
+}

@@ -1,0 +1,155 @@
+//! The numbers of a body, and the answer's body while it is made.
+
+/// Reads fields; what is not in its layout stays noted in `bad`.
+pub struct Reader<'a> {
+    bytes: &'a [u8],
+    bad: bool,
+}
+
+impl<'a> Reader<'a> {
+    pub fn new(bytes: &'a [u8]) -> Self {
+        Reader { bytes, bad: false }
+    }
+
+    #[inline]
+    fn number(&mut self, largest: u64) -> u64 {
+        match *self.bytes {
+            [byte @ ..0x80, ref rest @ ..] => {
+                self.bytes = rest;
+                byte.into()
+            }
+            _ => self.long_number(largest),
+        }
+    }
+
+    fn long_number(&mut self, largest: u64) -> u64 {
+        let mut value = 0;
+        for (at, &byte) in self.bytes.iter().take(10).enumerate() {
+            value |= u64::from(byte & 0x7F) << (7 * at);
+            if byte < 0x80 {
+                self.bytes = &self.bytes[at + 1..];
+                let is_shortest = byte != 0 && (at < 9 || byte == 1);
+                self.bad |= !is_shortest || value > largest;
+                return value;
+            }
+        }
+        self.fail();
+        0
+    }
+
+    fn fail(&mut self) {
+        self.bad = true;
+        self.bytes = &[];
+    }
+
+    #[inline]
+    pub fn u16(&mut self) -> u16 {
+        self.number(u16::MAX.into()) as u16
+    }
+
+    #[inline]
+    pub fn u32(&mut self) -> u32 {
+        self.number(u32::MAX.into()) as u32
+    }
+
+    #[inline]
+    pub fn u64(&mut self) -> u64 {
+        self.number(u64::MAX)
+    }
+
+    /// The next bytes.
+    pub fn take(&mut self, count: u32) -> &'a [u8] {
+        match self.bytes.split_at_checked(count as usize) {
+            Some((taken, rest)) => {
+                self.bytes = rest;
+                taken
+            }
+            None => {
+                self.fail();
+                &[]
+            }
+        }
+    }
+
+    /// So many entries, read one by one; stops where one is not in its layout.
+    pub fn each(&mut self, count: u32, mut entry: impl FnMut(&mut Self)) {
+        for _ in 0..count {
+            if self.bad {
+                return;
+            }
+            entry(self);
+        }
+    }
+
+    /// Refusal 1 unless all was read and nothing is left.
+    pub fn end(&self) -> Result<(), Refused> {
+        refuse(1, !self.bad && self.bytes.is_empty())
+    }
+}
+
+/// A refusal, with the size that 9 tells.
+pub struct Refused {
+    pub status: u8,
+    pub size: u64,
+}
+
+/// The refusal unless the check passes.
+#[inline]
+pub fn refuse(status: u8, passes: bool) -> Result<(), Refused> {
+    if passes {
+        Ok(())
+    } else {
+        Err(Refused { status, size: 0 })
+    }
+}
+
+/// The answer's body; the longest has 642 bytes.
+pub struct Body {
+    bytes: [u8; 656],
+    length: usize,
+}
+
+impl Body {
+    pub fn new() -> Self {
+        Body { bytes: [0; 656], length: 0 }
+    }
+
+    pub fn clear(&mut self) {
+        self.length = 0;
+    }
+
+    pub fn len(&self) -> usize {
+        self.length
+    }
+
+    #[inline]
+    pub fn number(&mut self, mut number: u64) {
+        while number >= 0x80 {
+            self.bytes[self.length] = number as u8 | 0x80;
+            self.length += 1;
+            number >>= 7;
+        }
+        self.bytes[self.length] = number as u8;
+        self.length += 1;
+    }
+
+    pub fn extend(&mut self, bytes: &[u8]) {
+        self.bytes[self.length..][..bytes.len()].copy_from_slice(bytes);
+        self.length += bytes.len();
+    }
+
+    /// Writes the frame and gives its length.
+    pub fn write(&self, answer: &mut [u8]) -> usize {
+        let body = &self.bytes[..self.length];
+        let head = if body.len() < 0x80 {
+            answer[0] = body.len() as u8;
+            1
+        } else {
+            answer[0] = body.len() as u8 | 0x80;
+            answer[1] = (body.len() >> 7) as u8;
+            2
+        };
+        answer[head..][..body.len()].copy_from_slice(body);
+        head + body.len()
+    }
+}

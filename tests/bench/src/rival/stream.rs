@@ -1,0 +1,101 @@
+//! Pending bytes: a frame that lies whole in the chunk is served from there.
+
+use super::memory::Memory;
+
+/// What the first bytes say of a frame.
+enum Head {
+    /// Its length is not known yet.
+    Partial,
+    /// The stream breaks at this many bytes.
+    Broken(usize),
+    /// So many length bytes, so many bytes of body.
+    Known(usize, usize),
+}
+
+fn head(first: Option<u8>, second: Option<u8>) -> Head {
+    match (first, second) {
+        (None, _) => Head::Partial,
+        (Some(0), _) => Head::Broken(1),
+        (Some(first @ 1..0x80), _) => Head::Known(1, first.into()),
+        (Some(_), None) => Head::Partial,
+        (Some(_), Some(0 | 0x80..)) => Head::Broken(2),
+        (Some(first), Some(second)) => {
+            match usize::from(first & 0x7F) + 128 * usize::from(second) {
+                length @ ..=2048 => Head::Known(2, length),
+                _ => Head::Broken(2),
+            }
+        }
+    }
+}
+
+impl Memory<'_> {
+    /// Feeds a chunk; gives bytes used and the answer's length.
+    pub fn take(&mut self, station: usize, chunk: &[u8], answer: &mut [u8]) -> (usize, usize) {
+        let known = self.station(station);
+        if known.broken == 1 || chunk.is_empty() {
+            return (chunk.len(), 0);
+        }
+        let count = known.count as usize;
+        let row = &self.pending[station];
+        let byte = |at: usize| {
+            if at < count {
+                Some(row[at])
+            } else {
+                chunk.get(at - count).copied()
+            }
+        };
+        match head(byte(0), byte(1)) {
+            Head::Partial => self.keep(station, count, chunk),
+            Head::Broken(at) => {
+                self.drop_pending(station, count);
+                self.stations[station][2] = 1;
+                answer[..2].copy_from_slice(&[1, 10]);
+                (at - count, 2)
+            }
+            Head::Known(head, length) if count + chunk.len() < head + length => {
+                self.keep(station, count, chunk)
+            }
+            Head::Known(head, length) => {
+                let used = head + length - count;
+                let answered = self.end(station, count, head, &chunk[..used], answer);
+                (used, answered)
+            }
+        }
+    }
+
+    fn keep(&mut self, station: usize, count: usize, chunk: &[u8]) -> (usize, usize) {
+        self.pending[station][count..][..chunk.len()].copy_from_slice(chunk);
+        self.stations[station][1] = (count + chunk.len()) as u64;
+        (chunk.len(), 0)
+    }
+
+    /// Serves the frame that the chunk's bytes end.
+    fn end(
+        &mut self,
+        station: usize,
+        count: usize,
+        head: usize,
+        last: &[u8],
+        answer: &mut [u8],
+    ) -> usize {
+        if count == 0 {
+            return self.serve(station, &last[head..], answer);
+        }
+        let mut frame = [0; 2050];
+        let (frame, length) = (&mut frame[..], count + last.len());
+        frame[..count].copy_from_slice(&self.pending[station][..count]);
+        frame[count..length].copy_from_slice(last);
+        self.drop_pending(station, count);
+        self.serve(station, &frame[head..length], answer)
+    }
+
+    fn drop_pending(&mut self, station: usize, count: usize) {
+        self.pending[station][..count].fill(0);
+        self.stations[station][1] = 0;
+    }
+
+    pub fn reconnect(&mut self, station: usize) {
+        self.drop_pending(station, self.station(station).count as usize);
+        self.stations[station][2] = 0;
+    }
+}

@@ -1,0 +1,187 @@
+//! Lists of feeds to be timed, each with the memory that it begins on.
+
+use gen::{fields, flat, Rng};
+use model::{
+    framed, Group, Handle, Memory, Model, Request, Token, ALL_PRIVILEGES, NO_CHANGE, STATIONS,
+};
+
+/// A list of feeds.
+pub struct Work {
+    /// What it is.
+    pub name: &'static str,
+    /// The memory before the first.
+    pub memory: Memory,
+    /// All the chunks' bytes in a row.
+    bytes: Vec<u8>,
+    /// Stations, and where each chunk begins and ends.
+    feeds: Vec<(u32, usize, usize)>,
+}
+
+/// Stations and chunks.
+type Feeds = Vec<(u32, Vec<u8>)>;
+
+impl Work {
+    fn new(name: &'static str, model: &Model, feeds: &Feeds) -> Self {
+        let mut work = Work { name, memory: model.memory(), bytes: vec![], feeds: vec![] };
+        for (station, chunk) in feeds {
+            let begin = work.bytes.len();
+            work.bytes.extend_from_slice(chunk);
+            work.feeds.push((*station, begin, work.bytes.len()));
+        }
+        work
+    }
+
+    /// Stations and chunks.
+    pub fn feeds(&self) -> impl ExactSizeIterator<Item = (u32, &[u8])> {
+        self.feeds.iter().map(|&(station, begin, end)| (station, &self.bytes[begin..end]))
+    }
+}
+
+/// All the lists.
+pub fn all() -> Vec<Work> {
+    let (start, full) = (Model::start(), full());
+    let (shift, on_full) = (shift(2000), on_full_tables(&full, 2000));
+    let empty = vec![(0, vec![]); 1000];
+    vec![
+        Work::new("empty chunk, start", &start, &empty),
+        Work::new("empty chunk, full tables", &full, &empty),
+        Work::new("whole requests, a shift", &start, &shift),
+        Work::new("whole requests, full tables", &full, &on_full),
+        Work::new("one-byte chunks, a shift", &start, &byte_by_byte(&shift[..200])),
+        Work::new("one-byte chunks, full tables", &full, &byte_by_byte(&on_full[..200])),
+    ]
+}
+
+fn byte_by_byte(feeds: &[(u32, Vec<u8>)]) -> Feeds {
+    let bytes = |(station, chunk): &(u32, Vec<u8>)| {
+        let station = *station;
+        chunk.clone().into_iter().map(move |byte| (station, vec![byte]))
+    };
+    feeds.iter().flat_map(bytes).collect()
+}
+
+/// Makes requests on the model and keeps their frames.
+struct Recorder {
+    model: Model,
+    feeds: Feeds,
+}
+
+impl Recorder {
+    /// A request of the station; gives the handle if it makes one.
+    fn ask(&mut self, station: u32, request: Request) -> u32 {
+        let frame = framed(&flat(&fields(&request)));
+        let fed = self.model.feed(station, &frame, 1024);
+        assert_eq!(fed.used, frame.len());
+        self.feeds.push((station, frame));
+        self.model.next_handle - 1
+    }
+}
+
+/// Operators take over stations, look, adjust, act by copies and leave: so many requests.
+fn shift(requests: usize) -> Feeds {
+    let mut rng = Rng::new(1);
+    let mut recorder = Recorder { model: Model::start(), feeds: vec![] };
+    while recorder.feeds.len() < requests {
+        let station = rng.below(STATIONS) as u32;
+        operator(&mut rng, &mut recorder, station);
+    }
+    assert!(recorder.model.handles.iter().all(Option::is_none), "each operator closes all");
+    recorder.feeds.truncate(requests);
+    recorder.feeds
+}
+
+/// One operator at one station, from taking over to leaving.
+fn operator(rng: &mut Rng, desk: &mut Recorder, station: u32) {
+    let own = desk.ask(station, Request::Open { mask: 0x1EF });
+    let user = 100 + rng.below(1000) as u32;
+    let groups = (0..6).map(|group| (200 + group, [2, 3, 10, 8, 0, 0xC000_0002][group as usize]));
+    let made = desk.ask(
+        station,
+        Request::Create {
+            user,
+            session: 7,
+            integrity: 8192,
+            present: ALL_PRIVILEGES,
+            default: 0x8C,
+            groups: groups.collect(),
+        },
+    );
+    desk.ask(station, Request::Install { handle: made });
+    for _ in 0..2 {
+        for class in [1, 2, 3, 9, 6, 13] {
+            desk.ask(station, Request::Query { handle: made, class, capacity: 640 });
+        }
+        desk.ask(station, Request::Privileges { handle: made, entries: vec![(20, 2), (21, 2)] });
+        desk.ask(station, Request::Groups { handle: made, entries: vec![(3, 1), (4, 1)] });
+        let dacl = (0..40).collect();
+        let (owner, group) = (3, NO_CHANGE);
+        desk.ask(station, Request::Default { handle: made, owner, group, flag: 1, dacl });
+        desk.ask(station, Request::Scope { handle: made, value: rng.below(9) as u32 });
+        let copy =
+            desk.ask(station, Request::Duplicate { handle: made, kind: 2, level: 2, mask: 0x28 });
+        desk.ask(station, Request::Query { handle: copy, class: 2, capacity: 16 });
+        let (deny, sids) = (vec![3, 4], vec![300, 301]);
+        let (write_restricted, remove) = (0, 1 << 20);
+        let less = desk
+            .ask(station, Request::Restrict { handle: made, write_restricted, remove, deny, sids });
+        desk.ask(station, Request::Query { handle: less, class: 10, capacity: 640 });
+        for handle in [copy, less] {
+            desk.ask(station, Request::Close { handle });
+        }
+    }
+    desk.ask(station, Request::Install { handle: own });
+    for handle in [made, own] {
+        desk.ask(station, Request::Close { handle });
+    }
+}
+
+/// Every slot taken, every list as long as it may be, bytes pending at every other station.
+pub fn full() -> Model {
+    let mut model = Model::start();
+    for (slot, number) in (0..16).zip(1..) {
+        let groups = (0..64).map(|sid| Group { sid: u32::MAX - sid, attributes: 0xC000_000F });
+        model.tokens[slot] = Some(Token {
+            groups: groups.collect(),
+            restricting: (0..16).map(|sid| u32::MAX - sid).collect(),
+            dacl: (0..=255).collect(),
+            ..Token { number, ..Token::first() }
+        });
+    }
+    for (slot, number) in (0..32).zip(1..) {
+        let (station, token) = (number % 8, u64::from(number % 16) + 1);
+        model.handles[slot] = Some(Handle { station, number, token, mask: 0x1EF });
+    }
+    for station in [1, 3, 5, 7] {
+        model.stations[station].pending = [vec![0x80, 0x10], vec![1; 2047]].concat();
+    }
+    (model.next_token, model.next_handle) = (17, 33);
+    model
+}
+
+/// Requests that leave the tables full: reports, adjustments, and what finds no slot.
+fn on_full_tables(full: &Model, requests: usize) -> Feeds {
+    let mut rng = Rng::new(2);
+    let mut desk = Recorder { model: full.clone(), feeds: vec![] };
+    for _ in 0..requests {
+        let station = rng.pick(&[0, 2, 4, 6]);
+        let handle = rng.pick(&[0, 8, 16, 24]) + if station == 0 { 8 } else { station };
+        let class = 1 + rng.below(13) as u32;
+        let request = match rng.below(10) {
+            0..=3 => Request::Query { handle, class, capacity: 1000 },
+            4 => Request::Privileges { handle, entries: vec![(20, 0), (21, 2)] },
+            5 => Request::Groups { handle, entries: (0..64).map(|group| (group, 1)).collect() },
+            6 => Request::Scope { handle, value: 5 },
+            7 => Request::Default {
+                handle,
+                owner: 64,
+                group: 1,
+                flag: 1,
+                dacl: (0..=255).rev().collect(),
+            },
+            8 => Request::Duplicate { handle, kind: 1, level: 0, mask: 0x1EF },
+            _ => Request::Open { mask: 8 },
+        };
+        desk.ask(station, request);
+    }
+    desk.feeds
+}

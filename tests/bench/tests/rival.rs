@@ -1,0 +1,31 @@
+//! The rival has the broker's duties: it does what the model does, refusals and memory included.
+
+use bench::Rival;
+use compare::{damages, lists};
+use gen::{check_cuts, each_damage, each_seed, one_seed, Counts};
+use model::Model;
+
+#[test]
+fn lists_of_calls() {
+    let mut counts = Counts::default();
+    lists::compare::<Rival>(0..200, &mut counts);
+    if one_seed().is_none() {
+        counts.check_statuses(5);
+        counts.check_refusals(5);
+    }
+}
+
+#[test]
+fn damaged_memory() {
+    each_damage(250, |damage, _, memory| damages::is_refused::<Rival>(&memory, damage.what));
+    damages::compare_poked::<Rival>(0..5000);
+    for (place, memory) in damages::of_other_sizes(&Model::start().memory()) {
+        damages::is_refused::<Rival>(&memory, &place);
+        damages::starts::<Rival>(&memory, &place);
+    }
+}
+
+#[test]
+fn cuts() {
+    each_seed(0..20, |seed, _| check_cuts::<Rival>(seed, &Model::start(), 300));
+}

@@ -1,0 +1,87 @@
+//! Memory that is not valid, or not of its sizes, on a broker and on the model.
+
+use gen::{each_seed, poke, state, Broker, Call};
+use model::{Handle, Memory, MIN_BUFFER};
+
+use crate::lists::on_memory;
+
+/// An empty chunk: what comes back says only whether the memory is valid.
+pub fn empty_feed() -> Call {
+    Call::Feed { station: 0, chunk: vec![], buffer_len: MIN_BUFFER }
+}
+
+/// Feeds and reconnects that memory not valid refuses with 13.
+pub fn refused_calls() -> Vec<Call> {
+    let feed = |station, chunk: &[u8]| {
+        let chunk = chunk.to_vec();
+        Call::Feed { station, chunk, buffer_len: MIN_BUFFER }
+    };
+    let reconnect = |station| Call::Reconnect { station };
+    let feeds = [feed(0, &[2, 1, 8]), feed(7, &[0]), feed(3, &[0x80])];
+    [vec![empty_feed()], feeds.to_vec(), vec![reconnect(0), reconnect(7)]].concat()
+}
+
+/// Feeds and reconnects that 11 or 12 refuses before.
+pub fn refused_before() -> Vec<(u32, Call)> {
+    let feed = |station, buffer_len| Call::Feed { station, chunk: vec![2, 1, 8], buffer_len };
+    vec![
+        (11, feed(8, MIN_BUFFER)),
+        (11, feed(u32::MAX, 0)),
+        (12, feed(0, MIN_BUFFER - 1)),
+        (12, feed(7, 0)),
+        (11, Call::Reconnect { station: 8 }),
+        (11, Call::Reconnect { station: u32::MAX }),
+    ]
+}
+
+/// The broker refuses the memory by 13 in every call, and by 11 and 12 first.
+pub fn is_refused<B: Broker>(memory: &Memory, place: &str) {
+    for call in refused_calls() {
+        assert_eq!(on_memory::<B>(memory, &call).refusal, 13, "{place}: {call:?}");
+    }
+    for (refusal, call) in refused_before() {
+        assert_eq!(on_memory::<B>(memory, &call).refusal, refusal, "{place}: {call:?}");
+    }
+}
+
+/// Start on any memory: the start, or 13 where a size is wrong.
+pub fn starts<B: Broker>(memory: &Memory, place: &str) {
+    let (mut broker, mut model) = (B::lend(memory), memory.clone());
+    assert_eq!(broker.start(), model.start(), "{place}");
+    assert!(broker.memory() == model, "{place}");
+}
+
+/// The memory with each part made shorter and longer, and what was done to it.
+pub fn of_other_sizes(memory: &Memory) -> Vec<(String, Memory)> {
+    let resize: [(&str, fn(&mut Memory, usize)); 5] = [
+        ("tokens", |memory, size| memory.tokens.resize(size, 0)),
+        ("dacls", |memory, size| memory.dacls.resize(size, 0)),
+        ("handles", |memory, size| memory.handles.resize(size, Handle::default())),
+        ("stations", |memory, size| memory.stations.resize(size, 0)),
+        ("pending", |memory, size| memory.pending.resize(size, 0)),
+    ];
+    let sizes = [1600, 4096, 32, 26, 16400];
+    let mut memories = Vec::new();
+    for ((part, resize), size) in resize.into_iter().zip(sizes) {
+        for other in [0, 1, size / 2, size - 1, size + 1, size + 2, 2 * size, 3 * size] {
+            let mut memory = memory.clone();
+            resize(&mut memory, other);
+            memories.push((format!("{other} {part}"), memory));
+        }
+    }
+    memories
+}
+
+/// Random memories with a value or two changed anywhere: the broker and the model agree. Gives how
+/// many were still valid.
+pub fn compare_poked<B: Broker>(seeds: std::ops::Range<u64>) -> usize {
+    let mut valid = 0;
+    each_seed(seeds, |_, rng| {
+        let mut memory = state(rng).memory();
+        for _ in 0..=rng.below(2) {
+            poke(rng, &mut memory);
+        }
+        valid += usize::from(on_memory::<B>(&memory, &empty_feed()).refusal == 0);
+    });
+    valid
+}

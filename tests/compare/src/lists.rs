@@ -1,0 +1,117 @@
+//! Lists of calls on a broker and on the model: results, answers and memory are equal at each.
+
+use std::ops::Range;
+
+use gen::{
+    each_seed, garbage, near_the_last_numbers, run, state, Broker, Call, Calls, Counts, Rng, Step,
+    DAMAGES,
+};
+use model::{Fed, Memory, Model, MIN_BUFFER};
+
+/// How many calls each seed makes.
+pub const CALLS: usize = 300;
+
+/// A list of calls for each seed: from the start, from a random state, or near the last numbers.
+pub fn compare<B: Broker>(seeds: Range<u64>, counts: &mut Counts) {
+    each_seed(seeds, |seed, rng| {
+        let first = match seed % 4 {
+            0 | 1 => Model::start(),
+            2 => state(rng),
+            _ => near_the_last_numbers(rng),
+        };
+        let mut broker = B::lend(&first.memory());
+        if seed % 4 < 2 {
+            broker = B::lend(&garbage(rng));
+            assert_eq!(broker.start(), 0);
+        }
+        run(seed, first, CALLS, |step| {
+            both(&mut broker, step);
+            counts.step(step);
+            if rng.percent(10) {
+                damaged::<B>(rng, step, counts);
+            }
+        });
+    });
+}
+
+/// Makes the step's call on the broker and compares all that can be seen.
+fn both<B: Broker>(broker: &mut B, step: &Step) {
+    let fed = broker.make(step.call);
+    assert_eq!(fed, *step.fed, "{:02X?}", step.call);
+    same_memory(&broker.memory(), &step.after.memory(), step.call);
+}
+
+fn same_memory(memory: &Memory, expected: &Memory, call: &Call) {
+    same("tokens", &memory.tokens, &expected.tokens, call);
+    same("dacls", &memory.dacls, &expected.dacls, call);
+    same("handles", &memory.handles, &expected.handles, call);
+    same("stations", &memory.stations, &expected.stations, call);
+    same("pending", &memory.pending, &expected.pending, call);
+}
+
+/// Says where two parts first differ.
+fn same<T: PartialEq>(part: &str, items: &[T], expected: &[T], call: &Call) {
+    if items != expected {
+        let at = items.iter().zip(expected).position(|(item, expected)| item != expected);
+        panic!("{part}: first difference {at:?}, after {call:02X?}");
+    }
+}
+
+/// The step's call again, on a damaged copy of the memory that it left.
+fn damaged<B: Broker>(rng: &mut Rng, step: &Step, counts: &mut Counts) {
+    let damage = &DAMAGES[rng.below(DAMAGES.len())];
+    if let Some(memory) = damage.apply(rng, step.after) {
+        counts.call(&on_memory::<B>(&memory, step.call));
+    }
+}
+
+/// The call on any memory, by the broker and by the model: the same result and the same memory.
+pub fn on_memory<B: Broker>(memory: &Memory, call: &Call) -> Fed {
+    let (mut broker, mut model) = (B::lend(memory), memory.clone());
+    let fed = broker.make(call);
+    assert_eq!(fed, model.make(call), "{call:02X?}");
+    same_memory(&broker.memory(), &model, call);
+    fed
+}
+
+/// The broker and the model, fed the same.
+pub struct Both<B> {
+    /// The broker.
+    pub broker: B,
+    /// The model.
+    pub model: Model,
+}
+
+impl<B: Broker> Both<B> {
+    /// Both at the start, the broker by its own call.
+    pub fn start() -> Self {
+        let model = Model::start();
+        let mut broker = B::lend(&garbage(&mut Rng::new(0)));
+        assert_eq!(broker.start(), 0);
+        assert!(broker.memory() == model.memory(), "the start");
+        Both { broker, model }
+    }
+
+    /// Both in this state.
+    pub fn at(model: Model) -> Self {
+        Both { broker: B::lend(&model.memory()), model }
+    }
+
+    /// Makes the call on both and compares.
+    pub fn make(&mut self, call: &Call) -> Fed {
+        let before = self.model.clone();
+        let fed = self.model.make(call);
+        both(&mut self.broker, &Step { call, before: &before, after: &self.model, fed: &fed });
+        fed
+    }
+
+    /// Feeds a chunk.
+    pub fn feed(&mut self, station: u32, chunk: &[u8]) -> Fed {
+        self.make(&Call::Feed { station, chunk: chunk.to_vec(), buffer_len: MIN_BUFFER })
+    }
+
+    /// Reconnects a station.
+    pub fn reconnect(&mut self, station: u32) -> u32 {
+        self.make(&Call::Reconnect { station }).refusal
+    }
+}

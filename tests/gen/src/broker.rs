@@ -1,0 +1,112 @@
+//! What takes the calls, and scripts that make them.
+
+use model::{Fed, Memory, Model};
+
+use crate::call::{Call, Script};
+
+/// What takes feeds and reconnects.
+pub trait Calls {
+    /// Feeds a chunk with an answer buffer of this length.
+    fn feed(&mut self, station: u32, chunk: &[u8], buffer_len: usize) -> Fed;
+    /// Reconnects a station; gives 0 or the refusal.
+    fn reconnect(&mut self, station: u32) -> u32;
+
+    /// Makes a call; of a reconnect's result only the refusal tells something.
+    fn make(&mut self, call: &Call) -> Fed {
+        match call {
+            Call::Feed { station, chunk, buffer_len } => self.feed(*station, chunk, *buffer_len),
+            Call::Reconnect { station } => {
+                Fed { refusal: self.reconnect(*station), ..Fed::default() }
+            }
+        }
+    }
+}
+
+/// A broker with the memory that it was lent.
+pub trait Broker: Calls {
+    /// Lends a copy of the memory, whatever is in it.
+    fn lend(memory: &Memory) -> Self;
+    /// What the memory holds now.
+    fn memory(&self) -> Memory;
+    /// Starts; gives 0 or the refusal.
+    fn start(&mut self) -> u32;
+}
+
+impl Calls for Model {
+    fn feed(&mut self, station: u32, chunk: &[u8], buffer_len: usize) -> Fed {
+        self.feed(station, chunk, buffer_len)
+    }
+    fn reconnect(&mut self, station: u32) -> u32 {
+        self.reconnect(station)
+    }
+}
+
+impl Calls for Memory {
+    fn feed(&mut self, station: u32, chunk: &[u8], buffer_len: usize) -> Fed {
+        self.feed(station, chunk, buffer_len)
+    }
+    fn reconnect(&mut self, station: u32) -> u32 {
+        self.reconnect(station)
+    }
+}
+
+/// The model's own calls on lent memory.
+impl Broker for Memory {
+    fn lend(memory: &Memory) -> Self {
+        memory.clone()
+    }
+    fn memory(&self) -> Memory {
+        self.clone()
+    }
+    fn start(&mut self) -> u32 {
+        self.start()
+    }
+}
+
+/// One call of a script on the model.
+pub struct Step<'a> {
+    /// The call.
+    pub call: &'a Call,
+    /// The state before it.
+    pub before: &'a Model,
+    /// The state after it.
+    pub after: &'a Model,
+    /// What it returned.
+    pub fed: &'a Fed,
+}
+
+impl Step<'_> {
+    /// The status of the answer, if there is one.
+    pub fn status(&self) -> Option<u8> {
+        status(&self.fed.answer)
+    }
+
+    /// The station and the body of the request that the call ended.
+    pub fn ended(&self) -> Option<(usize, Vec<u8>)> {
+        let Call::Feed { station, chunk, .. } = self.call else { return None };
+        let station = *station as usize;
+        self.status().filter(|&status| status != 10)?;
+        let frame = [&self.before.stations[station].pending, &chunk[..self.fed.used]].concat();
+        let head = 1 + usize::from(frame[0] >= 0x80);
+        Some((station, frame[head..].to_vec()))
+    }
+}
+
+/// The status of an answer; `None` when there is no answer.
+pub fn status(answer: &[u8]) -> Option<u8> {
+    answer.get(1 + usize::from(*answer.first()? >= 0x80)).copied()
+}
+
+/// Makes so many calls of the seed's script on the model and shows each to `check`.
+pub fn run(seed: u64, mut model: Model, calls: usize, mut check: impl FnMut(&Step)) {
+    let mut script = Script::new(seed);
+    for _ in 0..calls {
+        let call = script.next(&model);
+        let before = model.clone();
+        let fed = model.make(&call);
+        if let (Call::Feed { station, .. }, 0) = (&call, fed.refusal) {
+            script.sent(*station, fed.used);
+        }
+        check(&Step { call: &call, before: &before, after: &model, fed: &fed });
+    }
+}

@@ -1,0 +1,108 @@
+//! How often each refusal came, and each status of each request.
+
+use std::collections::BTreeMap;
+use std::fmt;
+
+use model::{Fed, Reader};
+
+use crate::broker::{status, Step};
+
+/// The statuses that each request can get; 0 stands for unknown requests.
+const POSSIBLE: [(u32, &[u8]); 12] = [
+    (0, &[1]),
+    (1, &[0, 1, 5, 8]),
+    (2, &[0, 1, 2]),
+    (3, &[0, 1, 4, 5, 8]),
+    (4, &[0, 1, 2, 3, 5, 9]),
+    (5, &[0, 1, 2, 3, 5]),
+    (6, &[0, 1, 2, 3, 5, 6]),
+    (7, &[0, 1, 2, 3, 4]),
+    (8, &[0, 1, 2, 3, 5]),
+    (9, &[0, 1, 2, 3, 5, 8]),
+    (10, &[0, 1, 2, 3, 5, 8]),
+    (11, &[0, 1, 2, 3, 4, 5, 7]),
+];
+
+/// The counts; printed as a table.
+#[derive(Default)]
+pub struct Counts {
+    calls: usize,
+    statuses: BTreeMap<(u32, u8), usize>,
+    refusals: [usize; 14],
+}
+
+impl Counts {
+    /// Counts a call of a script.
+    pub fn step(&mut self, step: &Step) {
+        self.call(step.fed);
+        if let Some((_, body)) = step.ended() {
+            self.status(&body, step.fed);
+        }
+    }
+
+    /// Counts a whole request, fed by itself.
+    pub fn request(&mut self, body: &[u8], fed: &Fed) {
+        self.call(fed);
+        self.status(body, fed);
+    }
+
+    /// Counts what a call returned.
+    pub fn call(&mut self, fed: &Fed) {
+        self.calls += 1;
+        let refusal =
+            if fed.refusal == 0 { status(&fed.answer).unwrap_or(0).into() } else { fed.refusal };
+        self.refusals[refusal as usize] += 1;
+    }
+
+    fn status(&mut self, body: &[u8], fed: &Fed) {
+        if let Some(status) = status(&fed.answer) {
+            *self.statuses.entry((request_number(body), status)).or_default() += 1;
+        }
+    }
+
+    /// How often the request got the status.
+    pub fn of(&self, request: u32, status: u8) -> usize {
+        self.statuses.get(&(request, status)).copied().unwrap_or(0)
+    }
+
+    /// Each request got every status that it can get so often at least, and no other.
+    pub fn check_statuses(&self, least: usize) {
+        for (request, statuses) in POSSIBLE {
+            for status in 0..=10 {
+                let count = self.of(request, status);
+                let expected = statuses.contains(&status);
+                assert!(!expected || count >= least, "request {request}, status {status}: {count}");
+                assert!(expected || count == 0, "request {request} got status {status}");
+            }
+        }
+    }
+
+    /// Each refusal from 1 to 13 came so often at least.
+    pub fn check_refusals(&self, least: usize) {
+        for (refusal, &count) in self.refusals.iter().enumerate().skip(1) {
+            assert!(count >= least, "refusal {refusal} came {count} times");
+        }
+    }
+}
+
+/// The number of the request, 0 if there is no such request.
+fn request_number(body: &[u8]) -> u32 {
+    Reader::new(body).u32().filter(|number| (1..=11).contains(number)).unwrap_or(0)
+}
+
+impl fmt::Display for Counts {
+    fn fmt(&self, f: &mut fmt::Formatter) -> fmt::Result {
+        for (request, _) in POSSIBLE {
+            write!(f, "request {request:2} ")?;
+            for (&(_, status), count) in self.statuses.range((request, 0)..(request + 1, 0)) {
+                write!(f, "  {status}: {count}")?;
+            }
+            writeln!(f)?;
+        }
+        write!(f, "refusals   ")?;
+        for (refusal, count) in self.refusals.iter().enumerate().skip(1) {
+            write!(f, "  {refusal}: {count}")?;
+        }
+        write!(f, "  in {} calls", self.calls)
+    }
+}
