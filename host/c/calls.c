@@ -1,0 +1,149 @@
+/* What obriska.h promises of each call, tried from C. Writes nothing and ends with 0 if all holds. */
+#include <stdio.h>
+#include <stdlib.h>
+#include <string.h>
+
+#include "obriska.h"
+
+#define EXPECT(claim) expect((claim), #claim, __LINE__)
+
+static void expect(int holds, const char *claim, int line)
+{
+    if (!holds) {
+        fprintf(stderr, "line %d: %s does not hold\n", line, claim);
+        exit(EXIT_FAILURE);
+    }
+}
+
+static struct obriska_memory memory, before;
+static uint8_t answer[OBRISKA_ANSWER_LEN];
+
+static struct obriska_fed feed(uint32_t station, const uint8_t *data, size_t len)
+{
+    return obriska_memory_feed(&memory, station, data, len, answer, sizeof answer);
+}
+
+static int is(struct obriska_fed fed, uint32_t refusal, size_t used, size_t answered)
+{
+    return fed.refusal == refusal && fed.used == used && fed.answered == answered;
+}
+
+static int unchanged(void) { return memcmp(&memory, &before, sizeof memory) == 0; }
+
+static const uint8_t open_own[] = {0x02, 0x01, 0x28};
+
+static void start_asks_for_the_sizes_only(void)
+{
+    struct obriska_memory *m = &memory;
+    memset(m, 0xAA, sizeof *m);
+    before = *m;
+    for (size_t part = 0; part < 5; part++) {
+        size_t less[5] = {0};
+        less[part] = 1;
+        EXPECT(obriska_start(m->tokens, OBRISKA_TOKENS_LEN - less[0], m->dacls,
+                             OBRISKA_DACLS_LEN - less[1], m->handles, OBRISKA_HANDLES_LEN - less[2],
+                             m->stations, OBRISKA_STATIONS_LEN - less[3], m->pending,
+                             OBRISKA_PENDING_LEN - less[4]) == OBRISKA_REFUSED_MEMORY);
+        EXPECT(unchanged());
+    }
+    EXPECT(obriska_memory_start(m) == 0);
+    EXPECT(m->tokens[0] == 1 && m->tokens[2] == 999 && m->tokens[3] == 18);
+    EXPECT(m->tokens[13] == 0x1FFFFFFFFC && m->tokens[100] == 0 && m->tokens[1599] == 0);
+    EXPECT(m->stations[0] == 2 && m->stations[1] == 1 && m->stations[2] == 1);
+    EXPECT(m->stations[23] == 1 && m->stations[24] == 0 && m->stations[25] == 0);
+    EXPECT(m->handles[0].number == 0 && m->handles[31].mask == 0);
+    EXPECT(m->dacls[0] == 0 && m->pending[16399] == 0);
+}
+
+static void the_lowest_of_11_to_13_refuses_a_call_and_nothing_is_written(void)
+{
+    memset(&memory, 0xAA, sizeof memory);
+    memset(answer, 0x55, sizeof answer);
+    before = memory;
+    EXPECT(is(obriska_memory_feed(&memory, 8, open_own, 3, answer, 1023), 11, 0, 0));
+    EXPECT(is(obriska_memory_feed(&memory, 7, open_own, 3, answer, 1023), 12, 0, 0));
+    EXPECT(is(obriska_memory_feed(&memory, 7, open_own, 3, answer, 1024), 13, 0, 0));
+    EXPECT(is(obriska_memory_feed(&memory, 7, open_own, 0, answer, 1024), 13, 0, 0));
+    EXPECT(obriska_memory_reconnect(&memory, 8) == 11);
+    EXPECT(obriska_memory_reconnect(&memory, 7) == 13);
+    EXPECT(unchanged());
+    for (size_t i = 0; i < sizeof answer; i++)
+        EXPECT(answer[i] == 0x55);
+}
+
+static void a_feed_ends_at_the_first_request(void)
+{
+    static const uint8_t two[] = {0x02, 0x01, 0x28, 0x02, 0x01, 0x08};
+    EXPECT(obriska_memory_start(&memory) == 0);
+    memset(answer, 0x55, sizeof answer);
+    EXPECT(is(feed(0, two, sizeof two), 0, 3, 3));
+    EXPECT(answer[0] == 0x02 && answer[1] == 0x00 && answer[2] == 0x01);
+    for (size_t i = 3; i < sizeof answer; i++)
+        EXPECT(answer[i] == 0x55);
+    EXPECT(is(feed(0, two + 3, 3), 0, 3, 3));
+    EXPECT(answer[2] == 0x02);
+    before = memory;
+    EXPECT(is(feed(0, two, 0), 0, 0, 0));
+    EXPECT(unchanged());
+}
+
+static void a_request_is_answered_at_its_last_byte(void)
+{
+    EXPECT(obriska_memory_start(&memory) == 0);
+    EXPECT(is(feed(3, open_own, 1), 0, 1, 0));
+    EXPECT(is(feed(3, open_own + 1, 1), 0, 1, 0));
+    EXPECT(memory.pending[3 * 2050] == 0x02 && memory.stations[3 + 3 * 3] == 2);
+    EXPECT(is(feed(3, open_own + 2, 1), 0, 1, 3));
+    EXPECT(memory.pending[3 * 2050] == 0x00 && memory.stations[3 + 3 * 3] == 0);
+}
+
+static void a_broken_stream_ignores_bytes_until_a_reconnect(void)
+{
+    static const uint8_t breaking[] = {0x81, 0x10, 0x02, 0x01, 0x28};
+    EXPECT(obriska_memory_start(&memory) == 0);
+    before = memory;
+    EXPECT(is(feed(0, breaking, sizeof breaking), 0, 2, 2));
+    EXPECT(answer[0] == 0x01 && answer[1] == OBRISKA_REFUSED_BROKEN);
+    EXPECT(is(feed(0, breaking + 2, 3), 0, 3, 0));
+    EXPECT(obriska_memory_reconnect(&memory, 0) == 0);
+    EXPECT(unchanged());
+    EXPECT(is(feed(0, open_own, 1), 0, 1, 0));
+    EXPECT(obriska_memory_reconnect(&memory, 0) == 0);
+    EXPECT(unchanged());
+    EXPECT(is(feed(0, open_own, 3), 0, 3, 3));
+}
+
+static void find_gives_the_stations_live_handle(void)
+{
+    EXPECT(obriska_memory_start(&memory) == 0);
+    EXPECT(obriska_memory_find(&memory, 0, 0) == NULL);
+    EXPECT(is(feed(5, open_own, 3), 0, 3, 3));
+    EXPECT(is(feed(6, open_own, 3), 0, 3, 3));
+    EXPECT(obriska_find(memory.handles, OBRISKA_HANDLES_LEN, 6, 2) == 1);
+    EXPECT(obriska_find(memory.handles, OBRISKA_HANDLES_LEN, 5, 2) == OBRISKA_HANDLES);
+    EXPECT(obriska_memory_find(&memory, 6, 2)->mask ==
+           (OBRISKA_RIGHT_QUERY | OBRISKA_RIGHT_ADJUST_PRIVILEGES));
+    EXPECT(obriska_memory_find(&memory, 6, 1) == NULL);
+}
+
+static void a_copy_goes_on_where_the_memory_was(void)
+{
+    static struct obriska_memory copy;
+    EXPECT(obriska_memory_start(&memory) == 0);
+    EXPECT(is(feed(0, open_own, 2), 0, 2, 0));
+    copy = memory;
+    EXPECT(is(obriska_memory_feed(&copy, 0, open_own + 2, 1, answer, sizeof answer), 0, 1, 3));
+    EXPECT(obriska_memory_find(&copy, 0, 1) != NULL && obriska_memory_find(&memory, 0, 1) == NULL);
+}
+
+int main(void)
+{
+    start_asks_for_the_sizes_only();
+    the_lowest_of_11_to_13_refuses_a_call_and_nothing_is_written();
+    a_feed_ends_at_the_first_request();
+    a_request_is_answered_at_its_last_byte();
+    a_broken_stream_ignores_bytes_until_a_reconnect();
+    find_gives_the_stations_live_handle();
+    a_copy_goes_on_where_the_memory_was();
+    return EXIT_SUCCESS;
+}

@@ -1,0 +1,171 @@
+//! The broker and its three calls.
+
+use std::fmt;
+
+use crate::answer::Answer;
+use crate::ffi;
+use crate::memory::Memory;
+use crate::refusal::Refusal;
+use crate::view::{Handle, Station, Token};
+use crate::{MAX_ANSWER, STATIONS};
+
+/// The broker, with the memory that it works on.
+///
+/// The memory is valid at all times: it begins as the start's or is tested by
+/// [`Broker::from_bytes`], and nothing but the proved calls writes it.
+#[derive(Clone, PartialEq, Eq)]
+pub struct Broker {
+    memory: Box<Memory>,
+}
+
+impl Broker {
+    /// The start: token 1 is the primary token of all eight stations, and there are no handles.
+    ///
+    /// ```
+    /// let broker = obriska::Broker::start();
+    /// let token = broker.tokens().next().expect("token 1");
+    /// assert_eq!((token.number, token.user, token.session), (1, 18, 999));
+    /// assert_eq!(broker.handles().count(), 0);
+    /// ```
+    pub fn start() -> Self {
+        let mut memory = Memory::zeroed();
+        let refusal = ffi::start(&mut memory);
+        assert_eq!(refusal, 0, "start takes any memory of the right sizes");
+        Broker { memory }
+    }
+
+    /// Feeds a chunk of a station's stream until it is used up, and gives its answers in order:
+    /// one for each request that ended in it, and one for the byte that broke the stream.
+    ///
+    /// How a stream is cut into chunks changes nothing: a request that is not whole yet is kept
+    /// until its last byte. A broken stream ignores bytes until the station is reconnected.
+    ///
+    /// ```
+    /// # let mut broker = obriska::Broker::start();
+    /// assert!(broker.feed(0, &[0x02])?.is_empty()); // not whole yet
+    /// let answers = broker.feed(0, &[0x01, 0x08, 0x02, 0x01, 0x08])?; // its rest, and another
+    /// assert_eq!(answers.len(), 2);
+    /// # Ok::<(), obriska::Refusal>(())
+    /// ```
+    ///
+    /// # Errors
+    ///
+    /// [`Refusal::Station`] for a station above 7. Then nothing was fed.
+    pub fn feed(&mut self, station: u32, data: &[u8]) -> Result<Vec<Answer>, Refusal> {
+        let mut answers = Vec::new();
+        let mut buffer = [0; MAX_ANSWER];
+        let mut rest = data;
+        // A refusal comes at the first call or never: valid memory stays valid.
+        loop {
+            let fed = ffi::feed(&mut self.memory, station, rest, &mut buffer);
+            accepted(fed.refusal)?;
+            if fed.answered > 0 {
+                answers.push(Answer::new(&buffer[..fed.answered]));
+            }
+            rest = &rest[fed.used..];
+            if rest.is_empty() {
+                return Ok(answers);
+            }
+        }
+    }
+
+    /// Drops the station's part of a request and its break, and nothing else.
+    ///
+    /// ```
+    /// # let mut broker = obriska::Broker::start();
+    /// broker.feed(3, &[0x81, 0x10])?; // length 2,049 breaks the stream
+    /// assert!(broker.stations()[3].broken);
+    /// broker.reconnect(3)?;
+    /// assert!(!broker.stations()[3].broken);
+    /// # Ok::<(), obriska::Refusal>(())
+    /// ```
+    ///
+    /// # Errors
+    ///
+    /// [`Refusal::Station`] for a station above 7.
+    pub fn reconnect(&mut self, station: u32) -> Result<(), Refusal> {
+        accepted(ffi::reconnect(&mut self.memory, station))
+    }
+
+    /// The live tokens, by slot.
+    pub fn tokens(&self) -> impl Iterator<Item = Token> + '_ {
+        Token::all(&self.memory)
+    }
+
+    /// The live token of this number.
+    pub fn token(&self, number: u64) -> Option<Token> {
+        self.tokens().find(|token| token.number == number)
+    }
+
+    /// The live handles, by slot.
+    pub fn handles(&self) -> impl Iterator<Item = Handle> + '_ {
+        Handle::all(&self.memory)
+    }
+
+    /// The station's live handle of this number.
+    pub fn handle(&self, station: u32, number: u32) -> Option<Handle> {
+        let slot = ffi::find(&self.memory.handles, station, number);
+        self.memory.handles.get(slot).map(Handle::new)
+    }
+
+    /// The eight stations.
+    pub fn stations(&self) -> [Station; STATIONS] {
+        Station::all(&self.memory)
+    }
+
+    /// The number that the next token gets; the largest u64 is never given.
+    pub fn next_token(&self) -> u64 {
+        self.memory.stations[0]
+    }
+
+    /// The number that the next handle gets; the largest u32 is never given.
+    pub fn next_handle(&self) -> u32 {
+        self.memory.stations[1] as u32
+    }
+
+    /// All that the broker keeps, to be stored across a restart: [`MEMORY_BYTES`] bytes, the same
+    /// as a C host has in `struct obriska_memory` (docs/MEMORY.md).
+    ///
+    /// ```
+    /// use obriska::Broker;
+    /// let mut broker = Broker::start();
+    /// broker.feed(0, &[0x02, 0x01, 0x28])?;
+    /// let kept = broker.to_bytes();
+    ///
+    /// let mut later = Broker::from_bytes(&kept)?;
+    /// assert!(later.handle(0, 1).is_some());
+    /// # Ok::<(), obriska::Refusal>(())
+    /// ```
+    ///
+    /// [`MEMORY_BYTES`]: crate::MEMORY_BYTES
+    pub fn to_bytes(&self) -> Vec<u8> {
+        self.memory.to_bytes()
+    }
+
+    /// The broker that these bytes were kept of.
+    ///
+    /// # Errors
+    ///
+    /// [`Refusal::Memory`] when they are not valid memory, by the proved test of every call.
+    pub fn from_bytes(bytes: &[u8]) -> Result<Self, Refusal> {
+        let memory = Memory::from_bytes(bytes).ok_or(Refusal::Memory)?;
+        let mut broker = Broker { memory };
+        broker.feed(0, &[])?; // an empty chunk changes nothing
+        Ok(broker)
+    }
+}
+
+impl fmt::Debug for Broker {
+    fn fmt(&self, f: &mut fmt::Formatter<'_>) -> fmt::Result {
+        f.debug_struct("Broker")
+            .field("tokens", &self.tokens().collect::<Vec<_>>())
+            .field("handles", &self.handles().collect::<Vec<_>>())
+            .field("stations", &self.stations())
+            .finish()
+    }
+}
+
+/// The result of a call that returned this number.
+fn accepted(refusal: u32) -> Result<(), Refusal> {
+    Refusal::from_number(refusal).map_or(Ok(()), Err)
+}

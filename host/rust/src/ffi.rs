@@ -1,0 +1,139 @@
+//! The C interface, and the only unsafe code: every pointer comes with the length of its own array.
+#![allow(unsafe_code)]
+
+use crate::memory::Memory;
+
+/// A handle slot, as the C interface has it.
+#[repr(C)]
+#[derive(Clone, Copy, Debug, Default, PartialEq, Eq)]
+pub(crate) struct Handle {
+    pub station: u32,
+    pub number: u32,
+    pub token: u64,
+    pub mask: u32,
+}
+
+/// What a feed returns.
+#[repr(C)]
+pub(crate) struct Fed {
+    pub refusal: u32,
+    pub used: usize,
+    pub answered: usize,
+}
+
+const _: () = assert!(size_of::<Handle>() == 24 && size_of::<Fed>() == 24);
+
+extern "C" {
+    fn obriska_start(
+        tokens: *mut u64,
+        tokens_len: usize,
+        dacls: *mut u8,
+        dacls_len: usize,
+        handles: *mut Handle,
+        handles_len: usize,
+        stations: *mut u64,
+        stations_len: usize,
+        pending: *mut u8,
+        pending_len: usize,
+    ) -> u32;
+
+    fn obriska_feed(
+        station: u32,
+        data: *const u8,
+        data_len: usize,
+        answer: *mut u8,
+        answer_len: usize,
+        tokens: *mut u64,
+        tokens_len: usize,
+        dacls: *mut u8,
+        dacls_len: usize,
+        handles: *mut Handle,
+        handles_len: usize,
+        stations: *mut u64,
+        stations_len: usize,
+        pending: *mut u8,
+        pending_len: usize,
+    ) -> Fed;
+
+    fn obriska_reconnect(
+        station: u32,
+        tokens: *const u64,
+        tokens_len: usize,
+        dacls: *const u8,
+        dacls_len: usize,
+        handles: *const Handle,
+        handles_len: usize,
+        stations: *mut u64,
+        stations_len: usize,
+        pending: *mut u8,
+        pending_len: usize,
+    ) -> u32;
+
+    fn obriska_find(handles: *const Handle, handles_len: usize, station: u32, number: u32)
+        -> usize;
+}
+
+pub(crate) fn start(m: &mut Memory) -> u32 {
+    // SAFETY: the arrays are distinct fields behind one `&mut`.
+    unsafe {
+        obriska_start(
+            m.tokens.as_mut_ptr(),
+            m.tokens.len(),
+            m.dacls.as_mut_ptr(),
+            m.dacls.len(),
+            m.handles.as_mut_ptr(),
+            m.handles.len(),
+            m.stations.as_mut_ptr(),
+            m.stations.len(),
+            m.pending.as_mut_ptr(),
+            m.pending.len(),
+        )
+    }
+}
+
+pub(crate) fn feed(m: &mut Memory, station: u32, data: &[u8], answer: &mut [u8]) -> Fed {
+    // SAFETY: the arrays are distinct fields behind one `&mut`, and `answer` behind another.
+    unsafe {
+        obriska_feed(
+            station,
+            data.as_ptr(),
+            data.len(),
+            answer.as_mut_ptr(),
+            answer.len(),
+            m.tokens.as_mut_ptr(),
+            m.tokens.len(),
+            m.dacls.as_mut_ptr(),
+            m.dacls.len(),
+            m.handles.as_mut_ptr(),
+            m.handles.len(),
+            m.stations.as_mut_ptr(),
+            m.stations.len(),
+            m.pending.as_mut_ptr(),
+            m.pending.len(),
+        )
+    }
+}
+
+pub(crate) fn reconnect(m: &mut Memory, station: u32) -> u32 {
+    // SAFETY: the arrays are distinct fields behind one `&mut`.
+    unsafe {
+        obriska_reconnect(
+            station,
+            m.tokens.as_ptr(),
+            m.tokens.len(),
+            m.dacls.as_ptr(),
+            m.dacls.len(),
+            m.handles.as_ptr(),
+            m.handles.len(),
+            m.stations.as_mut_ptr(),
+            m.stations.len(),
+            m.pending.as_mut_ptr(),
+            m.pending.len(),
+        )
+    }
+}
+
+pub(crate) fn find(handles: &[Handle], station: u32, number: u32) -> usize {
+    // SAFETY: the function only reads the handles.
+    unsafe { obriska_find(handles.as_ptr(), handles.len(), station, number) }
+}

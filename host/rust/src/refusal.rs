@@ -1,0 +1,102 @@
+//! The refusals, by name and number.
+
+use std::fmt;
+
+/// Why the broker said no.
+///
+/// 1 to 10 are the status of an [`Answer`](crate::Answer): 1 to 9 use up their request and change
+/// no token, no handle and no number; 10 answers the byte that breaks a stream. 11 to 13 refuse a
+/// whole call, which then changes nothing at all.
+///
+/// ```
+/// use obriska::Refusal;
+/// assert_eq!(Refusal::Handle.number(), 2);
+/// assert_eq!(Refusal::from_number(2), Some(Refusal::Handle));
+/// assert_eq!(Refusal::Handle.to_string(), "refused 2: not a live handle of this station");
+/// ```
+#[derive(Clone, Copy, Debug, PartialEq, Eq, Hash)]
+#[repr(u32)]
+pub enum Refusal {
+    /// Unknown request, or a body not in its layout, or bytes left over.
+    Layout = 1,
+    /// Not a live handle of this station.
+    Handle = 2,
+    /// The handle lacks the right.
+    Right = 3,
+    /// A privilege is not enabled on the station's own token.
+    Privilege = 4,
+    /// A bad field or entry, an unknown class, or installing a token that is not primary.
+    Field = 5,
+    /// A protected group.
+    Protected = 6,
+    /// Installing a token of another user or session.
+    Mismatch = 7,
+    /// No free slot, no number left, or over 16 restricting SIDs.
+    Full = 8,
+    /// The report is larger than the capacity.
+    Capacity = 9,
+    /// The stream is broken until the station is reconnected.
+    Broken = 10,
+    /// There is no such station.
+    Station = 11,
+    /// The answer buffer is too short; [`Broker`](crate::Broker) lends one that never is.
+    Buffer = 12,
+    /// The memory is not valid.
+    Memory = 13,
+}
+
+impl Refusal {
+    /// All of them, in the order of their numbers.
+    pub const ALL: [Refusal; 13] = [
+        Refusal::Layout,
+        Refusal::Handle,
+        Refusal::Right,
+        Refusal::Privilege,
+        Refusal::Field,
+        Refusal::Protected,
+        Refusal::Mismatch,
+        Refusal::Full,
+        Refusal::Capacity,
+        Refusal::Broken,
+        Refusal::Station,
+        Refusal::Buffer,
+        Refusal::Memory,
+    ];
+
+    /// Its number, 1 to 13.
+    pub fn number(self) -> u32 {
+        self as u32
+    }
+
+    /// The refusal of this number.
+    pub fn from_number(number: u32) -> Option<Self> {
+        Self::ALL.into_iter().find(|refusal| refusal.number() == number)
+    }
+
+    /// What it means.
+    pub fn meaning(self) -> &'static str {
+        match self {
+            Refusal::Layout => "unknown request, or not in its layout",
+            Refusal::Handle => "not a live handle of this station",
+            Refusal::Right => "the handle lacks the right",
+            Refusal::Privilege => "a privilege is not enabled on the own token",
+            Refusal::Field => "a field or entry is bad",
+            Refusal::Protected => "the group is protected",
+            Refusal::Mismatch => "the token is of another user or session",
+            Refusal::Full => "no slot or number left, or over 16 restricting SIDs",
+            Refusal::Capacity => "the report is larger than the capacity",
+            Refusal::Broken => "the stream is broken until a reconnect",
+            Refusal::Station => "there is no such station",
+            Refusal::Buffer => "the answer buffer has under 1,024 bytes",
+            Refusal::Memory => "the memory is not valid",
+        }
+    }
+}
+
+impl fmt::Display for Refusal {
+    fn fmt(&self, f: &mut fmt::Formatter<'_>) -> fmt::Result {
+        write!(f, "refused {}: {}", self.number(), self.meaning())
+    }
+}
+
+impl std::error::Error for Refusal {}

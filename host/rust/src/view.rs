@@ -1,0 +1,220 @@
+//! What the broker keeps, as decoded values: docs/MEMORY.md says which word is what.
+
+use crate::ffi;
+use crate::memory::{Memory, DACL_BYTES, FIRST_STATION, PENDING_BYTES, STATION_WORDS, TOKEN_WORDS};
+use crate::STATIONS;
+
+/// Word of a token's first group.
+const FIRST_GROUP: usize = 20;
+/// Word of a token's first restricting SID.
+const FIRST_RESTRICTING: usize = 84;
+
+/// Primary or impersonation.
+#[derive(Clone, Copy, Debug, PartialEq, Eq)]
+pub enum TokenType {
+    /// May be a station's own token.
+    Primary = 1,
+    /// For acting as another, at its level.
+    Impersonation = 2,
+}
+
+/// The impersonation level; Anonymous on every primary token.
+#[derive(Clone, Copy, Debug, PartialEq, Eq, PartialOrd, Ord)]
+#[allow(missing_docs)] // the field's own terms
+pub enum Level {
+    Anonymous = 0,
+    Identification = 1,
+    Impersonation = 2,
+    Delegation = 3,
+}
+
+/// The elevation type.
+#[derive(Clone, Copy, Debug, PartialEq, Eq)]
+#[allow(missing_docs)] // the field's own terms
+pub enum Elevation {
+    Default = 1,
+    Full = 2,
+    Limited = 3,
+}
+
+/// The four privilege words; privilege n is bit n.
+#[derive(Clone, Copy, Debug, PartialEq, Eq)]
+pub struct Privileges {
+    /// Those that the token has.
+    pub present: u64,
+    /// Those in effect.
+    pub enabled: u64,
+    /// Those that a reset enables.
+    pub default: u64,
+    /// Those that a success needed.
+    pub used: u64,
+}
+
+impl Privileges {
+    /// Whether privilege n is enabled.
+    pub fn enables(&self, privilege: u32) -> bool {
+        self.enabled.checked_shr(privilege).is_some_and(|word| word & 1 == 1)
+    }
+}
+
+/// A group of a token.
+#[derive(Clone, Copy, Debug, PartialEq, Eq)]
+pub struct Group {
+    /// Who it is.
+    pub sid: u32,
+    /// See [`names::GROUP_ATTRIBUTES`](crate::names::GROUP_ATTRIBUTES).
+    pub attributes: u32,
+}
+
+/// A live token.
+#[derive(Clone, Debug, PartialEq, Eq)]
+pub struct Token {
+    /// Its own number, from 1.
+    pub number: u64,
+    /// Steps at each adjustment.
+    pub modified: u64,
+    /// The session of its user.
+    pub session: u64,
+    /// The user's SID.
+    pub user: u32,
+    /// Primary or impersonation.
+    pub token_type: TokenType,
+    /// The impersonation level.
+    pub level: Level,
+    /// The elevation type.
+    pub elevation: Elevation,
+    /// Whether the restricting SIDs count for writes only.
+    pub write_restricted: bool,
+    /// Whether the user counts for deny only.
+    pub user_deny_only: bool,
+    /// The default owner: 0 is the user, k is group k - 1.
+    pub owner: u16,
+    /// The default primary group, likewise.
+    pub primary_group: u16,
+    /// The interactivity scope.
+    pub scope: u32,
+    /// 0, 4096, 8192, 12288 or 16384: see [`names::INTEGRITY`](crate::names::INTEGRITY).
+    pub integrity: u32,
+    /// The privilege words.
+    pub privileges: Privileges,
+    /// At most 64.
+    pub groups: Vec<Group>,
+    /// The restricting SIDs, at most 16.
+    pub restricting: Vec<u32>,
+    /// The default DACL, at most 256 bytes.
+    pub dacl: Vec<u8>,
+}
+
+impl Token {
+    pub(crate) fn all(memory: &Memory) -> impl Iterator<Item = Token> + '_ {
+        let slots = memory.tokens.chunks(TOKEN_WORDS).zip(memory.dacls.chunks(DACL_BYTES));
+        slots.filter(|(words, _)| words[0] != 0).map(|(words, dacl)| Token::new(words, dacl))
+    }
+
+    fn new(words: &[u64], dacl: &[u8]) -> Self {
+        let groups = &words[FIRST_GROUP..][..words[17] as usize];
+        let restricting = &words[FIRST_RESTRICTING..][..words[18] as usize];
+        Token {
+            number: words[0],
+            modified: words[1],
+            session: words[2],
+            user: words[3] as u32,
+            token_type: token_type(words[4]),
+            level: level(words[5]),
+            elevation: elevation(words[6]),
+            write_restricted: words[7] == 1,
+            user_deny_only: words[8] == 1,
+            owner: words[9] as u16,
+            primary_group: words[10] as u16,
+            scope: words[11] as u32,
+            integrity: words[12] as u32,
+            privileges: Privileges {
+                present: words[13],
+                enabled: words[14],
+                default: words[15],
+                used: words[16],
+            },
+            groups: groups.iter().map(|&word| group(word)).collect(),
+            restricting: restricting.iter().map(|&word| word as u32).collect(),
+            dacl: dacl[..words[19] as usize].to_vec(),
+        }
+    }
+}
+
+fn token_type(word: u64) -> TokenType {
+    match word {
+        1 => TokenType::Primary,
+        _ => TokenType::Impersonation,
+    }
+}
+
+fn level(word: u64) -> Level {
+    match word {
+        0 => Level::Anonymous,
+        1 => Level::Identification,
+        2 => Level::Impersonation,
+        _ => Level::Delegation,
+    }
+}
+
+fn elevation(word: u64) -> Elevation {
+    match word {
+        1 => Elevation::Default,
+        2 => Elevation::Full,
+        _ => Elevation::Limited,
+    }
+}
+
+/// The SID is the low half, the attributes are the high half.
+fn group(word: u64) -> Group {
+    Group { sid: word as u32, attributes: (word >> 32) as u32 }
+}
+
+/// A live handle.
+#[derive(Clone, Copy, Debug, PartialEq, Eq)]
+pub struct Handle {
+    /// Whose it is.
+    pub station: u32,
+    /// Its own number, from 1.
+    pub number: u32,
+    /// The number of its token.
+    pub token: u64,
+    /// The rights that it grants: see [`names::RIGHTS`](crate::names::RIGHTS).
+    pub mask: u32,
+}
+
+impl Handle {
+    pub(crate) fn all(memory: &Memory) -> impl Iterator<Item = Handle> + '_ {
+        memory.handles.iter().filter(|slot| slot.number != 0).map(Handle::new)
+    }
+
+    pub(crate) fn new(slot: &ffi::Handle) -> Self {
+        let &ffi::Handle { station, number, token, mask } = slot;
+        Handle { station, number, token, mask }
+    }
+}
+
+/// A station and its stream.
+#[derive(Clone, Debug, PartialEq, Eq)]
+pub struct Station {
+    /// The number of its primary token.
+    pub token: u64,
+    /// The bytes of a request that is not whole yet, its length among them.
+    pub pending: Vec<u8>,
+    /// Whether its stream is broken.
+    pub broken: bool,
+}
+
+impl Station {
+    pub(crate) fn all(memory: &Memory) -> [Station; STATIONS] {
+        std::array::from_fn(|station| {
+            let words = &memory.stations[FIRST_STATION + station * STATION_WORDS..];
+            let pending = &memory.pending[station * PENDING_BYTES..];
+            Station {
+                token: words[0],
+                pending: pending[..words[1] as usize].to_vec(),
+                broken: words[2] == 1,
+            }
+        })
+    }
+}

@@ -1,0 +1,99 @@
+//! What the broker keeps, as values and as bytes.
+
+use obriska::{number, Broker, Elevation, Group, Level, Refusal, Station, TokenType, MEMORY_BYTES};
+
+/// Feeds a body of these numbers at station 0, and gives the numbers after status 0.
+fn ask(broker: &mut Broker, numbers: &[u64]) -> Vec<u64> {
+    let mut body = Vec::new();
+    numbers.iter().for_each(|&n| number::write(n, &mut body));
+    let mut frame = Vec::new();
+    number::write(body.len() as u64, &mut frame);
+    frame.extend(body);
+    let answers = broker.feed(0, &frame).unwrap();
+    assert_eq!(answers[0].refusal(), None);
+    number::read_all(answers[0].fields()).unwrap()
+}
+
+#[test]
+fn the_start_is_document_01s() {
+    let broker = Broker::start();
+    let tokens: Vec<_> = broker.tokens().collect();
+    assert_eq!(tokens.len(), 1);
+    let token = &tokens[0];
+    assert_eq!((token.number, token.modified, token.session, token.user), (1, 1, 999, 18));
+    assert_eq!(token.token_type, TokenType::Primary);
+    assert_eq!((token.level, token.elevation), (Level::Anonymous, Elevation::Default));
+    assert_eq!((token.scope, token.integrity), (0, 16384));
+    let words = token.privileges;
+    let all = (2..=36).fold(0, |word, n| word | 1 << n);
+    assert_eq!((words.present, words.enabled, words.default, words.used), (all, all, all, 0));
+    assert!(token.groups.is_empty() && token.restricting.is_empty() && token.dacl.is_empty());
+    assert_eq!(broker.handles().count(), 0);
+    let station = Station { token: 1, pending: vec![], broken: false };
+    assert!(broker.stations().iter().all(|other| *other == station));
+    assert_eq!((broker.next_token(), broker.next_handle()), (2, 1));
+}
+
+#[test]
+fn a_created_token_is_seen_with_its_groups_sids_and_dacl() {
+    let mut broker = Broker::start();
+    let created = ask(&mut broker, &[3, 1000, 5, 8192, 0x84, 0x80, 2, 545, 3, 600, 8]);
+    assert_eq!(created, [1]);
+    assert_eq!(ask(&mut broker, &[8, 1, 2, 1, 1, 2, 0x0A, 0x0B]), []);
+    assert_eq!(ask(&mut broker, &[10, 1, 1, 4, 1, 2, 1, 77, 78]), [2]);
+    let token = broker.token(broker.handle(0, 1).unwrap().token).unwrap();
+    assert_eq!((token.number, token.modified, token.session, token.user), (2, 3, 5, 1000));
+    let groups = [Group { sid: 545, attributes: 7 }, Group { sid: 600, attributes: 8 }];
+    assert_eq!(token.groups, groups);
+    assert_eq!((token.owner, token.primary_group, token.dacl), (2, 1, vec![0x0A, 0x0B]));
+    let copy = broker.token(3).unwrap();
+    assert_eq!(copy.restricting, [77, 78]);
+    assert!(copy.write_restricted && copy.user_deny_only);
+    assert_eq!(copy.privileges.present, 0x80);
+    assert_eq!(copy.groups[1], Group { sid: 600, attributes: 0x18 });
+    assert!(broker.token(1).unwrap().privileges.used & 4 == 4);
+}
+
+#[test]
+fn kept_bytes_go_on_where_the_broker_was() {
+    let mut broker = Broker::start();
+    broker.feed(0, &[0x02, 0x01, 0x28]).unwrap();
+    broker.feed(5, &[0x02, 0x01]).unwrap();
+    broker.feed(6, &[0x00]).unwrap();
+    let kept = broker.to_bytes();
+    assert_eq!(kept.len(), MEMORY_BYTES);
+    let mut later = Broker::from_bytes(&kept).unwrap();
+    assert_eq!(later, broker);
+    assert_eq!(later.stations()[5].pending, [0x02, 0x01]);
+    assert!(later.stations()[6].broken);
+    assert_eq!(later.feed(5, &[0x08]).unwrap()[0].bytes(), [0x02, 0x00, 0x02]);
+}
+
+#[test]
+fn bytes_are_laid_out_as_docs_memory_says() {
+    let bytes = Broker::start().to_bytes();
+    let word = |at: usize| u64::from_le_bytes(bytes[at..at + 8].try_into().unwrap());
+    assert_eq!((word(0), word(8), word(16), word(24)), (1, 1, 999, 18));
+    let stations = 12_800 + 4_096 + 768;
+    assert_eq!((word(stations), word(stations + 8), word(stations + 16)), (2, 1, 1));
+}
+
+#[test]
+fn bytes_that_are_not_valid_memory_are_refused() {
+    let kept = Broker::start().to_bytes();
+    assert_eq!(Broker::from_bytes(&kept[1..]), Err(Refusal::Memory));
+    assert_eq!(Broker::from_bytes(&vec![0; MEMORY_BYTES]), Err(Refusal::Memory));
+    let mut damaged = kept;
+    damaged[0] = 3; // token 3, which nothing refers to, at a next number of 2
+    assert_eq!(Broker::from_bytes(&damaged), Err(Refusal::Memory));
+}
+
+#[test]
+fn there_is_no_station_8() {
+    let mut broker = Broker::start();
+    assert_eq!(broker.feed(8, &[0x02, 0x01, 0x28]), Err(Refusal::Station));
+    assert_eq!(broker.feed(8, &[]), Err(Refusal::Station));
+    assert_eq!(broker.reconnect(8), Err(Refusal::Station));
+    assert_eq!(broker, Broker::start());
+    assert_eq!(broker.feed(7, &[]), Ok(vec![]));
+}

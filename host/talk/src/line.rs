@@ -1,0 +1,173 @@
+//! A line: what it asks for, or what is wrong with it.
+
+use obriska::MAX_BODY;
+
+use crate::arguments::Arguments;
+use crate::hex;
+use crate::request;
+use crate::words::{Mistake, Word};
+
+/// What a line asks for.
+#[derive(Clone, Debug, PartialEq, Eq)]
+pub enum Command {
+    /// Bytes for a station: a request, or raw ones.
+    Send { station: u32, bytes: Vec<u8> },
+    /// Reconnects a station.
+    Reconnect { station: u32 },
+    /// Shows what the broker keeps.
+    State,
+    /// Lists the requests.
+    Help,
+    /// Ends the session.
+    Quit,
+}
+
+/// The line's command; none in an empty line or a comment.
+pub fn parse(line: &str) -> Result<Option<Command>, Mistake> {
+    let line = Word::line(line).without_comment().trimmed();
+    if line.text.is_empty() {
+        return Ok(None);
+    }
+    match line.split_once(':') {
+        Some((station, rest)) => at_station(station.trimmed(), rest).map(Some),
+        None => alone(line).map(Some),
+    }
+}
+
+/// A line without a station.
+fn alone(line: Word) -> Result<Command, Mistake> {
+    let command = match line.words()[0].text {
+        "state" => Command::State,
+        "help" => Command::Help,
+        "quit" => Command::Quit,
+        _ => return Err(line.mistake("no station: say '0: open query', or state, help or quit")),
+    };
+    match line.words().get(1) {
+        None => Ok(command),
+        Some(word) => Err(word.mistake(format_args!("'{}' is one word too many", word.text))),
+    }
+}
+
+/// A line for a station.
+fn at_station(station: Word, rest: Word) -> Result<Command, Mistake> {
+    let station = station.number("station", u32::MAX.into())? as u32;
+    let mut words = rest.words();
+    if words.is_empty() {
+        return Err(rest.mistake("missing: a request"));
+    }
+    let name = words.remove(0);
+    match name.text {
+        "reconnect" => {
+            Arguments::new(name, words).finish()?;
+            return Ok(Command::Reconnect { station });
+        }
+        "bytes" if words.is_empty() => {
+            return Err(Arguments::new(name, words).missing("the bytes"));
+        }
+        "bytes" => return Ok(Command::Send { station, bytes: hex::parse(&words)? }),
+        _ => (),
+    }
+    let bytes = request::frame(name, Arguments::new(name, words)).ok_or_else(|| {
+        name.mistake(format_args!("'{}' is no request; 'help' lists them", name.text))
+    })??;
+    if bytes.len() > MAX_BODY + 2 {
+        return Err(name.mistake(format_args!("the request is over {MAX_BODY} bytes")));
+    }
+    Ok(Command::Send { station, bytes })
+}
+
+#[cfg(test)]
+mod tests {
+    use super::*;
+
+    /// The bytes that a line sends at station 0, as text.
+    fn sent(line: &str) -> String {
+        match parse(line) {
+            Ok(Some(Command::Send { station: 0, bytes })) => hex::text(&bytes),
+            other => panic!("{line}: {other:?}"),
+        }
+    }
+
+    fn mistake(line: &str) -> (usize, String) {
+        let mistake = parse(line).expect_err(line);
+        (mistake.column, mistake.message)
+    }
+
+    #[test]
+    fn document_01s_first_minute_has_its_bytes() {
+        assert_eq!(sent("0: open query,adjust-privileges"), "02 01 28");
+        assert_eq!(sent("0: privileges 1 tcb=disable"), "05 05 01 01 07 00");
+        assert_eq!(sent("0: query 1 privileges capacity=64"), "04 04 01 03 40");
+        assert_eq!(sent("0: bytes 81 10"), "81 10");
+    }
+
+    #[test]
+    fn every_request_has_its_layout() {
+        assert_eq!(sent("0: open all"), "03 01 EF 03");
+        assert_eq!(sent("0: close 300"), "03 02 AC 02");
+        assert_eq!(
+            sent("0: create user=1000 session=5 integrity=medium present=tcb,create-token default=tcb groups=545:mandatory+enabled-by-default,SYSTEM"),
+            "10 03 E8 07 05 80 40 84 01 80 01 02 A1 04 03 12 00"
+        );
+        assert_eq!(sent("0: create user=1"), "07 03 01 00 00 00 00 00");
+        assert_eq!(sent("0: query 1 user"), "05 04 01 01 80 08");
+        assert_eq!(sent("0: privileges 2 reset"), "09 05 02 01 00 80 80 80 80 08");
+        assert_eq!(sent("0: privileges 2 2=enable debug=remove"), "07 05 02 02 02 02 14 04");
+        assert_eq!(sent("0: groups 1 0=enable 3=disable"), "07 06 01 02 00 01 03 00");
+        assert_eq!(sent("0: groups 1 reset"), "09 06 01 01 FF FF FF FF 0F 00");
+        assert_eq!(sent("0: scope 1 5"), "03 07 01 05");
+        assert_eq!(sent("0: default 1"), "0A 08 01 FF FF 03 FF FF 03 00 00");
+        assert_eq!(sent("0: default 1 owner=2 group=0 dacl=0AFF"), "08 08 01 02 00 01 02 0A FF");
+        assert_eq!(sent("0: default 1 owner=0 group=0 dacl=none"), "06 08 01 00 00 01 00");
+        assert_eq!(
+            sent("0: duplicate 1 type=impersonation level=identification rights=query"),
+            "05 09 01 02 01 08"
+        );
+        assert_eq!(
+            sent("0: restrict 1 write-restricted remove=create-token deny=0,2 sids=77"),
+            "09 0A 01 01 04 02 01 00 02 4D"
+        );
+        assert_eq!(sent("0: restrict 1"), "06 0A 01 00 00 00 00");
+        assert_eq!(sent("0: install 2"), "02 0B 02");
+    }
+
+    #[test]
+    fn other_lines() {
+        assert_eq!(parse(" # nothing"), Ok(None));
+        assert_eq!(parse(""), Ok(None));
+        assert_eq!(parse("state # all"), Ok(Some(Command::State)));
+        assert_eq!(parse("help"), Ok(Some(Command::Help)));
+        assert_eq!(parse("quit"), Ok(Some(Command::Quit)));
+        assert_eq!(parse("7:reconnect"), Ok(Some(Command::Reconnect { station: 7 })));
+        let bytes = vec![2, 1, 0x28];
+        assert_eq!(parse("3: bytes 02 0128"), Ok(Some(Command::Send { station: 3, bytes })));
+    }
+
+    #[test]
+    fn a_mistake_is_named_with_its_column() {
+        assert_eq!(mistake("open query").0, 1);
+        assert_eq!(mistake("x: open query"), (1, "'x' is no station: say a number".into()));
+        assert_eq!(mistake("0:"), (3, "missing: a request".into()));
+        assert_eq!(mistake("0: opne query"), (4, "'opne' is no request; 'help' lists them".into()));
+        assert_eq!(mistake("0: open"), (8, "missing: rights".into()));
+        assert_eq!(mistake("0: open query,quary").0, 15);
+        assert_eq!(mistake("0: close 1 2"), (12, "'2' is one word too many".into()));
+        assert_eq!(mistake("0: close 4294967296"), (10, "4294967296 is over 4294967295".into()));
+        assert_eq!(mistake("0: privileges 1 tcbb=enable").0, 17);
+        assert_eq!(mistake("0: privileges 1 tcb=on").0, 21);
+        assert_eq!(mistake("0: privileges 1").0, 16);
+        assert_eq!(mistake("0: create user=1 user=2"), (18, "'user' is there twice".into()));
+        assert_eq!(mistake("0: create session=1").1, "missing: user=..");
+        assert_eq!(mistake("0: default 1 owner=70000").0, 20);
+        assert_eq!(mistake("0: query 1 user capcity=1").0, 17);
+        assert_eq!(mistake("0: bytes 0").0, 10);
+        assert_eq!(mistake("0: bytes").0, 9);
+        assert_eq!(mistake("state now").0, 7);
+    }
+
+    #[test]
+    fn a_request_that_no_frame_holds_is_a_mistake() {
+        let line = format!("0: restrict 1 sids={}", vec!["4294967295"; 500].join(","));
+        assert_eq!(mistake(&line), (4, "the request is over 2048 bytes".into()));
+    }
+}

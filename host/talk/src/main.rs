@@ -1,0 +1,135 @@
+//! obriska-talk: talk to the proved rights broker, line by line.
+
+mod answer;
+mod arguments;
+mod hex;
+mod line;
+mod request;
+mod session;
+mod state;
+mod vocabulary;
+mod words;
+
+use std::fs;
+use std::io::{self, BufRead, IsTerminal, Write};
+use std::process::ExitCode;
+
+use session::Session;
+
+const USAGE: &str = "\
+usage: obriska-talk [--hex] [SCRIPT]
+
+Sends each line of SCRIPT, or of standard input, to a broker at its start and prints the answers.
+  --hex    shows the bytes both ways
+  --help   this text and the requests
+
+Ends with 0, with 1 if a line was bad (it is named, and nothing is sent), with 2 if the words on the
+command line were, or a file could not be read.
+";
+
+/// What the command line asks for.
+struct Options {
+    shows_bytes: bool,
+    script: Option<String>,
+}
+
+fn main() -> ExitCode {
+    let mut options = Options { shows_bytes: false, script: None };
+    for word in std::env::args().skip(1) {
+        match word.as_str() {
+            "--hex" => options.shows_bytes = true,
+            "--help" | "-h" => {
+                print!("{USAGE}\n{}", include_str!("help.txt"));
+                return ExitCode::SUCCESS;
+            }
+            _ if !word.starts_with('-') && options.script.is_none() => options.script = Some(word),
+            _ => {
+                eprint!("obriska-talk: '{word}' was not expected\n\n{USAGE}");
+                return ExitCode::from(2);
+            }
+        }
+    }
+    match play(&options) {
+        Ok(true) => ExitCode::SUCCESS,
+        Ok(false) => ExitCode::FAILURE,
+        Err(error) if error.kind() == io::ErrorKind::BrokenPipe => ExitCode::SUCCESS,
+        Err(error) => {
+            let name = options.script.as_deref().unwrap_or("standard input");
+            eprintln!("obriska-talk: {name}: {error}");
+            ExitCode::from(2)
+        }
+    }
+}
+
+/// Plays the script, or standard input; false if a line was bad.
+fn play(options: &Options) -> io::Result<bool> {
+    let mut talk = Talk {
+        session: Session::new(options.shows_bytes),
+        name: options.script.as_deref().unwrap_or("-"),
+        echoes: true,
+        bad_lines: 0,
+    };
+    if let Some(path) = &options.script {
+        let script = fs::read_to_string(path)?;
+        talk.play(script.lines().map(|line| Ok(line.to_string())))?;
+    } else if io::stdin().is_terminal() {
+        talk.echoes = false;
+        talk.play(prompted())?;
+        return Ok(true);
+    } else {
+        talk.play(io::stdin().lock().lines())?;
+    }
+    Ok(talk.bad_lines == 0)
+}
+
+/// The lines typed at a prompt.
+fn prompted() -> impl Iterator<Item = io::Result<String>> {
+    println!("Eight stations at their start. 'help' lists the requests, 'quit' ends.");
+    let mut lines = io::stdin().lines();
+    std::iter::from_fn(move || {
+        print!("obriska> ");
+        io::stdout().flush().ok()?;
+        lines.next()
+    })
+}
+
+/// A session and where its lines come from.
+struct Talk<'a> {
+    session: Session,
+    name: &'a str,
+    echoes: bool,
+    bad_lines: usize,
+}
+
+impl Talk<'_> {
+    fn play(&mut self, lines: impl Iterator<Item = io::Result<String>>) -> io::Result<()> {
+        for (index, line) in lines.enumerate() {
+            if !self.take(index + 1, line?.trim_end())? {
+                break;
+            }
+        }
+        Ok(())
+    }
+
+    /// Takes a line; true if the session goes on.
+    fn take(&mut self, number: usize, line: &str) -> io::Result<bool> {
+        let mut out = io::stdout().lock();
+        let parsed = line::parse(line);
+        let command = parsed.as_ref().ok().and_then(Option::as_ref);
+        if self.echoes {
+            self.session.echo(line, command, &mut out)?;
+        } else {
+            self.session.echo_bytes(command, &mut out)?;
+        }
+        match parsed {
+            Ok(None) => Ok(true),
+            Ok(Some(command)) => self.session.run(&command, &mut out),
+            Err(mistake) => {
+                out.flush()?;
+                self.bad_lines += 1;
+                eprintln!("{}:{number}:{}: {}", self.name, mistake.column, mistake.message);
+                Ok(true)
+            }
+        }
+    }
+}

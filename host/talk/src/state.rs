@@ -1,0 +1,140 @@
+//! What the broker keeps, as tables.
+
+use obriska::{Broker, Handle, Station, Token};
+
+use crate::vocabulary::{self, ELEVATIONS, LEVELS, TYPES};
+
+const TOKEN_COLUMNS: [&str; 13] = [
+    "token",
+    "modified",
+    "session",
+    "user",
+    "type",
+    "elevation",
+    "integrity",
+    "scope",
+    "privileges",
+    "groups",
+    "restricting",
+    "owner / group",
+    "DACL",
+];
+
+/// Tokens, handles and stations.
+pub fn lines(broker: &Broker) -> Vec<String> {
+    let tokens = broker.tokens().map(|token| token_row(&token)).collect();
+    let handles = broker.handles().map(handle_row).collect();
+    let stations = broker.stations();
+    let stations = stations.iter().enumerate().map(station_row).collect();
+    let mut lines = table(&TOKEN_COLUMNS, tokens);
+    lines.push(String::new());
+    lines.extend(table(&["handle", "station", "token", "rights"], handles));
+    lines.push(String::new());
+    lines.extend(table(&["station", "token", "stream"], stations));
+    lines.push(String::new());
+    lines.push(format!("next token {}, next handle {}", broker.next_token(), broker.next_handle()));
+    lines
+}
+
+fn token_row(token: &Token) -> Vec<String> {
+    let token_type = vocabulary::text(&TYPES, token.token_type as u64);
+    let level = vocabulary::text(&LEVELS, token.level as u64);
+    let is_primary = token.token_type == obriska::TokenType::Primary;
+    vec![
+        token.number.to_string(),
+        token.modified.to_string(),
+        token.session.to_string(),
+        vocabulary::sid_text(token.user.into()),
+        if is_primary { token_type } else { format!("{token_type}, {level}") },
+        vocabulary::text(&ELEVATIONS, token.elevation as u64),
+        vocabulary::integrity_text(token.integrity.into()),
+        token.scope.to_string(),
+        privileges(token),
+        token.groups.len().to_string(),
+        restricting(token),
+        owner(token),
+        token.dacl.len().to_string(),
+    ]
+}
+
+fn privileges(token: &Token) -> String {
+    let words = token.privileges;
+    let [present, enabled, used] = [words.present, words.enabled, words.used].map(u64::count_ones);
+    format!("{enabled} of {present} enabled, {used} used")
+}
+
+/// The number of restricting SIDs, and the marks.
+fn restricting(token: &Token) -> String {
+    let mut text = token.restricting.len().to_string();
+    if token.write_restricted {
+        text.push_str(", write-restricted");
+    }
+    if token.user_deny_only {
+        text.push_str(", user deny-only");
+    }
+    text
+}
+
+/// The indexes of owner and primary group: 0 is the user.
+fn owner(token: &Token) -> String {
+    let name = |index| match index {
+        0 => "user".to_string(),
+        _ => format!("group {}", index - 1),
+    };
+    format!("{} / {}", name(token.owner), name(token.primary_group))
+}
+
+fn handle_row(handle: Handle) -> Vec<String> {
+    let numbers = [handle.number.into(), handle.station.into(), handle.token];
+    let mut row = numbers.map(|number: u64| number.to_string()).to_vec();
+    row.push(vocabulary::rights_text(handle.mask));
+    row
+}
+
+fn station_row((index, station): (usize, &Station)) -> Vec<String> {
+    vec![index.to_string(), station.token.to_string(), stream(station)]
+}
+
+/// How a station's stream stands.
+pub fn stream(station: &Station) -> String {
+    match (station.broken, station.pending.len()) {
+        (true, _) => "broken".to_string(),
+        (false, 0) => "between requests".to_string(),
+        (false, 1) => "1 byte of a request pending".to_string(),
+        (false, count) => format!("{count} bytes of a request pending"),
+    }
+}
+
+/// Rows under their headings, each column as wide as its widest entry.
+fn table(headings: &[&str], rows: Vec<Vec<String>>) -> Vec<String> {
+    let headings = headings.iter().map(|heading| heading.to_string()).collect();
+    let rows: Vec<Vec<String>> = [vec![headings], rows].concat();
+    let width = |column: usize| rows.iter().map(|row| row[column].len()).max().unwrap_or(0);
+    let widths: Vec<_> = (0..rows[0].len()).map(width).collect();
+    rows.iter().map(|row| padded(row, &widths)).collect()
+}
+
+fn padded(row: &[String], widths: &[usize]) -> String {
+    let cells = row.iter().zip(widths).map(|(cell, &width)| format!("{cell:width$}"));
+    cells.collect::<Vec<_>>().join("  ").trim_end().to_string()
+}
+
+#[cfg(test)]
+mod tests {
+    use super::*;
+
+    #[test]
+    fn columns_are_as_wide_as_their_widest_entry() {
+        let rows = vec![vec!["1".to_string(), "longer".to_string()]];
+        assert_eq!(table(&["token", "a"], rows), ["token  a", "1      longer"]);
+    }
+
+    #[test]
+    fn the_start_has_one_token_and_eight_stations() {
+        let lines = lines(&Broker::start());
+        assert!(lines[1].starts_with("1      1         999      18 (SYSTEM)  primary  default"));
+        assert!(lines[1].contains("35 of 35 enabled, 0 used"));
+        assert_eq!(lines.iter().filter(|line| line.ends_with("between requests")).count(), 8);
+        assert_eq!(lines.last().unwrap(), "next token 2, next handle 1");
+    }
+}

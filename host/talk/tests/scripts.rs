@@ -1,0 +1,94 @@
+//! obriska-talk as a program: its scripts' whole output, bad lines and exit status. What the
+//! scripts are expected to write was taken from document 01.
+
+use std::io::Write;
+use std::path::{Path, PathBuf};
+use std::process::{Command, Output, Stdio};
+
+fn file(path: &str) -> PathBuf {
+    Path::new(env!("CARGO_MANIFEST_DIR")).join(path)
+}
+
+fn talk(arguments: &[&str], input: &str) -> Output {
+    let mut child = Command::new(env!("CARGO_BIN_EXE_obriska-talk"))
+        .args(arguments)
+        .stdin(Stdio::piped())
+        .stdout(Stdio::piped())
+        .stderr(Stdio::piped())
+        .spawn()
+        .expect("the program starts");
+    // A program that ends without reading its input is fine.
+    let _ = child.stdin.take().expect("it is piped").write_all(input.as_bytes());
+    child.wait_with_output().expect("the program ends")
+}
+
+fn text(bytes: &[u8]) -> &str {
+    std::str::from_utf8(bytes).expect("the output is text")
+}
+
+/// The script's output is the file's text, and no line was bad.
+fn writes(arguments: &[&str], script: &str, expected: &str) {
+    let script = file(script);
+    let arguments = [arguments, &[script.to_str().expect("the path is text")]].concat();
+    let output = talk(&arguments, "");
+    let expected = std::fs::read_to_string(file(expected)).expect("the file is there");
+    for (number, (line, expected)) in text(&output.stdout).lines().zip(expected.lines()).enumerate()
+    {
+        assert_eq!(line, expected, "line {}", number + 1);
+    }
+    assert_eq!(text(&output.stdout), expected);
+    assert_eq!((text(&output.stderr), output.status.code()), ("", Some(0)));
+}
+
+#[test]
+fn the_first_minute_is_document_01s() {
+    let examples = "../../examples/first-minute";
+    writes(&["--hex"], &format!("{examples}.talk"), &format!("{examples}.expected"));
+}
+
+#[test]
+fn all_requests_are_answered_in_words() {
+    writes(&[], "tests/requests.talk", "tests/requests.expected");
+}
+
+#[test]
+fn a_bad_line_is_named_and_nothing_is_sent() {
+    let output = talk(&[], "0: open query,quary\n\n0: close\n0: open query\n");
+    let expected = "0: open query,quary\n\n0: close\n0: open query\n   handle 1\n";
+    assert_eq!(text(&output.stdout), expected);
+    let mistakes: Vec<_> = text(&output.stderr).lines().collect();
+    assert_eq!(mistakes.len(), 2);
+    assert!(mistakes[0].starts_with("-:1:15: 'quary' is no right: assign-primary, duplicate"));
+    assert_eq!(mistakes[1], "-:3:9: missing: handle");
+    assert_eq!(output.status.code(), Some(1));
+}
+
+#[test]
+fn quit_ends_the_script() {
+    let output = talk(&["--hex"], "0: open query\nquit\n0: open query\n");
+    assert_eq!(text(&output.stdout).matches("handle").count(), 1);
+    assert_eq!(output.status.code(), Some(0));
+}
+
+#[test]
+fn help_has_an_example_of_each_request_that_is_no_mistake() {
+    let help = talk(&[], "help\n");
+    let examples: Vec<_> =
+        text(&help.stdout).lines().filter(|line| line.starts_with("  0: ")).collect();
+    assert_eq!(examples.len(), 13); // eleven requests, reconnect, bytes
+    let script: String = examples
+        .iter()
+        .map(|line| line.trim().split("  ").next().expect("an example").to_string() + "\n")
+        .collect();
+    let output = talk(&[], &script);
+    assert_eq!((text(&output.stderr), output.status.code()), ("", Some(0)));
+}
+
+#[test]
+fn a_bad_command_line_ends_with_2() {
+    assert_eq!(talk(&["--hexx"], "").status.code(), Some(2));
+    assert_eq!(talk(&["no-such-file.talk"], "").status.code(), Some(2));
+    assert_eq!(talk(&["a.talk", "b.talk"], "").status.code(), Some(2));
+    let help = talk(&["--help"], "");
+    assert!(text(&help.stdout).contains("usage:") && help.status.success());
+}

@@ -1,0 +1,205 @@
+/*
+ * obriska.h: the rights broker, for hosts in C and C++ (x86-64).
+ *
+ * The host lends the broker its memory, as five arrays, on each call. The broker keeps nothing
+ * anywhere else, allocates nothing, never calls back and always returns. A host
+ *
+ *   1. sets aside a `struct obriska_memory` (34,272 bytes) and starts it once;
+ *   2. feeds each station's bytes as they come, in chunks of any length, until the chunk is used
+ *      up, and sends each answer to that station;
+ *   3. reconnects a station when its line was cut.
+ *
+ * What every call does for any input, refusals too, is proved (docs/CLAIMS.md). What the host owes:
+ *
+ *   - each pointer is not null, also before a length of 0, is aligned for its type, and has as many
+ *     elements behind it as the length says;
+ *   - arrays that a call may write (those without `const`) overlap no other array of that call;
+ *   - one call at a time on one memory, and nobody else writes the arrays during a call.
+ *
+ * Nothing is asked of what the arrays hold: memory that is not valid is refused by 13.
+ */
+#ifndef OBRISKA_H
+#define OBRISKA_H
+
+#include <stddef.h>
+#include <stdint.h>
+
+#ifdef __cplusplus
+extern "C" {
+#endif
+
+/* ---- sizes ---------------------------------------------------------------------------------- */
+
+#define OBRISKA_STATIONS 8 /* stations 0 to 7 */
+#define OBRISKA_TOKENS 16  /* live tokens at most */
+#define OBRISKA_HANDLES 32 /* live handles at most, of all stations together */
+
+/* Elements of each array that the host lends: exactly these lengths, else refusal 13. */
+#define OBRISKA_TOKENS_LEN 1600   /* uint64_t: 16 slots of 100 words */
+#define OBRISKA_DACLS_LEN 4096    /* uint8_t: 16 slots of 256 bytes */
+#define OBRISKA_HANDLES_LEN 32    /* struct obriska_handle */
+#define OBRISKA_STATIONS_LEN 26   /* uint64_t: two next numbers, 8 stations of 3 words */
+#define OBRISKA_PENDING_LEN 16400 /* uint8_t: 8 stations of 2,050 bytes */
+
+#define OBRISKA_ANSWER_LEN 1024 /* the shortest answer buffer, and the longest answer */
+#define OBRISKA_MAX_BODY 2048   /* the longest body of a request */
+
+/* ---- records -------------------------------------------------------------------------------- */
+
+/* A handle: what lets a station use a token. A free slot has zero in all four fields. */
+struct obriska_handle {
+    uint32_t station; /* whose it is, 0 to 7 */
+    uint32_t number;  /* from 1, given upward and never twice; 0: the slot is free */
+    uint64_t token;   /* the number of its token */
+    uint32_t mask;    /* the rights that it grants, OBRISKA_RIGHT_.. */
+};
+
+/* What a feed returns. */
+struct obriska_fed {
+    uint32_t refusal; /* 0, or OBRISKA_REFUSED_STATION, _BUFFER or _MEMORY */
+    size_t used;      /* bytes of the chunk that were used */
+    size_t answered;  /* length of the answer, from the buffer's begin; 0: no answer */
+};
+
+/* All that the broker keeps. It may be copied, stored and lent again later: docs/MEMORY.md says
+ * what stands where. The arrays may as well be set aside one by one. */
+struct obriska_memory {
+    uint64_t tokens[OBRISKA_TOKENS_LEN];
+    uint8_t dacls[OBRISKA_DACLS_LEN];
+    struct obriska_handle handles[OBRISKA_HANDLES_LEN];
+    uint64_t stations[OBRISKA_STATIONS_LEN];
+    uint8_t pending[OBRISKA_PENDING_LEN];
+};
+
+#ifdef __cplusplus
+#define OBRISKA_ASSERT_ static_assert
+#else
+#define OBRISKA_ASSERT_ _Static_assert
+#endif
+OBRISKA_ASSERT_(sizeof(size_t) == 8, "the library is for 64-bit hosts");
+OBRISKA_ASSERT_(sizeof(struct obriska_handle) == 24, "a handle has 24 bytes");
+OBRISKA_ASSERT_(sizeof(struct obriska_fed) == 24, "what a feed returns has 24 bytes");
+OBRISKA_ASSERT_(sizeof(struct obriska_memory) == 34272, "the memory has 34,272 bytes");
+#undef OBRISKA_ASSERT_
+
+/* ---- refusals ------------------------------------------------------------------------------- */
+
+/* 1 to 10 are the status of an answer, its first byte after the length. 1 to 9 use up their
+ * request and change no token, no handle and no number. 11 to 13 refuse a whole call, the lowest
+ * that applies, and then nothing at all is written. */
+enum obriska_refusal {
+    OBRISKA_REFUSED_LAYOUT = 1,     /* unknown request, not in its layout, or bytes left over */
+    OBRISKA_REFUSED_HANDLE = 2,     /* not a live handle of this station */
+    OBRISKA_REFUSED_RIGHT = 3,      /* the handle lacks the right */
+    OBRISKA_REFUSED_PRIVILEGE = 4,  /* the privilege is not enabled on the station's token */
+    OBRISKA_REFUSED_FIELD = 5,      /* a bad field or entry, an unknown class, or installing a token
+                                       that is not primary */
+    OBRISKA_REFUSED_PROTECTED = 6,  /* a protected group */
+    OBRISKA_REFUSED_MISMATCH = 7,   /* installing a token of another user or session */
+    OBRISKA_REFUSED_FULL = 8,       /* no free slot, no number left, or over 16 restricting SIDs */
+    OBRISKA_REFUSED_CAPACITY = 9,   /* the report is larger than the capacity; its size follows */
+    OBRISKA_REFUSED_BROKEN = 10,    /* a bad length: the stream is broken until a reconnect */
+    OBRISKA_REFUSED_STATION = 11,   /* there is no such station */
+    OBRISKA_REFUSED_BUFFER = 12,    /* the answer buffer has under 1,024 bytes */
+    OBRISKA_REFUSED_MEMORY = 13     /* the memory is not valid, or not of its sizes */
+};
+
+/* ---- rights, token fields and attributes ----------------------------------------------------- */
+
+/* Rights of a handle's mask. */
+#define OBRISKA_RIGHT_ASSIGN_PRIMARY 0x001u
+#define OBRISKA_RIGHT_DUPLICATE 0x002u
+#define OBRISKA_RIGHT_IMPERSONATE 0x004u
+#define OBRISKA_RIGHT_QUERY 0x008u
+#define OBRISKA_RIGHT_ADJUST_PRIVILEGES 0x020u
+#define OBRISKA_RIGHT_ADJUST_GROUPS 0x040u
+#define OBRISKA_RIGHT_ADJUST_DEFAULT 0x080u
+#define OBRISKA_RIGHT_ADJUST_SCOPE 0x100u
+#define OBRISKA_RIGHT_ALL 0x1EFu
+
+/* Attributes of a group. */
+#define OBRISKA_GROUP_MANDATORY 0x01u
+#define OBRISKA_GROUP_ENABLED_BY_DEFAULT 0x02u
+#define OBRISKA_GROUP_ENABLED 0x04u
+#define OBRISKA_GROUP_OWNER 0x08u
+#define OBRISKA_GROUP_DENY_ONLY 0x10u
+#define OBRISKA_GROUP_LOGON_ID 0xC0000000u
+
+/* ---- the calls ------------------------------------------------------------------------------ */
+
+/* Writes the start's memory over whatever the arrays hold: token 1 (user 18, session 999, all
+ * privileges) is the primary token of all eight stations, there are no handles, the next token is
+ * 2 and the next handle 1.
+ * Returns 0, or 13 where a length is wrong; then nothing is written. */
+uint32_t obriska_start(uint64_t *tokens, size_t tokens_len, uint8_t *dacls, size_t dacls_len,
+                       struct obriska_handle *handles, size_t handles_len, uint64_t *stations,
+                       size_t stations_len, uint8_t *pending, size_t pending_len);
+
+/* Feeds a chunk of a station's stream. Uses its bytes up to the end of the first request, or to
+ * the byte that breaks the stream, or all of them. A request is served whole, at its last byte.
+ *
+ * refusal 0: `used` bytes were used; if `answered` is not 0, the answer to the request that ended
+ *   there, or 01 0A for the break, is the first `answered` bytes of the buffer (at most 1,024).
+ *   The bytes after it stay. Feed again with the rest of the chunk until all of it is used: a
+ *   chunk that is not empty has at least one byte used. How a stream is cut into chunks changes
+ *   nothing. A broken stream uses all bytes and answers nothing until the station is reconnected.
+ * refusal 11, 12 or 13: `used` and `answered` are 0, and nothing is written. 13 never comes on
+ *   memory that was started and then written by these calls alone. */
+struct obriska_fed obriska_feed(uint32_t station, const uint8_t *data, size_t data_len,
+                                uint8_t *answer, size_t answer_len, uint64_t *tokens,
+                                size_t tokens_len, uint8_t *dacls, size_t dacls_len,
+                                struct obriska_handle *handles, size_t handles_len,
+                                uint64_t *stations, size_t stations_len, uint8_t *pending,
+                                size_t pending_len);
+
+/* Drops the station's part of a request and its break, and nothing else: tokens and handles stay.
+ * Returns 0, or 11 or 13; then nothing is written. */
+uint32_t obriska_reconnect(uint32_t station, const uint64_t *tokens, size_t tokens_len,
+                           const uint8_t *dacls, size_t dacls_len,
+                           const struct obriska_handle *handles, size_t handles_len,
+                           uint64_t *stations, size_t stations_len, uint8_t *pending,
+                           size_t pending_len);
+
+/* The slot of the station's live handle of this number, or 32 (OBRISKA_HANDLES) if there is none.
+ * Writes nothing. */
+size_t obriska_find(const struct obriska_handle *handles, size_t handles_len, uint32_t station,
+                    uint32_t number);
+
+/* ---- the same on one struct ------------------------------------------------------------------ */
+
+static inline uint32_t obriska_memory_start(struct obriska_memory *m)
+{
+    return obriska_start(m->tokens, OBRISKA_TOKENS_LEN, m->dacls, OBRISKA_DACLS_LEN, m->handles,
+                         OBRISKA_HANDLES_LEN, m->stations, OBRISKA_STATIONS_LEN, m->pending,
+                         OBRISKA_PENDING_LEN);
+}
+
+static inline struct obriska_fed obriska_memory_feed(struct obriska_memory *m, uint32_t station,
+                                                     const uint8_t *data, size_t data_len,
+                                                     uint8_t *answer, size_t answer_len)
+{
+    return obriska_feed(station, data, data_len, answer, answer_len, m->tokens, OBRISKA_TOKENS_LEN,
+                        m->dacls, OBRISKA_DACLS_LEN, m->handles, OBRISKA_HANDLES_LEN, m->stations,
+                        OBRISKA_STATIONS_LEN, m->pending, OBRISKA_PENDING_LEN);
+}
+
+static inline uint32_t obriska_memory_reconnect(struct obriska_memory *m, uint32_t station)
+{
+    return obriska_reconnect(station, m->tokens, OBRISKA_TOKENS_LEN, m->dacls, OBRISKA_DACLS_LEN,
+                             m->handles, OBRISKA_HANDLES_LEN, m->stations, OBRISKA_STATIONS_LEN,
+                             m->pending, OBRISKA_PENDING_LEN);
+}
+
+/* The station's live handle of this number, or null. */
+static inline const struct obriska_handle *obriska_memory_find(const struct obriska_memory *m,
+                                                               uint32_t station, uint32_t number)
+{
+    size_t slot = obriska_find(m->handles, OBRISKA_HANDLES_LEN, station, number);
+    return slot < OBRISKA_HANDLES ? &m->handles[slot] : NULL;
+}
+
+#ifdef __cplusplus
+}
+#endif
+
+#endif
