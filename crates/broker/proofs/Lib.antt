@@ -7,3 +7,4 @@ pub mod PendingRows
 pub mod Lent
 pub mod Accepting
 pub mod Feeding
+pub mod WholeRuns

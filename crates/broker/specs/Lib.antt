@@ -3,3 +3,4 @@ pub mod Accepted
 pub mod Initial
 pub mod Streams
 pub mod Tested
+pub mod WholeRun

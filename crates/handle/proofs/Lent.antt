@@ -4,6 +4,10 @@ use mathlib.Core.List.{List, [], _∷_, _++_}
 use Prim.Native.Nat.{ℕ, zero, suc, _+_, _≤_, _<_}
 use native.Mathlib.Numerals.{add-one}
 use native.Mathlib.Omega.{arith}
+use lib.Dec.{T as Holds, ltb, nltb→le}
+use mathlib.Core.Bool.{not, _&&_}
+use mathlib.Core.Logic.{_⊎_, inl, inr}
+use mir.Facts.{and-no}
 use lib.ListN.{length, getD, take, drop, set, replicate, length-replicate}
 use lib.Seq.{take-all, take-suc, drop-cons, set-at, length-take-le}
 use Rattle.rules.specs.State.{handleSlots}
@@ -26,6 +30,13 @@ module _ {A : Type 0} (z : A) where
   padded-more (suc n) (suc k) [] y l = ap (λ (ys : List A). y ∷ ys) (padding-taken n k (omega arith))
   padded-more (suc n) k (x ∷ xs) y l = ap (λ (ys : List A). x ∷ ys) (padded-more n k xs y (omega arith))
 
+-- what is cut behind the first n does not matter to them
+cut-late : {A : Type 0} (zs : List A) (n i : ℕ) (ys : List A) → n ≤ i → i ≤ length ys → take n (take i ys ++ zs) ≡ take n (ys ++ zs)
+cut-late zs zero i ys l m = refl
+cut-late zs (suc n) zero ys l m = absurd (omega arith)
+cut-late zs (suc n) (suc i) [] l m = absurd (omega arith)
+cut-late zs (suc n) (suc i) (y ∷ ys) l m = ap (λ (hs : List _). y ∷ hs) (cut-late zs n i ys (omega arith) (omega arith))
+
 module _ (ys : List Handle) where
   abbrev pub Loads : ℕ → List Handle → Type 0
   Loads i items = items ≡ loaded (take i ys)
@@ -43,8 +54,13 @@ module _ (ys : List Handle) where
       ∙ ap loaded (sym (take-suc ys i none l))
       ∙ ap (λ (j : ℕ). loaded (take j ys)) (sym (add-one i))
 
-  pub loads-all : {i : ℕ} {items : List Handle} → Loads i items → length ys ≤ i → items ≡ loaded ys
-  loads-all {i} p l = p ∙ ap loaded (take-all i ys l)
+  -- the loop is left at the list's end, or once the slots are full
+  pub loads-all : {i : ℕ} {items : List Handle} → Loads i items → i ≤ length ys → Holds (not (ltb i handleSlots && ltb i (length ys))) → items ≡ loaded ys
+  loads-all {i} p l out = p ∙ all-loaded i l (and-no (ltb i handleSlots) (ltb i (length ys)) out)
+    where
+      all-loaded : (i : ℕ) → i ≤ length ys → Holds (not (ltb i handleSlots)) ⊎ Holds (not (ltb i (length ys))) → loaded (take i ys) ≡ loaded ys
+      all-loaded i l (inl out) = cut-late (replicate handleSlots none) handleSlots i ys (nltb→le i handleSlots out) l
+      all-loaded i l (inr out) = ap loaded (take-all i ys (nltb→le i (length ys) out))
 
 -- ---- clear_first: the first i slots are free
 

@@ -14,25 +14,29 @@ use crate::NONE;
 use crate::SLOTS;
 
 // All slots free.
-pub fn empty() -> Handles
-    ensures { λ r. ⌜ (r .items ≡ replicate handleSlots none) × Sized r ⌝ }
+fn no_items() -> [Handle; SLOTS]
+    ensures { λ r. ⌜ r ≡ replicate handleSlots none ⌝ }
 {
-    Handles {
-        items: [NONE; SLOTS],
-    }
+    [NONE; SLOTS]
+}
+
+fn of_items(items: [Handle; SLOTS]) -> Handles
+    ensures { λ r. ⌜ (r .items ≡ items) × Sized r ⌝ }
+{
+    Handles { items: items }
 }
 
 // The first 32 records by value; free slots where the list is shorter.
 pub fn load(list: &[Handle]) -> Handles
     ensures { λ r. ⌜ (r .items ≡ loaded (now (list .entry))) × Sized r ⌝ }
 {
-    let mut handles = empty();
+    let mut items = no_items();
     let mut i: usize = 0;
-    while i < list.len() {
-        handles = crate::place(handles, i, list[i]);
+    while (i < SLOTS) & (i < list.len()) {
+        items[i] = list[i];
         i = i + 1;
     }
-    handles
+    of_items(items)
 }
 
 // The list with h in a slot; unchanged for a slot past the end.

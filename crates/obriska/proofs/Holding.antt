@@ -1,10 +1,10 @@
 -- The bytes of the input that are held: what `refill` and `advance` do to them. Assumes nothing.
 use Prim.Native.Nat.{ℕ, _+_, _-_, _*_, _^_, _≤_, _<_}
 use native.Mathlib.Omega.{arith}
-use mathlib.Core.Path.{_≡_, refl, sym, ap, ap₂, subst, _∙_}
+use mathlib.Core.Path.{_≡_, refl, sym, ap, subst, _∙_}
 use mathlib.Core.Logic.{⊎-elim}
-use mathlib.Core.Bool.{Bool, true, false, not}
-use mathlib.Core.List.{List, _++_}
+use mathlib.Core.Bool.{false, not}
+use mathlib.Core.List.{List}
 use lib.ListN.{length, take, drop, length-take, length-drop}
 use lib.Dec.{ltb}
 use lib.Seq.{take-take, take-at, length-take-le}
@@ -21,7 +21,7 @@ use Rattle.session.specs.declared.input.Next.{Next}
 use Rattle.session.specs.declared.input.Next.the-variants as next
 use Rattle.obriska.specs.declared.Served.{Served}
 use Rattle.obriska.specs.declared.Advanced.{Advanced}
-use Rattle.obriska.specs.Serving.{bufferBytes, held, Room, Refilled, Serves, Follows, Advances}
+use Rattle.obriska.specs.Serving.{bufferBytes, Ready, held, Room, Refilled, Serves, Follows, Advances}
 
 -- ---- refill
 
@@ -143,3 +143,6 @@ module _ (from end : ℕ) (b b′ : List ℕ) (m m′ : Memory) (room : ℕ) (r 
       (λ z. let e : r .chunks ≡ 0 = omega arith in omega (arith, f .more (not-false (r .going) g) e, f .inside))
       (λ z. omega (arith, f .count, f .inside, f .order))
       (below-or (r .chunks) 1)
+
+  pub stays-ready : (a a′ : List ℕ) → Ready b a m → length b′ ≡ length b → length a′ ≡ length a → Ready b′ a′ m′
+  stays-ready a a′ k e h = record { input = e ∙ k .input; output = omega (arith, k .output); memory = f .stays (k .memory) }

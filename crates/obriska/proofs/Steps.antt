@@ -1,15 +1,14 @@
 -- What `feed_once` and `serve` give, in the terms of the program's states. Assumes nothing.
 use Prim.Native.Nat.{ℕ, _+_, _-_, _^_, _≤_, _<_}
 use native.Mathlib.Omega.{arith}
-use mathlib.Core.Path.{_≡_, refl, sym, ap, ap₂, subst, _∙_}
+use mathlib.Core.Path.{_≡_, refl, sym, ap, _∙_}
 use mathlib.Core.Bool.{Bool, true, false, not}
-use mathlib.Core.List.{List, []}
+use mathlib.Core.List.{List}
 use lib.ListN.{length, take, drop, length-drop, drop-of-length-le}
-use lib.Seq.{take-all, drop-drop, drop-length, length-take-le}
+use lib.Seq.{take-all, drop-drop, length-take-le}
 use borrow.Author.Tests.{not-false}
 use Rattle.rules.specs.State.{State}
-use Rattle.rules.specs.Frame.{maxAnswer}
-use Rattle.rules.specs.Memory.{Memory, decode, valid}
+use Rattle.rules.specs.Memory.{Memory, decode}
 use Rattle.session.specs.Program.{Output, nothing, fedIn, fed}
 use Rattle.session.specs.Turns.{Turns}
 use Rattle.session.specs.declared.turn.Turned.{Turned}

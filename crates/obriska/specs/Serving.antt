@@ -14,6 +14,12 @@ use Rattle.obriska.specs.declared.Advanced.{Advanced}
 abbrev pub bufferBytes : ℕ
 bufferBytes = 65536
 
+-- what the program starts with and keeps: the buffers have their sizes and memory is valid, so that 11 is the only refusal
+pub record Ready (buffer answer : List ℕ) (m : Memory) : Type 0 where
+  pub input : length buffer ≡ bufferBytes
+  pub output : maxAnswer ≤ length answer
+  pub memory : valid m ≡ true
+
 -- memory stays valid; where all was written, what is left of a chunk leads to the state that the whole of it leads to
 pub record Onward (s : ℕ) (bytes left : List ℕ) (m m′ : Memory) (room : ℕ) (written : Bool) : Type 0 where
   pub stays : valid m ≡ true → valid m′ ≡ true

@@ -3,7 +3,7 @@ ghost use mathlib.Core.Path.{_≡_};
 ghost use Prim.Native.Nat.{_≤_};
 ghost use lib.ListN.{length};
 ghost use Rattle.valid.specs.Meaning.{memoryOf};
-ghost use Rattle.obriska.specs.Serving.{bufferBytes, Steps, Serves, Room, Refilled, Advances};
+ghost use Rattle.obriska.specs.Serving.{bufferBytes, Ready, Steps, Serves, Room, Refilled, Advances};
 use handle::Handles;
 use libc::STDIN_FILENO;
 use libc::STDOUT_FILENO;
@@ -199,7 +199,7 @@ fn run(
     stations: &mut [u64],
     pending: &mut [u8],
 )
-    requires { ⌜ length (now buffer) ≡ bufferBytes ⌝ }
+    requires { ⌜ Ready (now buffer) (now answer) (memoryOf (now tokens) (now dacls) (handles .items) (now stations) (now pending)) ⌝ }
 {
     let mut held = handles;
     let mut left = CHUNKS;

@@ -1,5 +1,5 @@
 -- Over any list of calls from the start: the state is valid, and what lasts of the tokens lasts. Assumes nothing.
-use Prim.Native.Nat.{ℕ, suc, _+_, _*_, _-_, _<_}
+use Prim.Native.Nat.{ℕ, suc, _+_, _*_, _-_, _≤_, _<_}
 use native.Mathlib.Omega.{arith}
 use mathlib.Core.Path.{_≡_, refl, sym, ap, _∙_, subst}
 use mathlib.Core.Bool.{true, _||_}
@@ -11,11 +11,13 @@ use borrow.Author.Tests.{leb-false}
 use Rattle.rules.specs.Basic.{if_then_else_, implies, all, isEmpty}
 use Rattle.rules.specs.Bits.{within}
 use Rattle.rules.specs.Frame.{maxBody, maxAnswer, secondOf, lengthOf, framedBy, framed, Length, Framed, unread, invalid, size, part, broken, whole}
-use Rattle.rules.specs.Growth.{Live, Mem, Follows, Later, here, there}
+use Rattle.rules.specs.Growth.{Live, LiveHandle, Mem, Follows, Later, HandlesLater, here, there}
+use Rattle.rules.specs.Handle.{Handle}
+use Rattle.rules.specs.Number.{max32, max64}
 use Rattle.rules.specs.Model.{joined, byteAt, step, refused, fedFrom, feed, Step, Result, silent, answers}
 use Rattle.rules.specs.Refusal.{noStation, shortBuffer}
 use Rattle.rules.specs.Run.{returned, after, answered, ofBytes, eventsOf, events, happens, stateOf, told, afterEvents, answersTo, Call, Event, feeds, reconnects, byte, reconnected}
-use Rattle.rules.specs.State.{stationCount, start, withStations, stationAt, changeStation, numberOf, stationToken, State}
+use Rattle.rules.specs.State.{stationCount, start, withStations, stationAt, changeStation, numberOf, handleNumber, stationToken, State}
 use Rattle.rules.specs.Station.{startStation, withPending, cleared, brokenOff, Station}
 use Rattle.rules.specs.Token.{Token}
 use Rattle.rules.specs.Valid.{isByte, isPart, streamValid, valid}
@@ -24,7 +26,7 @@ use Rattle.rules.specs.Throughout.{IsAnswer}
 use Rattle.rules.proofs.Logic.{and-l, and-r, and-i, all-mem, mem-none, mem-append, getD-mem, map-mem, mem-map, all-append}
 use Rattle.rules.proofs.Tables.{on-if, only-one}
 use Rattle.rules.proofs.Facts.{StateFacts, valid-facts, facts-valid}
-use Rattle.rules.proofs.Changes.{later-refl, stream-facts}
+use Rattle.rules.proofs.Changes.{later-refl, handles-refl, stream-facts}
 use Rattle.rules.proofs.PrivilegesKept.{sound}
 use Rattle.rules.proofs.Steps.{Advance, stays, _then_}
 use Rattle.rules.proofs.Kept.{serve-step}
@@ -71,7 +73,7 @@ in-frame bytes h = by-length (lengthOf bytes) (first bytes h)
 streams : (p : State) (s : ℕ) (f : Station → Station) → ((x : Station) → stationToken (f x) ≡ stationToken x)
     → ((x : Station) → streamValid (f x) ≡ true) → StateFacts p → Advance p (changeStation s f p)
 unfolding changeStation withStations
-streams p s f e ok k = record { facts = stream-facts p s f e (λ x m. ok x) k; later = later-refl (p .tokens) }
+streams p s f e ok k = record { facts = stream-facts p s f e (λ x m. ok x) k; later = later-refl (p .tokens); handles = handles-refl (p .handles) }
 
 pub clears : (p : State) (s : ℕ) → StateFacts p → Advance p (changeStation s cleared p)
 unfolding cleared withPending stationToken streamValid all isPart framed framedBy lengthOf implies
@@ -189,6 +191,33 @@ lasts cs ds wc wd t u mt mu e =
 -- and no number is given twice: a token that is live later was there before, or its number had not been given
 pub never-again : (cs ds : List Call) → all ofBytes cs ≡ true → all ofBytes ds ≡ true → Later (after cs start .tokens) (after ds (after cs start) .tokens)
 never-again cs ds wc wd = run-step ds (after cs start) wd (started cs wc .facts) .later
+
+-- the same of handles, which never change: a handle that is live at two times is the same one
+pub handles-later : (cs ds : List Call) → all ofBytes cs ≡ true → all ofBytes ds ≡ true → HandlesLater (after cs start .handles) (after ds (after cs start) .handles)
+handles-later cs ds wc wd = run-step ds (after cs start) wd (started cs wc .facts) .handles
+
+handle-given : (cs : List Call) → all ofBytes cs ≡ true → (h : Handle) → LiveHandle h (after cs start) → (1 ≤ h .number) × (h .number < after cs start .handles .next)
+unfolding LiveHandle handleNumber
+handle-given cs w h m = started cs w .facts .loose .handles .given (h .number) (map-mem handleNumber m)
+
+pub handle-kept : (cs ds : List Call) → all ofBytes cs ≡ true → all ofBytes ds ≡ true
+    → (h k : Handle) → LiveHandle h (after cs start) → LiveHandle k (after ds (after cs start)) → k .number ≡ h .number → k ≡ h
+unfolding LiveHandle handleNumber
+handle-kept cs ds wc wd h k mh mk e =
+    let below = handle-given cs wc h mh .1 in
+    let was = handles-later cs ds wc wd .old k mk (omega arith) in
+    only-one handleNumber (after cs start .handles .slots) (started cs wc .facts .loose .handles .apart) was mh e
+
+-- numbers are from 1, and the largest of their type is never given
+pub handle-numbers : (cs : List Call) → all ofBytes cs ≡ true → (h : Handle) → LiveHandle h (after cs start) → (1 ≤ h .number) × (h .number < max32)
+handle-numbers cs w h m =
+    let g = handle-given cs w h m in let below = g .1 in let high = started cs w .facts .loose .handles .high in (g .0, omega arith)
+
+pub token-numbers : (cs : List Call) → all ofBytes cs ≡ true → (t : Token) → Live t (after cs start) → (1 ≤ t .number) × (t .number < max64)
+unfolding Live numberOf
+token-numbers cs w t m =
+    let f = started cs w .facts .loose .tokens in
+    let g = f .given (t .number) (map-mem numberOf m) in let below = g .1 in let high = f .high in (g .0, omega arith)
 
 -- enabled privileges are among the present ones
 pub enabled-present : (cs : List Call) → all ofBytes cs ≡ true → (t : Token) → Live t (after cs start) → within (t .privileges .enabled) (t .privileges .present) ≡ true

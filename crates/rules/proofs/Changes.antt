@@ -8,7 +8,7 @@ use mathlib.Core.Logic.{_⊎_, inl, inr, ⊎-elim}
 use mathlib.Core.List.{List, [], _∷_, map}
 use Rattle.rules.specs.Basic.{changeAt}
 use Rattle.rules.specs.Decision.{canIssue}
-use Rattle.rules.specs.Growth.{Mem, Follows, Before, Later}
+use Rattle.rules.specs.Growth.{Mem, Follows, Before, Later, HandlesLater}
 use Rattle.rules.specs.Handle.{isHandle, Handle}
 use Rattle.rules.specs.Number.{max32, max64}
 use Rattle.rules.specs.State.{tokenSlots, handleSlots, withTokens, withHandles, withStations, changeStation, setToken, numberOf, isNumbered, putToken, canAddToken, addToken, handleNumber, canAddHandle, addHandle, dropHandle, handleToken, stationToken, references, isReferred, released, State}
@@ -51,6 +51,26 @@ later-trans x y z a b =
           let q = a .old u (p .was) (let e = p .follows .number in omega arith) in
           record { token = q .token; was = q .was; follows = follows-trans (q .token) u v (q .follows) (p .follows) };
     }
+
+pub handles-refl : (x : Table Handle) → HandlesLater x x
+handles-refl x = record { next = le-refl _; old = λ h m k. m }
+
+pub handles-trans : (x y z : Table Handle) → HandlesLater x y → HandlesLater y z → HandlesLater x z
+handles-trans x y z a b =
+    record { next = le-trans (a .next) (b .next); old = λ h m k. a .old h (b .old h m (let g = a .next in omega arith)) k }
+
+-- a new handle has the next number, and a dropped one leaves the others as they were
+pub handle-later : (d : State) (s n mask : ℕ) → HandlesLater (d .handles) (addHandle s n mask d .handles)
+unfolding addHandle withHandles added
+handle-later d s n mask =
+    record {
+      next = omega arith;
+      old = λ h m k. ⊎-elim (λ e. absurd (let q = ap (λ (x : Handle). x .number) e in omega arith)) (λ i. i) (in-placed _ (d .handles .slots) m);
+    }
+
+pub drop-later : (d : State) (s n : ℕ) → HandlesLater (d .handles) (dropHandle s n d .handles)
+unfolding dropHandle withHandles withSlots
+drop-later d s n = record { next = le-refl _; old = λ h m k. in-freed handleNumber (isHandle s n) (d .handles .slots) m }
 
 -- ---- a token is put in the place of one that it follows
 
@@ -210,7 +230,7 @@ token-loose d s t was p l =
         ⊎-elim (λ y. inl (r .2 ∙ ap stationToken (y .2))) (λ c. inr (mem-by stationToken (r .2) c)) (mem-changeAt (d .stations) s (withToken (t .number)) (r .1))
 
 -- a change of a station's stream alone
-same-tokens : (f : Station → Station) → ((x : Station) → stationToken (f x) ≡ stationToken x) → (s : ℕ) (xs : List Station) → map stationToken (changeAt s f xs) ≡ map stationToken xs
+pub same-tokens : (f : Station → Station) → ((x : Station) → stationToken (f x) ≡ stationToken x) → (s : ℕ) (xs : List Station) → map stationToken (changeAt s f xs) ≡ map stationToken xs
 unfolding changeAt
 same-tokens f e s [] = refl
 same-tokens f e zero (x ∷ xs) = ap (λ (n : ℕ). n ∷ map stationToken xs) (e x)

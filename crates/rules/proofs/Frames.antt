@@ -12,7 +12,7 @@ use Rattle.rules.specs.Frame.{maxBody, frame, size, secondOf, lengthOf, 
 use Rattle.rules.proofs.Numbers.{below-or, encode-one, encode-more}
 
 -- the length of n is read as n, before the bytes after it
-length-read : (n : ℕ) (bytes : List ℕ) → 1 ≤ n → n ≤ maxBody → lengthOf (encode n ++ bytes) ≡ size n bytes
+pub length-read : (n : ℕ) (bytes : List ℕ) → 1 ≤ n → n ≤ maxBody → lengthOf (encode n ++ bytes) ≡ size n bytes
 unfolding lengthOf secondOf
 length-read n bytes low high = ⊎-elim
     (λ l. rw (encode-one n l) (simp (ne-eqb n 0 (omega arith), lt-ltb n 128 l)))

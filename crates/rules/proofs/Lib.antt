@@ -19,9 +19,13 @@ pub mod Runs
 pub mod Always
 pub mod Sources
 pub mod Released
+pub mod Bound
+pub mod Served
 pub mod Throughout
 pub mod Same
 pub mod Rows
 pub mod Memory
 pub mod WholeList
+pub mod AnyMemory
+pub mod Framing
 pub mod Cases

@@ -18,7 +18,7 @@ use Rattle.rules.specs.Privileges.{remove, onlyUsed}
 use Rattle.rules.specs.Request as Request
 use Rattle.rules.specs.Request.{parse, Request}
 use Rattle.rules.specs.Restrict as Restrict
-use Rattle.rules.specs.Run.{ofBytes, events, happens, stateOf, servedBy, servedAt, servings, Call, Event, Serving, byte, reconnected}
+use Rattle.rules.specs.Run.{ofBytes, events, happens, stateOf, outcomeOf, outcomeAt, outcomes, Call, Event, Serving, serves, byte, reconnected}
 use Rattle.rules.specs.Serve.{rule, decided, decision, serve}
 use Rattle.rules.specs.State.{start, withTokens, withHandles, stationAt, changeStation, numberOf, tokenOf, addToken, findHandle, handleOf, addHandle, State}
 use Rattle.rules.specs.Station.{cleared}
@@ -104,25 +104,26 @@ of-serving : (x : Serving) → StateFacts (x .before) → NoMore x
 unfolding NoMore serve decision Fresh
 of-serving x f t u e m h = made (x .before) f t (decision (x .before) (x .station) (x .body)) (of-request (x .before) f t (x .station) (parse (x .body)) e) u m h
 
-before : (p : State) (e : Event) (x : Serving) → Mem x (servedAt p e) → x .before ≡ changeStation (x .station) cleared p
-unfolding servedAt servedBy
+before : (p : State) (e : Event) (x : Serving) → Mem (serves x) (outcomeAt p e) → x .before ≡ changeStation (x .station) cleared p
+unfolding outcomeAt outcomeOf
 before p (reconnected s) x m = absurd (mem-none m)
 before p (byte s b) x m = go (stationAt p s .isBroken) (framed (stationAt p s .pending ++ (b ∷ []))) m
   where
-    go : (t : Bool) (y : Framed) → Mem x (if t then [] else servedBy p s y) → x .before ≡ changeStation (x .station) cleared p
+    go : (t : Bool) (y : Framed) → Mem (serves x) (if t then [] else outcomeOf p s y) → x .before ≡ changeStation (x .station) cleared p
     go true y m = absurd (mem-none m)
     go false part m = absurd (mem-none m)
-    go false broken m = absurd (mem-none m)
+    go false broken (here e) = absurd (let z : _≡_ {A = ℕ} 0 1 = cc in omega arith)
+    go false broken (there m) = absurd (mem-none m)
     go false (whole body) (here e) = cc
     go false (whole body) (there m) = absurd (mem-none m)
 
-of-events : (es : List Event) (p : State) → ((e : Event) → Mem e es → Happens e) → StateFacts p → (x : Serving) → Mem x (servings es p) → NoMore x
-unfolding servings
+of-events : (es : List Event) (p : State) → ((e : Event) → Mem e es → Happens e) → StateFacts p → (x : Serving) → Mem (serves x) (outcomes es p) → NoMore x
+unfolding outcomes
 of-events [] p h f x m = absurd (mem-none m)
 of-events (e ∷ es) p h f x m =
     ⊎-elim (λ k. of-serving x (subst StateFacts (sym (before p e x k)) (clears p (x .station) f .facts)))
     (of-events es (stateOf (happens p e)) (λ y k. h y (there k)) (event-step p e (h e (here refl)) f .facts) x)
-    (mem-append (servedAt p e) m)
+    (mem-append (outcomeAt p e) m)
 
-pub no-more : (cs : List Call) → all ofBytes cs ≡ true → (x : Serving) → Mem x (servings (events cs start) start) → NoMore x
+pub no-more : (cs : List Call) → all ofBytes cs ≡ true → (x : Serving) → Mem (serves x) (outcomes (events cs start) start) → NoMore x
 no-more cs w = of-events (events cs start) start (run-happens cs start w) start-facts

@@ -1,4 +1,4 @@
--- A request that succeeds takes a valid state to a valid one, and what lasts of its tokens lasts. Assumes nothing.
+-- A request that succeeds takes a valid state to a valid one, and what lasts of its tokens and handles lasts. Assumes nothing.
 use Prim.Native.Nat.{ℕ, _-_, _<_}
 use mathlib.Core.Path.{_≡_, refl}
 use mathlib.Core.Bool.{true, false}
@@ -7,10 +7,10 @@ use mathlib.Core.List.{map}
 use lib.Dec.{eqb}
 use borrow.Author.Tests.{eqb-true, lt-ltb}
 use Rattle.rules.specs.Decision.{carriedOut, withHandle, canIssue, Decision, need_else_then_, success}
-use Rattle.rules.specs.Growth.{Mem, Follows, Later, here}
+use Rattle.rules.specs.Growth.{Mem, Follows, Later, HandlesLater, here}
 use Rattle.rules.specs.Handle.{noHandle, isHandle, Handle}
 use Rattle.rules.specs.Mask.{validMask}
-use Rattle.rules.specs.State.{stationCount, withHandles, withStations, stationAt, changeStation, setToken, numberOf, isNumbered, tokenOf, callerNumber, changeToken, canAddToken, addToken, findHandle, handleOf, canAddHandle, addHandle, dropHandle, handleToken, stationToken, references, released, State}
+use Rattle.rules.specs.State.{stationCount, withHandles, withStations, stationAt, changeStation, setToken, numberOf, isNumbered, tokenOf, callerNumber, putToken, withTokens, changeToken, canAddToken, addToken, findHandle, handleOf, canAddHandle, addHandle, dropHandle, handleToken, stationToken, references, released, State}
 use Rattle.rules.specs.Station.{startStation}
 use Rattle.rules.specs.Table.{isLive, orElse, lives, found, live}
 use Rattle.rules.specs.Token.{primary, Token}
@@ -18,18 +18,19 @@ use Rattle.rules.specs.Valid.{handleValid}
 use Rattle.rules.proofs.Logic.{and-l, and-r, and-i, getD-mem, map-mem}
 use Rattle.rules.proofs.Tables.{live-slot, found-in, found-some}
 use Rattle.rules.proofs.Facts.{TokenFacts, Loose, StateFacts}
-use Rattle.rules.proofs.Changes.{later-refl, later-trans, numbersOf, by-handle, by-station, put-loose, put-later, put-reached, add-loose, add-later, handle-loose, handle-reached, drop-loose, token-loose, release-facts, release-later, add-reached, add-there, add-room}
+use Rattle.rules.proofs.Changes.{later-refl, later-trans, handles-refl, handles-trans, handle-later, drop-later, numbersOf, by-handle, by-station, put-loose, put-later, put-reached, add-loose, add-later, handle-loose, handle-reached, drop-loose, token-loose, release-facts, release-later, add-reached, add-there, add-room}
 
 pub record Advance (d e : State) : Type 0 where
   pub facts : StateFacts e
   pub later : Later (d .tokens) (e .tokens)
+  pub handles : HandlesLater (d .handles) (e .handles)
 
 pub stays : {d : State} → StateFacts d → Advance d d
-stays f = record { facts = f; later = later-refl _ }
+stays f = record { facts = f; later = later-refl _; handles = handles-refl _ }
 
 infixr 3 _then_
 pub _then_ : {d e f : State} → Advance d e → Advance e f → Advance d f
-_then_ a b = record { facts = b .facts; later = later-trans _ _ _ (a .later) (b .later) }
+_then_ a b = record { facts = b .facts; later = later-trans _ _ _ (a .later) (b .later); handles = handles-trans _ _ _ (a .handles) (b .handles) }
 
 -- ---- the token of a number that is given
 
@@ -51,12 +52,13 @@ is-caller d s f h = f .loose .live (callerNumber d s) (by-station d (map-mem sta
 -- ---- the steps
 
 pub change : (d : State) (n : ℕ) (f : Token → Token) → StateFacts d → Is d n → TokenFacts (f (tokenOf d n)) → Follows (tokenOf d n) (f (tokenOf d n)) → Advance d (changeToken n f d)
-unfolding changeToken
+unfolding changeToken putToken withTokens
 change d n f k i g h =
     let t = tokenOf d n in
     record {
       facts = record { loose = put-loose d t (f t) (i .was) h g (k .loose); reached = put-reached d t (f t) (i .was) h (k .reached) };
       later = put-later d t (f t) (i .was) h;
+      handles = handles-refl (d .handles);
     }
 
 handle-ok : (s number token mask : ℕ) → s < stationCount → validMask mask ≡ true → handleValid (record { station = s; number = number; token = token; mask = mask }) ≡ true
@@ -71,11 +73,11 @@ handle-facts d s n mask l r h m room on =
 pub open-step : (d : State) (s n mask : ℕ) → StateFacts d → s < stationCount → validMask mask ≡ true → canAddHandle d ≡ true → Mem n (numbersOf d) → Advance d (addHandle s n mask d)
 unfolding addHandle withHandles
 open-step d s n mask f h m room on =
-    record { facts = handle-facts d s n mask (f .loose) (λ k i. inr (f .reached k i)) h m room on; later = later-refl (d .tokens) }
+    record { facts = handle-facts d s n mask (f .loose) (λ k i. inr (f .reached k i)) h m room on; later = later-refl (d .tokens); handles = handle-later d s n mask }
 
 -- a token is made, and a handle on it
 pub issue-step : (d : State) (s mask : ℕ) (t : Token) → StateFacts d → s < stationCount → validMask mask ≡ true → canIssue d ≡ true → t .number ≡ d .tokens .next → TokenFacts t → Advance d (addHandle s (t .number) mask (addToken t d))
-unfolding addHandle withHandles canIssue
+unfolding addHandle withHandles canIssue addToken withTokens
 issue-step d s mask t f h m room e g =
     let room1 = and-l (canAddHandle d) (canAddToken d) room in
     let room2 = and-r (canAddHandle d) (canAddToken d) room in
@@ -83,16 +85,22 @@ issue-step d s mask t f h m room e g =
       facts =
           handle-facts (addToken t d) s (t .number) mask (add-loose d t e room2 g (f .loose)) (add-reached d t (f .reached)) h m (add-room d t room1) (add-there d t room2);
       later = add-later d t e;
+      handles = handle-later (addToken t d) s (t .number) mask;
     }
 
 pub close-step : (d : State) (s n : ℕ) → StateFacts d → Advance d (released (dropHandle s n d))
-unfolding dropHandle withHandles
-close-step d s n f = record { facts = release-facts (dropHandle s n d) (drop-loose d s n (f .loose)); later = release-later (dropHandle s n d) }
+unfolding dropHandle withHandles released withTokens
+close-step d s n f =
+    record { facts = release-facts (dropHandle s n d) (drop-loose d s n (f .loose)); later = release-later (dropHandle s n d); handles = drop-later d s n }
 
 pub token-step : (d : State) (s : ℕ) (t : Token) → StateFacts d → Mem t (lives (d .tokens .slots)) → t .identity .type ≡ primary → Advance d (released (setToken s (t .number) d))
-unfolding setToken changeStation withStations
+unfolding setToken changeStation withStations released withTokens
 token-step d s t f m p =
-    record { facts = release-facts (setToken s (t .number) d) (token-loose d s t m p (f .loose)); later = release-later (setToken s (t .number) d) }
+    record {
+      facts = release-facts (setToken s (t .number) d) (token-loose d s t m p (f .loose));
+      later = release-later (setToken s (t .number) d);
+      handles = handles-refl (d .handles);
+    }
 
 -- ---- how a request is decided: where its checks pass, its effect is a step
 

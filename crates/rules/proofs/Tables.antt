@@ -11,7 +11,7 @@ use borrow.Author.Tests.{eqb-true, eq-eqb}
 use Rattle.rules.specs.Basic.{if_then_else_, distinct}
 use Rattle.rules.specs.Growth.{Mem, here, there}
 use Rattle.rules.specs.Table.{isLive, orElse, lives, someFree, found, placed, exchanged, retained, Slot, free, live}
-use Rattle.rules.proofs.Logic.{not-both, mem-by, mem-map, distinct-head, distinct-tail, distinct-cons}
+use Rattle.rules.proofs.Logic.{not-both, mem-none, mem-by, mem-map, distinct-head, distinct-tail, distinct-cons}
 
 -- a property of both picks holds of the pick; and knowing the test
 pub on-if : {A : Type 0} (P : A → Type 0) (b : Bool) (x y : A) → (b ≡ true → P x) → (b ≡ false → P y) → P (if b then x else y)
@@ -70,6 +70,17 @@ module _ {A : Type 0} where
         go : (b : Bool) → f c ≡ b → (if b then live c else found f ps) ≡ live a → (found f ps ≡ live a → Mem a (lives ps) × (f a ≡ true)) → Mem a (c ∷ lives ps) × (f a ≡ true)
         go true t e ih = let q : c ≡ a = cc in (here (sym q), ap f (sym q) ∙ t)
         go false t e ih = let r = ih e in (there (r .0), r .1)
+
+    pub found-none : (ps : List (Slot A)) {a : A} → found f ps ≡ free → Mem a (lives ps) → f a ≡ true → ⊥
+    unfolding found lives
+    found-none [] e m h = mem-none m
+    found-none (free ∷ ps) e m h = found-none ps e m h
+    found-none (live c ∷ ps) {a} e m h = go (f c) refl e m (λ k i. found-none ps k i h)
+      where
+        go : (b : Bool) → f c ≡ b → (if b then live c else found f ps) ≡ free → Mem a (c ∷ lives ps) → (found f ps ≡ free → Mem a (lives ps) → ⊥) → ⊥
+        go true t e m ih = let z : _≡_ {A = ℕ} 0 1 = cc in omega arith
+        go false t e (here q) ih = not-both h (ap f q ∙ t)
+        go false t e (there m) ih = ih e m
 
     pub in-exchanged : (p : Slot A) (ps : List (Slot A)) {b : A} → Mem b (lives (exchanged f p ps)) → (p ≡ live b) ⊎ Mem b (lives ps)
     unfolding exchanged lives

@@ -1,7 +1,7 @@
 -- Demand 3 over lent memory: each call does to the memory what the model does to the state that it stands for. Assumes nothing.
 use Prim.Native.Nat.{ℕ, _+_}
 use native.Mathlib.Omega.{arith}
-use mathlib.Core.Path.{_≡_, refl, sym, ap, ap₂, _∙_, subst}
+use mathlib.Core.Path.{_≡_, refl, sym, ap, _∙_, subst}
 use mathlib.Core.Bool.{Bool, true, false}
 use mathlib.Core.List.{List, [], _∷_}
 use lib.Dec.{leb, ltb}
@@ -11,14 +11,14 @@ use Rattle.rules.specs.State.{State, start, stationCount}
 use Rattle.rules.specs.Frame.{maxAnswer}
 use Rattle.rules.specs.Model.{Result, Step, silent, answers, step, refused, fedOn, fedFrom, feed, reconnect}
 use Rattle.rules.specs.Valid as Valid
-use Rattle.rules.specs.Memory.{Memory, encode, decode, valid}
-use Rattle.rules.specs.Run.{Call, feeds, reconnects, returned, after, ofBytes, events}
+use Rattle.rules.specs.Memory.{Memory, sized, encode, decode, valid}
+use Rattle.rules.specs.Run.{Call, feeds, reconnects, returned, after, ofBytes}
 use Rattle.rules.specs.Growth.{Mem, here, there}
-use Rattle.rules.specs.Calls.{Done, refusedOn, written, feedOn, reconnectOn}
+use Rattle.rules.specs.Calls.{Done, refusedOn, written, startOn, feedOn, reconnectOn}
 use Rattle.rules.specs.WholeList.{Return, doneBy, memoryAfter, returnsOn, returnsOf, WholeList}
 use Rattle.rules.proofs.Logic.{and-l, and-r, and-i, mem-none}
 use Rattle.rules.proofs.Tables.{on-if}
-use Rattle.rules.proofs.Facts.{StateFacts, valid-facts, facts-valid}
+use Rattle.rules.proofs.Facts.{StateFacts, facts-valid}
 use Rattle.rules.proofs.Always.{run-step, start-facts}
 use Rattle.rules.proofs.Runs.{cutting}
 use Rattle.rules.proofs.Memory.{read-back, written-valid}
@@ -38,7 +38,7 @@ module _ (σ : State) (v : Valid.valid σ ≡ true) where
   unfolding reconnect
   no-station s e = rw e
 
-  call-done : (c : Call) → doneBy (encode σ) c ≡ written (returned σ c)
+  pub call-done : (c : Call) → doneBy (encode σ) c ≡ written (returned σ c)
   unfolding doneBy returned feedOn feed reconnectOn
   call-done (feeds s chunk room) = feeding (leb stationCount s) (ltb room maxAnswer)
     where
@@ -55,7 +55,7 @@ module _ (σ : State) (v : Valid.valid σ ≡ true) where
 
 -- ---- a list of calls, from any valid state
 
-call-valid : (σ : State) (c : Call) → ofBytes c ≡ true → StateFacts σ → StateFacts (returned σ c .after)
+pub call-valid : (σ : State) (c : Call) → ofBytes c ≡ true → StateFacts σ → StateFacts (returned σ c .after)
 unfolding after all
 call-valid σ c w f = run-step (c ∷ []) σ (and-i w refl) f .facts
 
@@ -80,19 +80,19 @@ returns-are (c ∷ cs) σ w f =
 Returns : Result → Type 0
 Returns r = r .refusal ≡ invalidMemory → ⊥
 
-fed-returns : (bytes : List ℕ) (n s : ℕ) (σ : State) → Returns (fedFrom n s bytes σ)
-unfolding fedFrom fedOn Returns
-fed-returns [] n s σ = λ e. omega arith
-fed-returns (b ∷ bytes) n s σ = on-step (step σ s b) (fed-returns bytes (n + 1) s)
+pub fed-taken : (bytes : List ℕ) (n s : ℕ) (σ : State) → fedFrom n s bytes σ .refusal ≡ 0
+unfolding fedFrom fedOn
+fed-taken [] n s σ = refl
+fed-taken (b ∷ bytes) n s σ = on-step (step σ s b) (fed-taken bytes (n + 1) s)
   where
-    on-step : (x : Step) → ((τ : State) → Returns (fedFrom (n + 1) s bytes τ)) → Returns (fedOn (n + 1) (λ τ. fedFrom (n + 1) s bytes τ) x)
+    on-step : (x : Step) → ((τ : State) → fedFrom (n + 1) s bytes τ .refusal ≡ 0) → fedOn (n + 1) (λ τ. fedFrom (n + 1) s bytes τ) x .refusal ≡ 0
     on-step (silent τ) ih = ih τ
-    on-step (answers a τ) ih = λ e. omega arith
+    on-step (answers a τ) ih = refl
 
 call-returns : (σ : State) (c : Call) → Returns (returned σ c)
 unfolding returned feed reconnect refused Returns
 call-returns σ (feeds s chunk room) =
-    on-if Returns (leb stationCount s) _ _ (λ t e. omega arith) (λ t. on-if Returns (ltb room maxAnswer) _ _ (λ u e. omega arith) (λ u. fed-returns chunk 0 s σ))
+    on-if Returns (leb stationCount s) _ _ (λ t e. omega arith) (λ t. on-if Returns (ltb room maxAnswer) _ _ (λ u e. omega arith) (λ u e. let z = fed-taken chunk 0 s σ in omega arith))
 call-returns σ (reconnects s) = on-if Returns (leb stationCount s) _ _ (λ t e. omega arith) (λ t e. omega arith)
 
 not13 : (cs : List Call) (σ : State) (r : Return) → Mem r (returnsOf cs σ) → r .refusal ≡ invalidMemory → ⊥
@@ -101,11 +101,17 @@ not13 [] σ r m q = mem-none m
 not13 (c ∷ cs) σ r (here e) q = call-returns σ c (sym (ap (λ (x : Return). x .refusal) e) ∙ q)
 not13 (c ∷ cs) σ r (there m) q = not13 cs (returned σ c .after) r m q
 
+-- start overwrites any memory of the right size
+from-start : (m : Memory) → sized m ≡ true → startOn m .memory ≡ encode start
+unfolding startOn
+from-start m h = rw h
+
 -- every list of calls, of bytes
 pub whole-list : (cs : List Call) → all ofBytes cs ≡ true → WholeList cs
 whole-list cs w =
     let mine = memory-is cs start w start-facts in
     record {
+      fromStart = from-start;
       memory = mine;
       returns = returns-are cs start w start-facts;
       never13 = λ r m. not13 cs start r (subst (Mem r) (returns-are cs start w start-facts) m);

@@ -26,7 +26,7 @@ validGroup gs i = leb i (length gs)
 
 -- flag 0 goes with no bytes, flag 1 with at most 256
 unfoldable pub validDacl : ℕ → List ℕ → Bool
-validDacl flag bytes = eqb flag 0 && isEmpty bytes || eqb flag 1 && leb (length bytes) maxDacl
+validDacl flag bytes = (eqb flag 0 && isEmpty bytes) || (eqb flag 1 && leb (length bytes) maxDacl)
 
 unfoldable pub validDefaults : Token → ℕ → ℕ → ℕ → List ℕ → Bool
 validDefaults t owner group flag bytes =

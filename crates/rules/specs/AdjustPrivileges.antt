@@ -21,7 +21,7 @@ isReset es = isOnly 0 0x80000000 es
 
 -- 0 disable, 2 enable, 4 remove; an absent one is not enabled
 unfoldable pub validEntry : Privileges → Entry → Bool
-validEntry p e = exists e.key && (eqb e.value 0 || eqb e.value 4 || eqb e.value 2 && has e.key p.present)
+validEntry p e = exists e.key && (eqb e.value 0 || eqb e.value 4 || (eqb e.value 2 && has e.key p.present))
 
 unfoldable pub applied : Entry → Privileges → Privileges
 applied e p =

@@ -1,4 +1,4 @@
--- What lasts while a token lives, between an earlier and a later state: demand 3's 'all along'. Assumes nothing.
+-- What lasts while a token or a handle lives, between an earlier and a later state: demand 3's 'all along'. Assumes nothing.
 use Prim.Native.Nat.{ℕ, _≤_, _<_}
 use mathlib.Core.Path.{_≡_}
 use mathlib.Core.Bool.{true}
@@ -27,6 +27,10 @@ sidOf g = g.sid
 unfoldable pub Live : Token → State → Type 0
 Live t σ = Mem t (lives (σ .tokens .slots))
 
+-- the handle is live
+unfoldable pub LiveHandle : Handle → State → Type 0
+LiveHandle h σ = Mem h (lives (σ .handles .slots))
+
 -- u can be the token t at a later time
 pub record Follows (t u : Token) : Type 0 where
   pub number : u .number ≡ t .number
@@ -50,6 +54,17 @@ pub record Before (x : Table Token) (u : Token) : Type 0 where
 pub record Later (x y : Table Token) : Type 0 where
   pub next : x .next ≤ y .next
   pub old : (u : Token) → Mem u (lives (y .slots)) → u .number < x .next → Before x u
+
+-- y can be the handles x at a later time: each of its handles has a number that x had not yet given, or was there with the same station,
+-- token and mask
+pub record HandlesLater (x y : Table Handle) : Type 0 where
+  pub next : x .next ≤ y .next
+  pub old : (h : Handle) → Mem h (lives (y .slots)) → h .number < x .next → Mem h (lives (x .slots))
+
+-- handle n of station s is h in τ, as it was in σ, and stands for the same token
+pub record StillHandle (σ τ : State) (s n : ℕ) (h : Handle) : Type 0 where
+  pub found : findHandle τ s n ≡ live h
+  pub token : Follows (tokenOf σ (h .token)) (tokenOf τ (h .token))
 
 -- ---- a token made from another: its source is the one that request 9 or 10 copies
 

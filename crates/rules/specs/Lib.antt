@@ -35,4 +35,6 @@ pub mod Memory
 pub mod Throughout
 pub mod Calls
 pub mod WholeList
+pub mod AnyMemory
+pub mod Framing
 pub mod Cases

@@ -1,13 +1,16 @@
 -- Lists of calls, and what counts of them: the used bytes and the reconnects, with their stations. Assumes nothing.
-use Prim.Native.Nat.{ℕ, zero, suc}
+use Prim.Native.Nat.{ℕ, zero, suc, _+_}
+use mathlib.Core.Path.{_≡_}
 use mathlib.Core.Bool.{Bool, true}
 use mathlib.Core.List.{List, [], _∷_, _++_, map}
-use lib.ListN.{take, drop}
+use lib.ListN.{length, take, drop}
 use lib.Dec.{leb}
 use Rattle.rules.specs.Basic.{if_then_else_, all}
-use Rattle.rules.specs.Frame.{Framed, part, broken, whole, framed}
+use Rattle.rules.specs.Frame.{Framed, part, broken, whole, framed, frame}
 use Rattle.rules.specs.Station.{cleared}
-use Rattle.rules.specs.State.{State, stationCount, stationAt, changeStation}
+use Rattle.rules.specs.State.{State, stationCount, stationAt, changeStation, stationToken}
+use Rattle.rules.specs.Decision.{Served}
+use Rattle.rules.specs.Serve.{serve}
 use Rattle.rules.specs.Model.{Result, Step, silent, answers, step, feed, reconnect}
 use Rattle.rules.specs.Valid.{isByte}
 
@@ -74,6 +77,40 @@ unfoldable pub answersTo : List Event → State → List (List ℕ)
 answersTo [] σ = []
 answersTo (e ∷ es) σ = told (happens σ e) (answersTo es (stateOf (happens σ e)))
 
+-- ---- when and where an answer comes: with which event, counted from 1, and at which station
+
+pub record Timed : Type 0 where
+  pub event : ℕ
+  pub station : ℕ
+  pub answer : List ℕ
+
+unfoldable pub stationOf : Call → ℕ
+stationOf (feeds s chunk room) = s
+stationOf (reconnects s) = s
+
+unfoldable pub notedAt : ℕ → ℕ → List ℕ → List Timed → List Timed
+notedAt n s [] rest = rest
+notedAt n s (b ∷ bytes) rest = record { event = n; station = s; answer = b ∷ bytes } ∷ rest
+
+-- of calls, n events after the start: a call's answer comes with its last event
+unfoldable pub timed : ℕ → List Call → State → List Timed
+timed n [] σ = []
+timed n (c ∷ cs) σ =
+    let k = n + length (eventsOf σ c) in notedAt k (stationOf c) (returned σ c .answer) (timed k cs (returned σ c .after))
+
+unfoldable pub placeOf : Event → ℕ
+placeOf (byte s b) = s
+placeOf (reconnected s) = s
+
+unfoldable pub toldAt : ℕ → ℕ → Step → List Timed → List Timed
+toldAt n s (silent σ) rest = rest
+toldAt n s (answers a σ) rest = record { event = n; station = s; answer = a } ∷ rest
+
+-- of events, one by one: an answer comes with the event that brings it
+unfoldable pub timedTo : ℕ → List Event → State → List Timed
+timedTo n [] σ = []
+timedTo n (e ∷ es) σ = toldAt (n + 1) (placeOf e) (happens σ e) (timedTo (n + 1) es (stateOf (happens σ e)))
+
 -- ---- a chunk fed until it is used up, in at most k feeds
 
 unfoldable pub untilUsed : ℕ → State → ℕ → List ℕ → ℕ → List Call
@@ -82,22 +119,55 @@ untilUsed (suc k) σ s [] room = []
 untilUsed (suc k) σ s (b ∷ chunk) room =
     let r = feed σ s (b ∷ chunk) room in feeds s (b ∷ chunk) room ∷ untilUsed k (r .after) s (drop (r .used) (b ∷ chunk)) room
 
--- ---- the bodies that are served, one by one, each at its last byte, with the state that it is served on
+-- ---- what the streams' bytes come to, in the order of the last byte of each: a whole body, with the state that it is served on, or a break
 
 pub record Serving : Type 0 where
   pub before : State
   pub station : ℕ
   pub body : List ℕ
 
-unfoldable pub servedBy : State → ℕ → Framed → List Serving
-servedBy σ s part = []
-servedBy σ s broken = []
-servedBy σ s (whole body) = record { before = changeStation s cleared σ; station = s; body = body } ∷ []
+pub data Outcome : Type 0 where
+  serves : Serving → Outcome
+  breaks : ℕ → Outcome
 
-unfoldable pub servedAt : State → Event → List Serving
-servedAt σ (byte s b) = let x = stationAt σ s in if x .isBroken then [] else servedBy σ s (framed (x .pending ++ (b ∷ [])))
-servedAt σ (reconnected s) = []
+unfoldable pub outcomeOf : State → ℕ → Framed → List Outcome
+outcomeOf σ s part = []
+outcomeOf σ s broken = breaks s ∷ []
+outcomeOf σ s (whole body) = serves (record { before = changeStation s cleared σ; station = s; body = body }) ∷ []
 
-unfoldable pub servings : List Event → State → List Serving
-servings [] σ = []
-servings (e ∷ es) σ = servedAt σ e ++ servings es (stateOf (happens σ e))
+unfoldable pub outcomeAt : State → Event → List Outcome
+outcomeAt σ (byte s b) = let x = stationAt σ s in if x .isBroken then [] else outcomeOf σ s (framed (x .pending ++ (b ∷ [])))
+outcomeAt σ (reconnected s) = []
+
+unfoldable pub outcomes : List Event → State → List Outcome
+outcomes [] σ = []
+outcomes (e ∷ es) σ = outcomeAt σ e ++ outcomes es (stateOf (happens σ e))
+
+unfoldable pub servedBy : Serving → Served
+servedBy x = serve (x .before) (x .station) (x .body)
+
+-- a body is answered as it is served, a break by 10
+unfoldable pub answerTo : Outcome → List ℕ
+answerTo (serves x) = frame (servedBy x .answer)
+answerTo (breaks s) = 0x01 ∷ 0x0A ∷ []
+
+unfoldable pub answeredAt : ℕ → Outcome → Timed
+answeredAt n (serves x) = record { event = n; station = x .station; answer = answerTo (serves x) }
+answeredAt n (breaks s) = record { event = n; station = s; answer = answerTo (breaks s) }
+
+-- each answered at its last byte, n events after the start
+unfoldable pub answeredFrom : ℕ → List Event → State → List Timed
+answeredFrom n [] σ = []
+answeredFrom n (e ∷ es) σ = map (answeredAt (n + 1)) (outcomeAt σ e) ++ answeredFrom (n + 1) es (stateOf (happens σ e))
+
+-- the same tokens, handles and primary tokens of the stations: all but the streams
+pub record SameRights (σ τ : State) : Type 0 where
+  pub tokens : σ .tokens ≡ τ .tokens
+  pub handles : σ .handles ≡ τ .handles
+  pub primary : map stationToken (σ .stations) ≡ map stationToken (τ .stations)
+
+-- from σ to τ each body is served on what the one before it left, and nothing else alters a token, a handle or a primary token
+unfoldable pub OneByOne : State → List Outcome → State → Type 0
+OneByOne σ [] τ = SameRights σ τ
+OneByOne σ (breaks s ∷ xs) τ = OneByOne σ xs τ
+OneByOne σ (serves x ∷ xs) τ = SameRights σ (x .before) × OneByOne (servedBy x .state) xs τ

@@ -2,16 +2,21 @@
 use Prim.Native.Nat.{ℕ, _≤_, _<_}
 use mathlib.Core.Path.{_≡_}
 use mathlib.Core.Bool.{true}
-use mathlib.Core.List.{List, _++_}
+use mathlib.Core.Logic.{_⊎_}
+use mathlib.Core.List.{List, _++_, map}
 use lib.ListN.{length}
 use Rattle.rules.specs.Basic.{all}
 use Rattle.rules.specs.Bits.{within}
+use Rattle.rules.specs.Number.{max32, max64}
 use Rattle.rules.specs.Token.{Token}
-use Rattle.rules.specs.State.{State, start, stationCount}
+use Rattle.rules.specs.Handle.{Handle}
+use Rattle.rules.specs.Table.{free, live}
+use Rattle.rules.specs.State.{State, start, stationCount, findHandle}
 use Rattle.rules.specs.Frame.{frame, framed, whole, maxAnswer}
 use Rattle.rules.specs.Valid.{valid}
-use Rattle.rules.specs.Run.{Call, ofBytes, after, answered, events, afterEvents, answersTo, untilUsed, Serving, servings}
-use Rattle.rules.specs.Growth.{Mem, Live, Follows, Later, NoMore}
+use Rattle.rules.specs.Ladder.{Ladder}
+use Rattle.rules.specs.Run.{Call, byte, ofBytes, after, answered, events, afterEvents, answersTo, timed, timedTo, untilUsed, Serving, serves, outcomes, answeredFrom, OneByOne}
+use Rattle.rules.specs.Growth.{Mem, Live, LiveHandle, Follows, Later, HandlesLater, StillHandle, NoMore}
 
 -- an answer: one valid frame that fits the buffer
 pub record IsAnswer (bytes : List ℕ) : Type 0 where
@@ -26,12 +31,22 @@ pub record Same (cs ds : List Call) (σ : State) : Type 0 where
   pub end : after cs σ ≡ after ds σ
 
 pub record Throughout (cs : List Call) : Type 0 where
-  -- 'whole requests are served one by one, in the order of their last bytes, each answered at that byte, and a broken stream is
-  -- answered 10 at the byte that breaks it': the end and the answers are those of the used bytes and reconnects, one by one (Model.step)
+  -- the end and the answers are those of the used bytes and reconnects, one by one (Model.step)
   pub end : after cs start ≡ afterEvents (events cs start) start
   pub answers : answered cs start ≡ answersTo (events cs start) start
+  -- each answer comes from the call that ends with the byte that brings it, at that byte's station
+  pub atTheirBytes : timed 0 cs start ≡ timedTo 0 (events cs start) start
+  -- 'whole requests are served one by one under demand 2, in the order of their last bytes, each answered at that byte, and a broken stream is
+  -- answered 10 at the byte that breaks it': the answers are those of the bodies and of the breaks, each with its last byte, in that order
+  pub served : timed 0 cs start ≡ answeredFrom 0 (events cs start) start
+  pub oneByOne : OneByOne start (outcomes (events cs start) start) (after cs start)
+  pub ladder : (x : Serving) → Mem (serves x) (outcomes (events cs start) start) → Ladder (x .before) (x .station) (x .body)
   -- 'two lists alike in the order of reconnects and used bytes, with their stations, give the same answers and the same memory'
   pub alike : (ds : List Call) → events ds start ≡ events cs start → Same ds cs start
+  -- 'a piece that is fed until used up': all its bytes are used, and nothing else happens
+  pub usedUp : (s : ℕ) (a : List ℕ) (room : ℕ) → s < stationCount → maxAnswer ≤ room
+      → let σ = after cs start in
+      events (untilUsed (length a) σ s a room) σ ≡ map (byte s) a
   -- 'cutting a piece that is fed until used up changes nothing'
   pub cutting : (s : ℕ) (a b : List ℕ) (room : ℕ) → s < stationCount → maxAnswer ≤ room
       → let σ = after cs start in
@@ -45,10 +60,24 @@ pub record Throughout (cs : List Call) : Type 0 where
       → u .number ≡ t .number → Follows t u
   -- after more calls each token has a number not given here yet, or was here: no number comes twice
   pub numbers : (more : List Call) → all ofBytes more ≡ true → Later (after cs start .tokens) (after (cs ++ more) start .tokens)
+  -- no 'request begun under one operator's handle' is 'finished against the token that had taken its place': what a handle's number stands
+  -- for here it stands for after more calls, or for nothing, and a number that was given and stands for nothing here never will
+  pub bound : (more : List Call) → all ofBytes more ≡ true → (s n : ℕ) (h : Handle) → findHandle (after cs start) s n ≡ live h
+      → (findHandle (after (cs ++ more) start) s n ≡ free) ⊎ StillHandle (after cs start) (after (cs ++ more) start) s n h
+  pub closed : (more : List Call) → all ofBytes more ≡ true → (s n : ℕ) → findHandle (after cs start) s n ≡ free → n < after cs start .handles .next
+      → findHandle (after (cs ++ more) start) s n ≡ free
+  -- a handle that is live here and after more calls is the same, in its station, its token and its mask
+  pub handleKept : (more : List Call) → all ofBytes more ≡ true → (h k : Handle) → LiveHandle h (after cs start) → LiveHandle k (after (cs ++ more) start)
+      → k .number ≡ h .number → k ≡ h
+  -- 'numbers are given upward and never twice': after more calls each handle has a number not given here yet, or was here
+  pub handles : (more : List Call) → all ofBytes more ≡ true → HandlesLater (after cs start .handles) (after (cs ++ more) start .handles)
+  -- 'the largest never': of handles and of tokens
+  pub handleNumbers : (h : Handle) → LiveHandle h (after cs start) → (1 ≤ h .number) × (h .number < max32)
+  pub tokenNumbers : (t : Token) → Live t (after cs start) → (1 ≤ t .number) × (t .number < max64)
   -- 'enabled ones stay among the present', and default ones
   pub enabled : (t : Token) → Live t (after cs start) → within (t .privileges .enabled) (t .privileges .present) ≡ true
   pub byDefault : (t : Token) → Live t (after cs start) → within (t .privileges .byDefault) (t .privileges .present) ≡ true
   -- 'a token made from another begins with no present privilege that its source lacked'
-  pub copies : (x : Serving) → Mem x (servings (events cs start) start) → NoMore x
+  pub copies : (x : Serving) → Mem (serves x) (outcomes (events cs start) start) → NoMore x
   -- no answer is longer than 1,024 bytes
   pub fit : (a : List ℕ) → Mem a (answered cs start) → IsAnswer a

@@ -4,14 +4,13 @@ use mathlib.Core.Path.{_≡_}
 use mathlib.Core.List.{List, [], _∷_}
 use Rattle.rules.specs.Refusal.{invalidMemory}
 use Rattle.rules.specs.State.{State, start}
-use Rattle.rules.specs.Model.{Result}
-use Rattle.rules.specs.Memory.{Memory, encode}
+use Rattle.rules.specs.Memory.{Memory, sized, encode}
 use Rattle.rules.specs.Run as Run
 use Rattle.rules.specs.Run.{Call, feeds, reconnects, returned, ofBytes, events}
 use Rattle.rules.specs.Basic.{all}
 use mathlib.Core.Bool.{true}
 use Rattle.rules.specs.Growth.{Mem}
-use Rattle.rules.specs.Calls.{Done, feedOn, reconnectOn}
+use Rattle.rules.specs.Calls.{Done, startOn, feedOn, reconnectOn}
 use Rattle.rules.specs.Throughout.{Throughout}
 
 -- what one call returns
@@ -42,7 +41,10 @@ returnsOf [] σ = []
 returnsOf (c ∷ cs) σ =
     let r = returned σ c in record { refusal = r .refusal; used = r .used; answer = r .answer } ∷ returnsOf cs (r .after)
 
+-- cs is any list, so this holds after every call of a list: each prefix is a list
 pub record WholeList (cs : List Call) : Type 0 where
+  -- 'from the desk's start': start on any memory of the right size gives the memory that these lists begin with
+  pub fromStart : (m : Memory) → sized m ≡ true → startOn m .memory ≡ encode start
   -- 'after the list the memory holds what the plain desk holds'
   pub memory : memoryAfter cs (encode start) ≡ encode (Run.after cs start)
   -- 'each call has returned and answered what the plain desk does'

@@ -1,16 +1,15 @@
 -- What the program writes is what the calls of its input answer. Assumes nothing.
-use Prim.Native.Nat.{ℕ, zero, suc, _≤_}
-use native.Mathlib.Omega.{arith}
-use mathlib.Core.Path.{_≡_, refl, sym, ap, ap₂, _∙_}
+use Prim.Native.Nat.{ℕ, zero, suc}
+use mathlib.Core.Path.{_≡_, refl, sym, ap, _∙_}
 use mathlib.Core.Bool.{Bool, true, false}
 use mathlib.Core.List.{List, [], _∷_, _++_, append-assoc}
 use lib.ListN.{length, drop}
-use lib.Dec.{leb, ltb}
+use lib.Dec.{leb}
 use Rattle.rules.specs.Basic.{if_then_else_}
 use Rattle.rules.specs.Refusal.{noStation}
 use Rattle.rules.specs.State.{State, start, stationCount}
 use Rattle.rules.specs.Frame.{maxAnswer}
-use Rattle.rules.specs.Model.{Result, refused, fedFrom, feed}
+use Rattle.rules.specs.Model.{Result, refused, feed}
 use Rattle.rules.specs.Run.{Call, feeds, returned, after, noted, answered, untilUsed}
 use Rattle.session.specs.Program as program
 use Rattle.session.specs.Program.{Next, chunk, more, stop, Output, nothing, onFed, fedIn, fed, budget, next, run, written}

@@ -4,7 +4,7 @@ use native.Mathlib.Omega.{arith}
 use mathlib.Core.Path.{_≡_, refl, sym, ap, _∙_}
 use mathlib.Core.List.{List, [], _∷_, _++_, append-assoc, append-nil}
 use Rattle.rules.specs.State.{State, start}
-use Rattle.session.specs.Program.{Next, chunk, more, stop, Output, budget, next, fed, onNext, run, written}
+use Rattle.session.specs.Program.{Next, chunk, more, stop, budget, next, fed, onNext, run, written}
 use Rattle.session.specs.Blocks.{joined, concat, reading, runBlocks, writtenInBlocks}
 use Rattle.session.proofs.Later.{lasts}
 

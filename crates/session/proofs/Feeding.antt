@@ -1,14 +1,13 @@
 -- What one feed brings, in the program's terms. Assumes nothing.
 use Prim.Native.Nat.{ℕ, zero, suc, _+_, _≤_, _<_}
 use native.Mathlib.Omega.{arith}
-use mathlib.Core.Path.{_≡_, refl, sym, ap, ap₂, subst, _∙_}
-use mathlib.Core.Logic.{_⊎_, inl, inr, ⊎-elim}
+use mathlib.Core.Path.{_≡_, refl, sym, ap, ap₂, _∙_}
+use mathlib.Core.Logic.{_⊎_, ⊎-elim}
 use mathlib.Core.Bool.{Bool, true, false}
-use mathlib.Core.List.{List, [], _∷_, _++_}
-use lib.ListN.{length, getD, take, drop, length-append, length-drop}
-use lib.Dec.{eqb, leb, ltb}
-use lib.Seq.{take-at}
-use borrow.Author.Tests.{lt-ltb, eq-eqb, ne-eqb, le-ltb, ltb-false}
+use mathlib.Core.List.{List, [], _∷_}
+use lib.ListN.{length, drop, length-drop}
+use lib.Dec.{leb, ltb}
+use borrow.Author.Tests.{eq-eqb, ne-eqb, le-ltb}
 use Rattle.rules.specs.Basic.{if_then_else_, all}
 use Rattle.rules.specs.Refusal.{noStation, shortBuffer, invalidMemory}
 use Rattle.rules.specs.State.{State, stationCount}
@@ -17,8 +16,8 @@ use Rattle.rules.specs.Valid as Valid
 use Rattle.rules.specs.Valid.{isByte}
 use Rattle.rules.specs.Model.{Result, Step, silent, answers, step, refused, fedOn, fedFrom, feed}
 use Rattle.rules.specs.Run.{feeds, returned, after, ofBytes}
-use Rattle.rules.specs.Memory.{Memory, encode, decode, valid}
-use Rattle.rules.specs.Calls.{Done, refusedOn, written, feedOn, buffer}
+use Rattle.rules.specs.Memory.{Memory, decode, valid}
+use Rattle.rules.specs.Calls.{Done, refusedOn, written, feedOn}
 use Rattle.rules.proofs.Logic.{and-i}
 use Rattle.rules.proofs.Tables.{on-if}
 use Rattle.rules.proofs.Numbers.{below-or}

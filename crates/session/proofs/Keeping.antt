@@ -2,10 +2,10 @@
 use Prim.Native.Nat.{ℕ, suc, _+_, _-_, _≤_, _<_}
 use native.Mathlib.Numerals.{add-one}
 use native.Mathlib.Omega.{arith}
-use mathlib.Core.Path.{_≡_, refl, sym, ap, ap₂, _∙_}
-use mathlib.Core.List.{List, [], _∷_, _++_, append-assoc}
-use lib.ListN.{length, getD, take, drop, set, length-append, length-take, length-drop}
-use lib.Seq.{take-suc, drop-cons, set-at, append-snoc, getD-append-add, getD-drop, length-take-le, drop-at}
+use mathlib.Core.Path.{_≡_, sym, ap, ap₂, _∙_}
+use mathlib.Core.List.{List, [], _∷_, _++_}
+use lib.ListN.{length, getD, take, drop, set, length-drop}
+use lib.Seq.{take-suc, drop-cons, set-at, append-snoc, getD-append-add, getD-drop, length-take-le}
 
 -- the first i bytes from a place on, over the first i
 abbrev pub moved : ℕ → ℕ → List ℕ → List ℕ
@@ -14,9 +14,6 @@ moved i from b = take i (drop from b) ++ drop i b
 module _ (from end : ℕ) (b₀ : List ℕ) (i : ℕ) (b : List ℕ) (e : b ≡ moved i from b₀) (fits : (from ≤ end) × (end ≤ length b₀)) where
   first : i ≤ end - from → length (take i (drop from b₀)) ≡ i
   first h = length-take-le i (drop from b₀) (omega (arith, length-drop from b₀))
-
-  pub same : i ≤ end - from → length b ≡ length b₀
-  same h = ap length e ∙ omega (arith, length-append (take i (drop from b₀)) (drop i b₀), first h, length-drop i b₀)
 
   ahead : i ≤ end - from → getD b (from + i) 0 ≡ getD b₀ (from + i) 0
   ahead h =

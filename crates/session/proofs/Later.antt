@@ -9,7 +9,7 @@ use mathlib.Core.List.{List, [], _∷_, _++_}
 use lib.ListN.{length, take, drop, length-append}
 use lib.Dec.{eqb, leb, ltb}
 use lib.Seq.{take-append-le, drop-append-le}
-use borrow.Author.Tests.{lt-ltb, le-ltb, le-leb, lt-leb, ltb-true, ltb-false}
+use borrow.Author.Tests.{lt-ltb, le-ltb, le-leb, ltb-false}
 use Rattle.rules.specs.Basic.{if_then_else_, all}
 use Rattle.rules.specs.Number.{Read, got, bad, longer, max32, readNumber}
 use Rattle.rules.proofs.Numbers.{below-or, by-reading}

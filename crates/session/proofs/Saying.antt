@@ -1,23 +1,21 @@
 -- What `unread`, `sized` and `next_chunk` give. Assumes nothing.
 use Prim.Native.Nat.{ℕ, _+_, _-_, _^_, _≤_, _<_}
 use native.Mathlib.Omega.{arith}
-use mathlib.Core.Path.{_≡_, refl, sym, ap, subst, _∙_}
+use mathlib.Core.Path.{_≡_, sym, ap, subst, _∙_}
 use mathlib.Core.Bool.{Bool, true, false}
 use mathlib.Core.List.{List}
-use lib.ListN.{length, take, drop, length-drop}
-use lib.Dec.{ltb}
+use lib.ListN.{length, drop, length-drop}
 use lib.Seq.{drop-drop}
 use borrow.Author.Tests.{lt-ltb, le-ltb, ltb-true}
-use Rattle.rules.specs.Basic.{all}
-use Rattle.rules.specs.Number.{Read, got, bad, max32, readNumber}
+use Rattle.rules.specs.Number.{Read, max32}
 use Rattle.rules.proofs.Logic.{and-l}
 use Rattle.number.specs.declared.Number.{Number}
 use Rattle.number.specs.declared.Number.the-variants as number
 use Rattle.number.specs.Meaning.{NumberAt}
 use Rattle.number.proofs.Reading.{is-bad, is-value, bounds}
 use Rattle.session.specs.Program as program
-use Rattle.session.specs.Program.{chunk, more, stop, maxChunk, numberBytes, isCut, noNumber, onNumber, withNumber, ofLength}
-use Rattle.session.specs.Input.{nextOf, maxWaiting, Bounds, Says}
+use Rattle.session.specs.Program.{maxChunk, numberBytes, isCut, noNumber, onNumber, withNumber, ofLength}
+use Rattle.session.specs.Input.{maxWaiting, Bounds, Says}
 use Rattle.session.specs.declared.input.Next.{Next}
 use Rattle.session.specs.declared.input.Next.the-variants as next
 use Rattle.session.proofs.Later.{Short, read-short}

@@ -1,15 +1,15 @@
 -- What the broker's calls by value give to the session. Assumes nothing.
-use Prim.Native.Nat.{ℕ, zero, suc, _+_, _≤_, _<_}
+use Prim.Native.Nat.{ℕ, zero, suc, _≤_, _<_}
 use native.Mathlib.Omega.{arith}
 use mathlib.Core.Path.{_≡_, refl, sym, ap, subst, _∙_}
 use mathlib.Core.Bool.{true}
-use mathlib.Core.List.{List, [], _∷_, _++_}
-use lib.ListN.{length, getD, take, drop, set, replicate, length-append, length-set, length-replicate}
+use mathlib.Core.List.{List, _∷_}
+use lib.ListN.{length, getD, take, drop, replicate, length-append, length-set, length-replicate}
 use lib.Seq.{take-at, take-length}
 use Rattle.rules.specs.Basic.{all}
 use Rattle.rules.specs.Valid.{isByte}
 use Rattle.rules.specs.State.{handleSlots}
-use Rattle.rules.specs.Memory.{Memory, decode, valid}
+use Rattle.rules.specs.Memory.{Memory}
 use Rattle.rules.specs.Calls.{feedOn, buffer}
 use Rattle.handle.specs.Meaning.{none, Sized}
 use Rattle.handle.specs.Loaded.{loaded}
@@ -21,8 +21,8 @@ use Rattle.state.specs.HandleFacts.{changed}
 use Rattle.broker.specs.Promise.{Feeds, freed, StartsWith, FeedsWith}
 use Rattle.broker.specs.declared.by_value.Turn.{Turn}
 use Rattle.broker.specs.declared.by_value.Started.{Started}
-use Rattle.session.specs.Program.{nothing, fed}
-use Rattle.session.specs.Turns.{Starts, answering, Turns}
+use Rattle.session.specs.Program.{fed}
+use Rattle.session.specs.Turns.{Starts, Turns}
 use Rattle.session.specs.declared.turn.Turned.{Turned}
 use Rattle.session.proofs.Feeding.{call-goes, call-valid, call-taken, call-skipped}
 

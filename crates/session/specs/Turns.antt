@@ -9,7 +9,6 @@ use Rattle.rules.specs.Frame.{maxAnswer}
 use Rattle.rules.specs.Memory.{Memory, decode, valid}
 use Rattle.rules.specs.Calls.{startOn, feedOn}
 use Rattle.handle.specs.Meaning.{none}
-use Rattle.handle.specs.declared.Handle.{Handle}
 use Rattle.handle.specs.declared.Handles.{Handles}
 use Rattle.valid.specs.Meaning.{memoryOf}
 use Rattle.broker.specs.Promise.{Feeds}

@@ -1,5 +1,5 @@
 -- Valid memory as the code tests it: row by row, and over columns of numbers with zeros where slots are free.
--- proofs/Valid says that these tests come to `Memory.valid`. Assumes nothing.
+-- proofs/Whole says that these tests come to `Memory.valid`. Assumes nothing.
 use Prim.Native.Nat.{ℕ, zero, suc, _+_, _-_, _%_, _≤_}
 use mathlib.Core.Path.{_≡_}
 use mathlib.Core.Bool.{Bool, true, not, _&&_, _||_}

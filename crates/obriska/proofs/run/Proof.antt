@@ -1,18 +1,20 @@
 -- `run` meets its contract. Each turn but the last takes a chunk or leaves more bytes held: that is what falls. Assumes nothing.
-use Prim.Native.Nat.{_+_, _-_, _*_, _≤_, _<_}
+use Prim.Native.Nat.{_+_, _-_, _*_, _≤_}
 use native.Mathlib.Omega.{arith}
 use mathlib.Core.Path.{_≡_, refl}
 use lib.ListN.{length}
 use borrow.Author.Needs.{needs}
-use Rattle.obriska.specs.Serving.{bufferBytes}
-use Rattle.obriska.proofs.Holding.{falls}
+use Rattle.valid.specs.Meaning.{memoryOf}
+use Rattle.obriska.specs.Serving.{bufferBytes, Ready}
+use Rattle.obriska.proofs.Holding.{falls, stays-ready}
 use Rattle.obriska.proofs.run.Statement.{statement}
 use Rattle.obriska.proofs.run.Tie as tie
 
 -- the slices keep their lengths
 abbrev Inv : tie.InvT-loop
 Inv buffer₀ answer₀ tokens₀ dacls₀ stations₀ pending₀ held₀ left₀ from₀ end₀ buffer answer tokens dacls stations pending held left from end =
-    (from ≤ end) × (end ≤ length buffer) × (length buffer ≡ bufferBytes) × (length buffer₀ ≡ bufferBytes) × (length answer ≡ length answer₀) × (length tokens ≡ length tokens₀)
+    (from ≤ end) × (end ≤ length buffer) × Ready buffer answer (memoryOf tokens dacls (held .items) stations pending)
+    × (length buffer ≡ length buffer₀) × (length answer ≡ length answer₀) × (length tokens ≡ length tokens₀)
     × (length dacls ≡ length dacls₀) × (length stations ≡ length stations₀) × (length pending ≡ length pending₀)
 
 abbrev μ : tie.MeasureT-loop
@@ -23,7 +25,7 @@ pub run-spec : {M : Type 1} → statement M
 run-spec =
     tie.close
     (tie.spec Inv μ
-    (λ c. (omega arith, omega arith, omega arith, omega arith, refl, refl, refl, refl, refl))
+    (λ c. (omega arith, omega arith, search needs, refl, refl, refl, refl, refl, refl))
     (λ c κs. search needs)
     (λ c. search needs)
     (λ c. search needs)
@@ -34,7 +36,7 @@ run-spec =
     (λ c. search needs)
     (λ c. search needs)
     (λ c. search (needs, falls))
-    (λ c. search needs)
+    (λ c. (search needs, search needs, search (needs, stays-ready), search needs, search needs, search needs, search needs, search needs, search needs))
     (λ c. search needs)
     (λ c. search needs)
     (λ c. search needs)

@@ -4,7 +4,7 @@ use native.Mathlib.Omega.{arith}
 use mathlib.Core.Path.{_≡_, refl}
 use lib.ListN.{length}
 use borrow.Author.Needs.{needs}
-use Rattle.session.proofs.Keeping.{moved, same, one-more, all-moved}
+use Rattle.session.proofs.Keeping.{moved, one-more, all-moved}
 use Rattle.session.proofs.input.keep.Statement.{statement}
 use Rattle.session.proofs.input.keep.Tie as tie
 

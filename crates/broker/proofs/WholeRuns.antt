@@ -1,0 +1,228 @@
+-- Demand 3 of calls that meet their contracts. Assumes nothing.
+use Prim.Native.Nat.{ℕ}
+use native.Mathlib.Omega.{arith}
+use mathlib.Core.Path.{_≡_, refl, sym, ap, ap₂, _∙_, subst}
+use mathlib.Core.Bool.{Bool, true, false}
+use mathlib.Core.List.{List, [], _∷_, _++_, map}
+use lib.ListN.{length, take, drop, replicate, length-replicate}
+use lib.Seq.{take-append-seam, drop-append-seam}
+use lib.Dec.{leb, eqb}
+use Rattle.rules.specs.Basic.{if_then_else_, all}
+use Rattle.rules.specs.Refusal.{noStation, invalidMemory}
+use Rattle.rules.specs.State.{State, start, stationCount, changeStation}
+use Rattle.rules.specs.Station.{cleared}
+use Rattle.rules.specs.Memory.{Memory, sized, valid, encode}
+use Rattle.rules.specs.Model as Model
+use Rattle.rules.specs.Model.{Result, refused}
+use Rattle.rules.specs.Run.{Call, feeds, reconnects, returned, after, ofBytes, noted, answered, reconnected, eventsOf, events}
+use Rattle.rules.specs.Growth.{Mem}
+use Rattle.rules.specs.Calls.{Done, refusedOn, written, startOn, feedOn, reconnectOn, buffer}
+use Rattle.rules.specs.WholeList.{Return, doneBy, memoryAfter, returnsOn, returnsOf, WholeList}
+use Rattle.rules.proofs.Logic.{and-l, and-r, and-i}
+use Rattle.rules.proofs.Tables.{on-if}
+use Rattle.rules.proofs.WholeList.{whole-list}
+use Rattle.broker.specs.Promise.{Does, Feeds}
+use Rattle.broker.specs.WholeRun.{FeedCall, ReconnectCall, Link, feed, reconnect, Chain, none, link, Ran, memories, RestStays, AllStay, answersIn, happened, eventsIn, states, SameRun, WholeRun, CanRun}
+
+-- ---- one call: what it left and returned is what `Calls` says
+
+returnOf : Done → Return
+returnOf d = record { refusal = d .refusal; used = d .used; answer = d .answer }
+
+record DoesAs (d : Done) (r : Return) (m′ : Memory) : Type 0 where
+  pub memory : m′ ≡ d .memory
+  pub returns : r ≡ returnOf d
+
+module _ {s : ℕ} {chunk : List ℕ} {room : ℕ} {m : Memory} {r : Return} {m′ : Memory} (f : FeedCall s chunk room m r m′) where
+  fed-done : Done
+  fed-done = feedOn m s chunk (length (f .out))
+
+  fed-same : DoesAs fed-done r m′
+  unfolding buffer fed-done returnOf
+  fed-same =
+      let p = f .promise in
+      let said = ap₂ take (p .answered) (p .answer) ∙ take-append-seam (fed-done .answer) _ in
+      record { memory = p .memory; returns = f .returned ∙ cc }
+
+  fed-as : DoesAs (feedOn m s chunk room) r m′
+  unfolding fed-done
+  fed-as = subst (λ (n : ℕ). DoesAs (feedOn m s chunk n) r m′) (f .size) fed-same
+
+  fed-rest : drop (length (r .answer)) (f .out′) ≡ drop (length (r .answer)) (f .out)
+  unfolding buffer fed-done returnOf
+  fed-rest =
+      let a = ap (λ (q : Return). q .answer) (fed-same .returns) in
+      ap₂ (λ (x y : List ℕ). drop (length x) y) a (f .promise .answer) ∙ drop-append-seam (fed-done .answer) _ ∙ ap (λ (x : List ℕ). drop (length x) (f .out)) (sym a)
+
+-- a reconnect uses and answers nothing
+Quiet : Done → Type 0
+Quiet d = record { refusal = d .refusal; used = 0; answer = [] } ≡ returnOf d
+
+reconnect-quiet : (m : Memory) (s : ℕ) → Quiet (reconnectOn m s)
+unfolding Quiet returnOf reconnectOn refusedOn written refused Model.reconnect
+reconnect-quiet m s =
+    on-if Quiet (leb stationCount s) _ _ (λ t. refl)
+    (λ t. on-if Quiet (valid m) _ _ (λ v. on-if (λ (x : Result). Quiet (written x)) (leb stationCount s) _ _ (λ u. refl) (λ u. refl)) (λ v. refl))
+
+reconnected-as : (s : ℕ) (m : Memory) (r : Return) (m′ : Memory) → ReconnectCall s m r m′ → DoesAs (reconnectOn m s) r m′
+unfolding Quiet
+reconnected-as s m r m′ f =
+    record {
+      memory = f .promise .memory;
+      returns = f .returned ∙ ap (λ (k : ℕ). record { refusal = k; used = 0; answer = [] }) (f .promise .refusal) ∙ reconnect-quiet m s;
+    }
+
+link-as : {c : Call} {m : Memory} {r : Return} {m′ : Memory} → Link c m r m′ → DoesAs (doneBy m c) r m′
+unfolding doneBy
+link-as (feed f) = fed-as f
+link-as (reconnect {s} {m} {r} {m′} f) = reconnected-as s m r m′ f
+
+link-rest : {c : Call} {m m′ : Memory} {r : Return} (l : Link c m r m′) → RestStays l
+unfolding RestStays
+link-rest (feed f) = fed-rest f
+link-rest (reconnect f) = tt
+
+-- the contracts leave a call something to do
+can-link : (c : Call) (m : Memory) → Link c m (returnOf (doneBy m c)) (doneBy m c .memory)
+unfolding doneBy returnOf buffer Quiet
+can-link (feeds s chunk room) m =
+    let out : List ℕ = replicate room 0 in
+    let d = feedOn m s chunk (length out) in
+    let made : FeedCall s chunk room m (returnOf d) (d .memory) = record {
+      out = out;
+      out′ = buffer (d .answer) out;
+      fed = record { refusal = d .refusal; used = d .used; answered = length (d .answer) };
+      size = length-replicate room 0;
+      promise = record { refusal = refl; used = refl; answered = refl; memory = refl; answer = refl };
+      returned = ap (λ (a : List ℕ). record { refusal = d .refusal; used = d .used; answer = a }) (sym (take-append-seam (d .answer) _));
+    } in
+    feed (subst (λ (n : ℕ). FeedCall s chunk room m (returnOf (feedOn m s chunk n)) (feedOn m s chunk n .memory)) (length-replicate room 0) made)
+can-link (reconnects s) m = reconnect (record { refusal = reconnectOn m s .refusal; promise = record { refusal = refl; memory = refl }; returned = sym (reconnect-quiet m s) })
+
+-- ---- a chain, from any memory
+
+chain-memory : {cs : List Call} {rs : List Return} {m m′ : Memory} → Chain cs m rs m′ → m′ ≡ memoryAfter cs m
+unfolding memoryAfter
+chain-memory none = refl
+chain-memory (link {cs = cs} l x) = chain-memory x ∙ ap (memoryAfter cs) (link-as l .memory)
+
+chain-returns : {cs : List Call} {rs : List Return} {m m′ : Memory} → Chain cs m rs m′ → rs ≡ returnsOn cs m
+unfolding returnsOn returnOf
+chain-returns none = refl
+chain-returns (link {cs = cs} l x) =
+    let d = link-as l in ap₂ (λ (q : Return) (qs : List Return). q ∷ qs) (d .returns) (chain-returns x ∙ ap (returnsOn cs) (d .memory))
+
+chain-rest : {cs : List Call} {rs : List Return} {m m′ : Memory} (x : Chain cs m rs m′) → AllStay x
+unfolding AllStay
+chain-rest none = tt
+chain-rest (link l x) = (link-rest l, chain-rest x)
+
+can-chain : (cs : List Call) (m : Memory) → Chain cs m (returnsOn cs m) (memoryAfter cs m)
+unfolding returnsOn memoryAfter returnOf
+can-chain [] m = none
+can-chain (c ∷ cs) m = link (can-link c m) (can-chain cs (doneBy m c .memory))
+
+-- m stands for σ now and after any calls
+Stands : State → Memory → Type 0
+Stands σ m = (cs : List Call) → all ofBytes cs ≡ true → memoryAfter cs m ≡ encode (after cs σ)
+
+chain-along : {cs : List Call} {rs : List Return} {m m′ : Memory} (σ : State) → all ofBytes cs ≡ true → Stands σ m → (x : Chain cs m rs m′) → memories x ≡ map encode (states cs σ)
+unfolding memories states Stands memoryAfter after all
+chain-along σ w h none = refl
+chain-along σ w h (link {c} {cs} {m₁ = m₁} l x) =
+    let τ = returned σ c .after in
+    let next : Stands τ m₁ = subst (Stands τ) (sym (link-as l .memory)) (λ ds v. h (c ∷ ds) (and-i (and-l (ofBytes c) (all ofBytes cs) w) v)) in
+    ap₂ (λ (n : Memory) (ns : List Memory). n ∷ ns) (next [] refl) (chain-along τ (and-r (ofBytes c) (all ofBytes cs) w) next x)
+
+-- ---- from start
+
+-- a start that returned 0 left the start's memory
+begun-as : (m₀ m : Memory) → Does (startOn m₀) m 0 → m ≡ encode start
+unfolding startOn refusedOn
+begun-as m₀ m d = from (sized m₀) (d .refusal) (d .memory)
+  where
+    first : Bool → Done
+    first b = if b then record { refusal = 0; used = 0; answer = []; memory = encode start } else refusedOn invalidMemory m₀
+    from : (b : Bool) → 0 ≡ first b .refusal → m ≡ first b .memory → m ≡ encode start
+    from true e h = h
+    from false e h = absurd (omega (arith, e))
+
+can-begin : (m₀ : Memory) → sized m₀ ≡ true → Does (startOn m₀) (encode start) 0
+unfolding startOn
+can-begin m₀ h = rw h (record { refusal = refl; memory = refl })
+
+-- ---- what the calls returned, of the model
+
+returnedBy : State → Call → Return
+returnedBy σ c = let r = returned σ c in record { refusal = r .refusal; used = r .used; answer = r .answer }
+
+said-as : (cs : List Call) (σ : State) → answersIn (returnsOf cs σ) ≡ answered cs σ
+unfolding answersIn returnsOf answered
+said-as [] σ = refl
+said-as (c ∷ cs) σ = ap (noted (returned σ c .answer)) (said-as cs (returned σ c .after))
+
+happened-as : (c : Call) (σ : State) → happened c (returnedBy σ c) ≡ eventsOf σ c
+unfolding happened returnedBy eventsOf returned Model.reconnect refused
+happened-as (feeds s chunk room) σ = refl
+happened-as (reconnects s) σ = rejoins (leb stationCount s)
+  where
+    rejoins : (b : Bool)
+        → (if eqb ((if b then refused noStation σ else record { refusal = 0; used = 0; answer = []; after = changeStation s cleared σ }) .refusal) 0 then reconnected s ∷ [] else [])
+        ≡ (if b then [] else reconnected s ∷ [])
+    rejoins true = refl
+    rejoins false = refl
+
+events-as : (cs : List Call) (σ : State) → eventsIn cs (returnsOf cs σ) ≡ events cs σ
+unfolding eventsIn returnsOf events returnedBy
+events-as [] σ = refl
+events-as (c ∷ cs) σ = ap₂ _++_ (happened-as c σ) (events-as cs (returned σ c .after))
+
+module _ {cs : List Call} {rs : List Return} {m′ : Memory} (w : all ofBytes cs ≡ true) (x : Ran cs rs m′) where
+  begun : x .begun ≡ encode start
+  begun = begun-as (x .before) (x .begun) (x .started)
+
+  run-memory : m′ ≡ encode (after cs start)
+  run-memory = chain-memory (x .calls) ∙ ap (memoryAfter cs) begun ∙ whole-list cs w .memory
+
+  run-on : rs ≡ returnsOn cs (encode start)
+  run-on = chain-returns (x .calls) ∙ ap (returnsOn cs) begun
+
+  run-returns : rs ≡ returnsOf cs start
+  run-returns = run-on ∙ whole-list cs w .returns
+
+  run-answers : answersIn rs ≡ answered cs start
+  run-answers = ap answersIn run-returns ∙ said-as cs start
+
+  run-events : eventsIn cs rs ≡ events cs start
+  run-events = ap (eventsIn cs) run-returns ∙ events-as cs start
+
+  run-along : memories (x .calls) ≡ map encode (states cs start)
+  unfolding Stands
+  run-along = chain-along start w (subst (Stands start) (sym begun) (λ ds v. whole-list ds v .memory)) (x .calls)
+
+-- every start that returned 0, and every list of calls after it; a chunk is of bytes
+pub whole-run : {cs : List Call} {rs : List Return} {m′ : Memory} → all ofBytes cs ≡ true → (x : Ran cs rs m′) → WholeRun x
+whole-run {cs} {rs} {m′} w x =
+    let whole = whole-list cs w in
+    record {
+      memory = run-memory w x;
+      along = run-along w x;
+      returns = run-returns w x;
+      rest = chain-rest (x .calls);
+      never13 = λ r i. whole .never13 r (subst (Mem r) (run-on w x) i);
+      alike = λ {ds} v y e. (
+        let same = whole .throughout .alike ds (sym (run-events v y) ∙ e ∙ run-events w x) in
+        record { answers = run-answers v y ∙ same .answers ∙ sym (run-answers w x); memory = run-memory v y ∙ ap encode (same .end) ∙ sym (run-memory w x) });
+      throughout = whole .throughout;
+    }
+
+pub can-run : (cs : List Call) → all ofBytes cs ≡ true → CanRun cs
+unfolding CanRun
+can-run cs w before h =
+    let whole = whole-list cs w in
+    record {
+      before = before;
+      begun = encode start;
+      started = can-begin before h;
+      calls = subst (Chain cs (encode start) (returnsOf cs start)) (whole .memory) (subst (λ rs. Chain cs (encode start) rs (memoryAfter cs (encode start))) (whole .returns) (can-chain cs (encode start)));
+    }
