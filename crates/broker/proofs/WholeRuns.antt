@@ -17,12 +17,12 @@ use Rattle.rules.specs.Model.{Result, refused}
 use Rattle.rules.specs.Run.{Call, feeds, reconnects, returned, after, ofBytes, noted, answered, reconnected, eventsOf, events}
 use Rattle.rules.specs.Growth.{Mem}
 use Rattle.rules.specs.Calls.{Done, refusedOn, written, startOn, feedOn, reconnectOn, buffer}
-use Rattle.rules.specs.WholeList.{Return, doneBy, memoryAfter, returnsOn, returnsOf, WholeList}
+use Rattle.rules.specs.WholeList.{Return, doneBy, memoryAfter, returnsOn, returnsOf}
 use Rattle.rules.proofs.Logic.{and-l, and-r, and-i}
 use Rattle.rules.proofs.Tables.{on-if}
 use Rattle.rules.proofs.WholeList.{whole-list}
-use Rattle.broker.specs.Promise.{Does, Feeds}
-use Rattle.broker.specs.WholeRun.{FeedCall, ReconnectCall, Link, feed, reconnect, Chain, none, link, Ran, memories, RestStays, AllStay, answersIn, happened, eventsIn, states, SameRun, WholeRun, CanRun}
+use Rattle.broker.specs.Promise.{Does}
+use Rattle.broker.specs.WholeRun.{FeedCall, ReconnectCall, Link, feed, reconnect, Chain, none, link, Ran, memories, RestStays, AllStay, answersIn, happened, eventsIn, states, WholeRun, CanRun}
 
 -- ---- one call: what it left and returned is what `Calls` says
 
@@ -143,6 +143,7 @@ begun-as m₀ m d = from (sized m₀) (d .refusal) (d .memory)
   where
     first : Bool → Done
     first b = if b then record { refusal = 0; used = 0; answer = []; memory = encode start } else refusedOn invalidMemory m₀
+
     from : (b : Bool) → 0 ≡ first b .refusal → m ≡ first b .memory → m ≡ encode start
     from true e h = h
     from false e h = absurd (omega (arith, e))
@@ -211,8 +212,8 @@ whole-run {cs} {rs} {m′} w x =
       rest = chain-rest (x .calls);
       never13 = λ r i. whole .never13 r (subst (Mem r) (run-on w x) i);
       alike = λ {ds} v y e. (
-        let same = whole .throughout .alike ds (sym (run-events v y) ∙ e ∙ run-events w x) in
-        record { answers = run-answers v y ∙ same .answers ∙ sym (run-answers w x); memory = run-memory v y ∙ ap encode (same .end) ∙ sym (run-memory w x) });
+          let same = whole .throughout .alike ds (sym (run-events v y) ∙ e ∙ run-events w x) in
+          record { answers = run-answers v y ∙ same .answers ∙ sym (run-answers w x); memory = run-memory v y ∙ ap encode (same .end) ∙ sym (run-memory w x) });
       throughout = whole .throughout;
     }
 

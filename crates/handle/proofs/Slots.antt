@@ -4,18 +4,17 @@ use mathlib.Core.Bool.{Bool, true, false, not, _&&_, _||_}
 use mathlib.Core.List.{List, [], _∷_, map}
 use Prim.Native.Nat.{ℕ, zero, suc, _≤_}
 use native.Mathlib.Omega.{arith}
-use borrow.Author.Tests.{ne-eqb}
 use lib.Dec.{eqb}
 use lib.ListN.{length, getD, set, List·getD-map}
 use lib.Seq.{set-out}
 pub use Rattle.table.specs.Lists.{long}
 use Rattle.rules.specs.Basic.{if_then_else_, member}
-use Rattle.rules.specs.Table.{free, live, lives, found, placed, exchanged}
+use Rattle.rules.specs.Table.{free, live, lives, found}
 use Rattle.rules.specs.Index.{freeIndex, foundIndex}
 use Rattle.rules.specs.Handle as rules
 use Rattle.rules.specs.State.{handleToken, handleSlots}
 use Rattle.rules.specs.Memory.{handleAt}
-use Rattle.rules.proofs.Index.{placed-set, found-at, exchanged-set}
+use Rattle.rules.proofs.Index.{found-at}
 use Rattle.handle.specs.declared.Handle.{Handle}
 use Rattle.handle.specs.Meaning.{handleOf, slotsOf, none, isFree, isNamed, refersTo}
 use Rattle.handle.proofs.Rest.{First, Some}
@@ -81,26 +80,3 @@ found-item s n hs {i} e =
     ∙ ap (λ (k : ℕ). getD (slotsOf hs) k free) (sym e)
     ∙ List·getD-map handleAt (map handleOf hs) i rules.noHandle
     ∙ ap handleAt (List·getD-map handleOf hs i none)
-
-slots-set : (hs : List Handle) {i j : ℕ} (h : Handle) {out : List Handle} → i ≡ j → out ≡ set hs i h
-    → slotsOf out ≡ set (slotsOf hs) j (handleAt (handleOf h))
-slots-set hs {i} h p e =
-    ap slotsOf e
-    ∙ ap (map handleAt) (map-set handleOf hs i h)
-    ∙ map-set handleAt (map handleOf hs) i (handleOf h)
-    ∙ ap (λ (k : ℕ). set (slotsOf hs) k (handleAt (handleOf h))) p
-
--- a handle with a number, placed at the index that free_slot gives
-pub placed-free : (hs : List Handle) (h : Handle) {i : ℕ} {out : List Handle} → (h .number ≡ 0 → ⊥) → i ≡ freeSlot hs → out ≡ set hs i h
-    → slotsOf out ≡ placed (handleOf h) (slotsOf hs)
-unfolding handleAt
-placed-free hs h numbered p e =
-    slots-set hs h p e
-    ∙ ap (λ (b : Bool). set (slotsOf hs) (freeSlot hs) (if b then free else live (handleOf h))) (ne-eqb (h .number) 0 numbered)
-    ∙ sym (placed-set (handleOf h) (slotsOf hs))
-
--- the slot at the index that find gives, cleared
-pub cleared-found : (s n : ℕ) (hs : List Handle) {i : ℕ} {out : List Handle} → i ≡ findIndex s n hs → out ≡ set hs i none
-    → slotsOf out ≡ exchanged (rules.isHandle s n) free (slotsOf hs)
-unfolding handleAt
-cleared-found s n hs p e = slots-set hs none p e ∙ sym (exchanged-set (rules.isHandle s n) free (slotsOf hs))

@@ -10,7 +10,7 @@ use Rattle.rules.specs.Refusal.{tableFull}
 use Rattle.rules.specs.Privileges.{createToken, granted}
 use Rattle.rules.specs.Group.{Group}
 use Rattle.rules.specs.Token.{newToken, primaryOf}
-use Rattle.rules.specs.State.{State, used}
+use Rattle.rules.specs.State.{used}
 use Rattle.rules.specs.Request.{times, group}
 use Rattle.rules.specs.Decision.{need_else_then_, canIssue, issued}
 use Rattle.rules.specs.Create.{entered, validCreate, create}

@@ -93,13 +93,16 @@ unread-begins (a ∷ xs) w e = go xs (eqb a 0) refl (ltb a 128) refl e
         let body : List ℕ = replicate a 0 in
         let l = length-replicate {A = ℕ} a 0 in
         let low = ltb-false a 128 q in
-        let high = ltb-true a 256 (and-l (ltb a 256) _ w) in
-        (1 ∷ body, omega arith, record {
-          body = body;
-          low = omega arith;
-          high = omega arith;
-          framing = sym (ap (λ (es : List ℕ). es ++ body) (two a 1 (length body) low high (omega arith) (omega arith) (omega arith)));
-        })
+        let high = ltb-true a 256 (and-l (ltb a 256) _ w) in (
+          1 ∷ body,
+          omega arith,
+          record {
+            body = body;
+            low = omega arith;
+            high = omega arith;
+            framing = sym (ap (λ (es : List ℕ). es ++ body) (two a 1 (length body) low high (omega arith) (omega arith) (omega arith)));
+          },
+        )
     go (b ∷ ys) false p false q e = neither (eqb b 0 || leb 128 b || ltb maxBody (a - 128 + 128 * b)) e
       where
         neither : (t : Bool) → (if t then invalid else size (a - 128 + 128 * b) ys) ≡ unread → Part (a ∷ b ∷ ys)
@@ -122,13 +125,16 @@ size-begins bytes n ys f short =
     let l = length-replicate {A = ℕ} (n - length ys) 0 in
     let all-of : length (ys ++ rest) ≡ n = let j = length-append ys rest in omega arith in
     let low = f .low in
-    let high = f .high in
-    (rest, omega arith, record {
-      body = ys ++ rest;
-      low = omega arith;
-      high = omega arith;
-      framing = ap (λ (zs : List ℕ). zs ++ rest) (f .form) ∙ append-assoc (encode n) ys rest ∙ ap (λ (k : ℕ). encode k ++ (ys ++ rest)) (sym all-of);
-    })
+    let high = f .high in (
+      rest,
+      omega arith,
+      record {
+        body = ys ++ rest;
+        low = omega arith;
+        high = omega arith;
+        framing = ap (λ (zs : List ℕ). zs ++ rest) (f .form) ∙ append-assoc (encode n) ys rest ∙ ap (λ (k : ℕ). encode k ++ (ys ++ rest)) (sym all-of);
+      },
+    )
 
 part-begins : (bytes : List ℕ) → all isByte bytes ≡ true → framed bytes ≡ part → Part bytes
 unfolding framed framedBy
@@ -194,7 +200,7 @@ ends bytes before b body w e p q =
     let one-more : length bytes ≡ length before + 1 = ap length e ∙ length-append before (b ∷ []) in
     let k : length before ≡ length xs + j = omega arith in
     let was : before ≡ xs ++ take j body =
-        sym (take-append-seam before (b ∷ [])) ∙ ap (take (length before)) (sym e ∙ r .form .form) ∙ ap (λ (i : ℕ). take i (xs ++ body)) k ∙ take-append-add xs body j in
+    sym (take-append-seam before (b ∷ [])) ∙ ap (take (length before)) (sym e ∙ r .form .form) ∙ ap (λ (i : ℕ). take i (xs ++ body)) k ∙ take-append-add xs body j in
     let short : length (take j body) < n = short-of n (take j body) (sym (ap framedBy (length-read n (take j body) low (r .form .high))) ∙ sym (ap framed was) ∙ p) in
     let same : length body ≡ n = let l = length-take j body in omega arith in
     r .form .form ∙ ap (λ (i : ℕ). encode i ++ body) (sym same)

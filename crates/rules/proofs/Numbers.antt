@@ -13,7 +13,7 @@ use borrow.Author.Tests.{ltb-true, ltb-false, lt-ltb, le-ltb, le-leb, lt-leb, eq
 use Rattle.rules.specs.Basic.{all}
 use Rattle.rules.specs.Number.{encodeIn, lowFirst, encode, Read, got, bad, longer, readNumber}
 use Rattle.rules.specs.Valid.{isByte}
-use Rattle.rules.proofs.Logic.{and-l, and-r, and-i}
+use Rattle.rules.proofs.Logic.{and-l, and-r}
 
 pub below-or : (a b : ℕ) → (a < b) ⊎ (b ≤ a)
 below-or a b = go (ltb a b) refl
@@ -69,12 +69,6 @@ by-sevens (suc k) n h =
 -- 14, 16, 32 and 64 bits take at most 2, 3, 5 and 10 bytes
 pub encode-width : (w k n : ℕ) → w ≤ 7 * suc k → n < 2 ^ w → length (encode n) ≤ suc k
 encode-width w k n h l = by-sevens k n (omega (arith, pow-mono h))
-
-pub encode-bytes : (n : ℕ) → all isByte (encode n) ≡ true
-unfolding all isByte
-encode-bytes = by-bytes (λ n. all isByte (encode n) ≡ true)
-    (λ n l. rw (encode-one n l) (and-i (lt-ltb n 256 (omega arith)) refl))
-    (λ n l h. rw (encode-more n l) (and-i (lt-ltb (n % 128 + 128) 256 (omega arith)) h))
 
 -- ---- read back
 

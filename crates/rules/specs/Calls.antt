@@ -1,12 +1,11 @@
 -- What the three calls do to lent memory: the promises of `start`, `feed` and `reconnect` are equations with these. Assumes nothing.
 use Prim.Native.Nat.{ℕ}
-use mathlib.Core.Bool.{Bool}
 use mathlib.Core.List.{List, [], _++_}
 use lib.ListN.{length, drop}
 use lib.Dec.{leb, ltb}
 use Rattle.rules.specs.Basic.{if_then_else_}
 use Rattle.rules.specs.Refusal.{noStation, shortBuffer, invalidMemory}
-use Rattle.rules.specs.State.{State, start, stationCount}
+use Rattle.rules.specs.State.{start, stationCount}
 use Rattle.rules.specs.Frame.{maxAnswer}
 use Rattle.rules.specs.Model.{Result, fedFrom, reconnect}
 use Rattle.rules.specs.Memory.{Memory, sized, encode, decode, valid}

@@ -21,7 +21,7 @@ use Rattle.rules.proofs.Index.{found-at, placed-set, exchanged-set}
 use Rattle.handle.specs.Meaning.{handleOf, none}
 use Rattle.handle.specs.declared.Handle.{Handle}
 use Rattle.handle.proofs.Slots.{findIndex, freeSlot, found-item, map-set}
-use Rattle.state.specs.Parts.{StationsIn, HandlesIn}
+use Rattle.state.specs.Parts.{HandlesIn}
 use Rattle.state.specs.StationFacts.{nextHandle, NextGiven}
 use Rattle.state.specs.HandleFacts.{HandleGiven, HandleRoom, HandleAdded, HandleDropped}
 use Rattle.state.proofs.FormedLaws.{valid-formed, handles-back}

@@ -5,7 +5,7 @@ use Rattle.rules.specs.Token.{Token}
 use Rattle.rules.specs.Table.{Slot, Table, withSlots}
 use Rattle.rules.specs.Handle as Rules
 use Rattle.rules.specs.Station.{Station}
-use Rattle.rules.specs.State.{State, withTokens, withHandles, withStations, putToken, changeToken, used}
+use Rattle.rules.specs.State.{State, withTokens, withHandles, putToken, changeToken, used}
 use Rattle.handle.specs.declared.Handle.{Handle}
 use Rattle.state.specs.Parts.{TokensIn, StationsIn, HandlesIn}
 
@@ -14,10 +14,6 @@ module _ {σ : State} {ts ds : List ℕ} (i : TokensIn σ ts ds) where
   pub with-handles : (x : Table Rules.Handle) → TokensIn (withHandles x σ) ts ds
   unfolding withHandles
   with-handles x = record { words = i .words; bytes = i .bytes }
-
-  pub with-stations : (xs : List Station) → TokensIn (withStations xs σ) ts ds
-  unfolding withStations
-  with-stations xs = record { words = i .words; bytes = i .bytes }
 
 -- stations: putToken and released, which give no number
 module _ {σ : State} {ss : List ℕ} (j : StationsIn σ ss) where

@@ -1,31 +1,27 @@
 -- What is read in the parts of a valid state. Assumes nothing.
-use Prim.Native.Nat.{ℕ, suc, _+_, _*_, _≤_, _<_}
+use Prim.Native.Nat.{ℕ, _≤_, _<_}
 use native.Mathlib.Omega.{arith}
 use mathlib.Core.Path.{_≡_, refl, sym, ap, ap₂, _∙_}
 use mathlib.Core.Bool.{Bool, true, _&&_}
 use mathlib.Core.List.{List}
 use lib.Dec.{eqb, ltb}
-use lib.ListN.{length, drop, getD, List·getD-eq-default}
-use lib.Seq.{getD-take, getD-drop}
+use lib.ListN.{length, getD, List·getD-eq-default}
 use borrow.Author.Tests.{ltb-true}
-use Rattle.table.specs.Table.{flat, record-at, record-flat}
+use Rattle.table.specs.Table.{record-at}
 use Rattle.table.specs.Rows.{length-rows, rows-at}
 use Rattle.rules.specs.Number.{max64}
 use Rattle.rules.specs.Privileges.{isEnabled}
 use Rattle.rules.specs.Token as Rules
 use Rattle.rules.specs.Token.{maxDacl}
 use Rattle.rules.specs.Table.{Slot, free, orElse, canAdd, found}
-use Rattle.rules.specs.Station.{startStation}
 use Rattle.rules.specs.State as State
-use Rattle.rules.specs.State.{State, tokenSlots, stationCount, noToken, isNumbered, stationAt, callerNumber, caller, held, canAddToken}
+use Rattle.rules.specs.State.{State, tokenSlots, noToken, isNumbered, caller, held, canAddToken}
 use Rattle.rules.specs.Index.{freeIndex}
 use Rattle.rules.specs.Valid.{valid}
-use Rattle.rules.specs.Memory.{tokenWords, counterWords, stationWords, stationRow, slotAt, tokenAt, encode, decode}
+use Rattle.rules.specs.Memory.{tokenWords, slotAt, tokenAt}
 use Rattle.rules.proofs.Logic.{and-r}
 use Rattle.rules.proofs.Facts.{valid-facts}
 use Rattle.rules.proofs.Index.{found-at}
-use Rattle.rules.proofs.Rows.{length-stationRow}
-use Rattle.rules.proofs.Memory.{read-back}
 use Rattle.privilege.specs.Meaning.{privilegesOf}
 use Rattle.token.specs.Meaning.{tokenOf, slotsOf, Sized}
 use Rattle.token.specs.declared.Token.{Token}

@@ -35,26 +35,6 @@ module _ {A : Type 0} where
   same zero f (x ∷ xs) z e = ap (λ y. y ∷ xs) e
   same (suc i) f (x ∷ xs) z e = ap (λ ys. x ∷ ys) (same i f xs z e)
 
--- ---- a stop
-
--- a chunk that ends in a part is used whole
-used-on : (n k : ℕ) (pending : List ℕ) (go : List ℕ → Stop) → (go pending .what ≡ part → go pending .used ≡ k)
-    → (y : Framed) → stopOn n pending go y .what ≡ part → stopOn n pending go y .used ≡ k
-unfolding stopOn
-used-on n k pending go ih part e = ih e
-used-on n k pending go ih broken e = absurd (let z : _≡_ {A = ℕ} 0 1 = cc in omega arith)
-used-on n k pending go ih (whole body) e = absurd (let z : _≡_ {A = ℕ} 0 1 = cc in omega arith)
-
-used-all : (n : ℕ) (pending chunk : List ℕ) → stoppedFrom n pending chunk .what ≡ part → stoppedFrom n pending chunk .used ≡ n + length chunk
-unfolding stoppedFrom
-used-all n pending [] e = omega arith
-used-all n pending (b ∷ chunk) e =
-    let more = pending ++ (b ∷ []) in
-    used-on (n + 1) (n + suc (length chunk)) more (λ bytes. stoppedFrom (n + 1) bytes chunk) (λ k. used-all (n + 1) more chunk k ∙ omega arith) (framed more) e
-
-pub part-used : (pending chunk : List ℕ) → stopped pending chunk .what ≡ part → stopped pending chunk .used ≡ length chunk
-part-used pending chunk e = used-all 0 pending chunk e ∙ omega arith
-
 -- ---- a feed
 
 abbrev pub accepted : ℕ → List ℕ → State → Result

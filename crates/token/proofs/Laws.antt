@@ -9,7 +9,7 @@ use Rattle.table.specs.Table.{record-at, put-record, flat, record-flat, put-fla
 use Rattle.rules.specs.Token.{Token, maxDacl}
 use Rattle.rules.specs.Table.{Slot, free, live}
 use Rattle.rules.specs.Valid.{tokenValid}
-use Rattle.rules.specs.Memory.{tokenWords, tokenRow, daclRow, slotRow, slotDacl, tokenAt}
+use Rattle.rules.specs.Memory.{tokenWords, slotRow, slotDacl, tokenAt}
 use Rattle.rules.proofs.Rows.{length-slotRow, length-slotDacl, token-back}
 
 module _ (slots : List (Slot Token)) (i : ℕ) (h : i < length slots) where
@@ -31,13 +31,3 @@ module _ (slots : List (Slot Token)) (i : ℕ) (h : i < length slots) where
         (record-flat slotRow tokenWords length-slotRow i slots free h ∙ ap slotRow e)
         (record-flat slotDacl maxDacl length-slotDacl i slots free h ∙ ap slotDacl e)
         ∙ token-back t v
-
-    -- whatever the change is
-    module _ (f : Token → Token) where
-      pub changed-words : put-record tokenWords i (tokenRow (f there)) (flat slotRow slots) ≡ flat slotRow (set slots i (live (f t)))
-      unfolding slotRow
-      changed-words = ap (λ (x : Token). put-record tokenWords i (tokenRow (f x)) (flat slotRow slots)) loaded-there ∙ put-words (live (f t))
-
-      pub changed-dacls : put-record maxDacl i (daclRow (f there)) (flat slotDacl slots) ≡ flat slotDacl (set slots i (live (f t)))
-      unfolding slotDacl
-      changed-dacls = ap (λ (x : Token). put-record maxDacl i (daclRow (f x)) (flat slotDacl slots)) loaded-there ∙ put-dacls (live (f t))
