@@ -2,7 +2,7 @@
 -- token's. Assumes nothing.
 use Prim.Native.Nat.{ℕ, _+_, _*_, _-_, _≤_, _<_}
 use native.Mathlib.Omega.{arith}
-use mathlib.Core.Path.{_≡_, refl, sym, ap, subst, _∙_}
+use mathlib.Core.Path.{_≡_, refl, sym, ap, _∙_}
 use mathlib.Core.Bool.{true}
 use mathlib.Core.List.{List, _++_}
 use lib.ListN.{length, take, drop, getD, set, take-append-drop, List·getD-eq-default}
@@ -66,45 +66,33 @@ module _ (n : ℕ) {i : ℕ} {ts ds : List ℕ} (at : FoundAt n ts i) {σ : Stat
       let w = index in
       ap (orElse noToken) (found-at (isNumbered n) ps ∙ List·getD-eq-default ps free (omega arith))
 
--- ---- changes
+-- ---- the token of a number becomes another one of that number
 
--- the rows of slot i are those of f of the token that was there
-pub record RowsBecome (f : Rules.Token → Rules.Token) (i : ℕ) (ts ds ws bs : List ℕ) : Type 0 where
-  pub words : (t : Rules.Token) → tokenValid t ≡ true → record-at tokenWords i ts ≡ tokenRow t → ws ≡ tokenRow (f t)
-  pub bytes : (t : Rules.Token) → tokenValid t ≡ true → record-at maxDacl i ds ≡ daclRow t → bs ≡ daclRow (f t)
-  pub number : (t : Rules.Token) → f t .number ≡ t .number
-
-module _ (n : ℕ) {i : ℕ} {ts ds : List ℕ} (at : FoundAt n ts i) (f : Rules.Token → Rules.Token) (σ : State) (v : valid σ ≡ true) (h : TokensIn σ ts ds) where
-  pub changed-in-place : i < tokenSlots → {ws bs : List ℕ} → RowsBecome f i ts ds ws bs
-      → TokensIn (changeToken n f σ) (put-record tokenWords i ws ts) (put-record maxDacl i bs ds)
-  unfolding changeToken putToken withTokens withSlots slotRow slotDacl
-  changed-in-place l {ws} {bs} b =
+module _ (n : ℕ) {i : ℕ} {ts ds : List ℕ} (at : FoundAt n ts i) {σ : State} (v : valid σ ≡ true) (h : TokensIn σ ts ds) where
+  pub put-in-place : i < tokenSlots → (u : Rules.Token) → u .number ≡ n → {ws bs : List ℕ} → ws ≡ tokenRow u → bs ≡ daclRow u
+      → TokensIn (putToken u σ) (put-record tokenWords i ws ts) (put-record maxDacl i bs ds)
+  unfolding putToken withTokens withSlots slotRow slotDacl
+  put-in-place l u k {ws} {bs} ew eb =
       let ps = σ .tokens .slots in
-      let t = State.tokenOf σ n in
       let long = slots-long σ v in
-      let s = in-slot n at v h l in
-      let same : f t .number ≡ n = b .number t ∙ s .number in
-      let e : set ps i (live (f t)) ≡ changeToken n f σ .tokens .slots =
-      ap (λ (k : ℕ). set ps k (live (f t))) (index n at v h ∙ ap (λ (m : ℕ). foundIndex (isNumbered m) ps) (sym same)) ∙ sym (exchanged-set (isNumbered (f t .number)) (live (f t)) ps) in
+      let e : set ps i (live u) ≡ putToken u σ .tokens .slots =
+      ap (λ (j : ℕ). set ps j (live u)) (index n at v h ∙ ap (λ (m : ℕ). foundIndex (isNumbered m) ps) (sym k)) ∙ sym (exchanged-set (isNumbered (u .number)) (live u) ps) in
       record {
-        words = ap (λ (w : List ℕ). put-record tokenWords i w ts) (b .words t (s .isValid) (s .words)) ∙ ap (put-record tokenWords i (tokenRow (f t))) (h .words)
-            ∙ put-words ps i (omega arith) (live (f t)) ∙ ap (flat slotRow) e;
-        bytes = ap (λ (w : List ℕ). put-record maxDacl i w ds) (b .bytes t (s .isValid) (s .bytes)) ∙ ap (put-record maxDacl i (daclRow (f t))) (h .bytes)
-            ∙ put-dacls ps i (omega arith) (live (f t)) ∙ ap (flat slotDacl) e;
+        words = ap (λ (w : List ℕ). put-record tokenWords i w ts) ew ∙ ap (put-record tokenWords i (tokenRow u)) (h .words) ∙ put-words ps i (omega arith) (live u) ∙ ap (flat slotRow) e;
+        bytes = ap (λ (w : List ℕ). put-record maxDacl i w ds) eb ∙ ap (put-record maxDacl i (daclRow u)) (h .bytes) ∙ put-dacls ps i (omega arith) (live u) ∙ ap (flat slotDacl) e;
       }
 
-  -- a number that no token has
-  pub unchanged-in-place : tokenSlots ≤ i → ((t : Rules.Token) → f t .number ≡ t .number) → TokensIn (changeToken n f σ) ts ds
-  unfolding changeToken putToken withTokens withSlots noToken Rules.newToken
-  unchanged-in-place l keeps =
+  -- a token of number 0: no slot has it
+  pub put-nowhere : tokenSlots ≤ i → (u : Rules.Token) → u .number ≡ State.tokenOf σ n .number → TokensIn (putToken u σ) ts ds
+  unfolding putToken withTokens withSlots noToken Rules.newToken
+  put-nowhere l u k =
       let ps = σ .tokens .slots in
-      let t = State.tokenOf σ n in
       let long = slots-long σ v in
-      let zero-number : f t .number ≡ 0 = keeps t ∙ ap (λ (x : Rules.Token). x .number) (no-token n at v h l) in
-      let none : tokenSlots ≡ foundIndex (isNumbered (f t .number)) ps =
-      no-slot ts {x = f t .number} (omega arith) .0 ds ∙ ap (foundIndex (isNumbered (f t .number))) (slots-read v h) in
-      let e : ps ≡ changeToken n f σ .tokens .slots =
-      sym (set-out ps (foundIndex (isNumbered (f t .number)) ps) (live (f t)) (omega arith)) ∙ sym (exchanged-set (isNumbered (f t .number)) (live (f t)) ps) in
+      let zero-number : u .number ≡ 0 = k ∙ ap (λ (x : Rules.Token). x .number) (no-token n at v h l) in
+      let none : tokenSlots ≡ foundIndex (isNumbered (u .number)) ps =
+      no-slot ts {x = u .number} (omega arith) .0 ds ∙ ap (foundIndex (isNumbered (u .number))) (slots-read v h) in
+      let e : ps ≡ putToken u σ .tokens .slots =
+      sym (set-out ps (foundIndex (isNumbered (u .number)) ps) (live u) (omega arith)) ∙ sym (exchanged-set (isNumbered (u .number)) (live u) ps) in
       record { words = h .words ∙ ap (flat slotRow) e; bytes = h .bytes ∙ ap (flat slotDacl) e }
 
 -- ---- the row as it is lent, and as it comes back
@@ -115,25 +103,39 @@ lent i ts = take (i * tokenWords + tokenWords - i * tokenWords) (drop (i * token
 abbrev pub back : ℕ → List ℕ → List ℕ → List ℕ
 back i ws ts = take (i * tokenWords) ts ++ (ws ++ drop (i * tokenWords + tokenWords - i * tokenWords) (drop (i * tokenWords) ts))
 
-module _ {n i : ℕ} {ts : List ℕ} (at : FoundAt n ts i) where
-  -- a change that leaves the DACL and the number
-  pub words-changed : (f : Rules.Token → Rules.Token) → ((t : Rules.Token) → f t .defaults .dacl ≡ t .defaults .dacl) → ((t : Rules.Token) → f t .number ≡ t .number)
-      → i < tokenSlots → {ws : List ℕ} → ((t : Rules.Token) → tokenValid t ≡ true → lent i ts ≡ tokenRow t → ws ≡ tokenRow (f t)) → WordsChanged n f ts (back i ws ts)
-  unfolding daclRow record-at put-record
-  words-changed f same keeps l {ws} e = record {
-    tokens = λ σ v {ds} h.
-        let s = in-slot n at v h l in
-        let c = changed-in-place n at f σ v h l {bs = record-at maxDacl i ds} (record {
-          words = λ t w q. e t w (part-at tokenWords i ts ∙ q);
-          bytes = λ t w q. q ∙ sym (ap (pad maxDacl) (same t));
-          number = keeps;
-        }) in
-        record { words = put-lent tokenWords i {r = ws} ts refl ∙ c .words; bytes = put-same ds ∙ c .bytes };
-  }
-    where
-      put-same : (ds : List ℕ) → ds ≡ put-record maxDacl i (record-at maxDacl i ds) ds
-      put-same ds =
-          sym (take-append-drop (i * maxDacl) ds) ∙ ap (λ (l : List ℕ). take (i * maxDacl) ds ++ l) (sym (take-append-drop maxDacl (drop (i * maxDacl) ds)))
+put-same : (w i : ℕ) (xs : List ℕ) → xs ≡ put-record w i (record-at w i xs) xs
+unfolding record-at put-record
+put-same w i xs = sym (take-append-drop (i * w) xs) ∙ ap (λ (l : List ℕ). take (i * w) xs ++ l) (sym (take-append-drop w (drop (i * w) xs)))
 
-  pub words-unchanged : (f : Rules.Token → Rules.Token) → ((t : Rules.Token) → f t .number ≡ t .number) → tokenSlots ≤ i → WordsChanged n f ts ts
-  words-unchanged f keeps l = record { tokens = λ σ v h. unchanged-in-place n at f σ v h l keeps }
+module _ (n : ℕ) {i : ℕ} {ts ds : List ℕ} (at : FoundAt n ts i) {σ : State} (v : valid σ ≡ true) (h : TokensIn σ ts ds) (l : i < tokenSlots) where
+  pub lent-row : lent i ts ≡ tokenRow (State.tokenOf σ n)
+  lent-row = part-at tokenWords i ts ∙ in-slot n at v h l .words
+
+  -- the DACL stays
+  pub put-words-in-place : (u : Rules.Token) → u .number ≡ State.tokenOf σ n .number → u .defaults .dacl ≡ State.tokenOf σ n .defaults .dacl
+      → {ws : List ℕ} → ws ≡ tokenRow u → TokensIn (putToken u σ) (back i ws ts) ds
+  unfolding daclRow
+  put-words-in-place u k d {ws} e =
+      let s = in-slot n at v h l in
+      let c = put-in-place n at v h l u (k ∙ s .number) e (s .bytes ∙ sym (ap (pad maxDacl) d)) in
+      record { words = put-lent tokenWords i {r = ws} ts refl ∙ c .words; bytes = put-same maxDacl i ds ∙ c .bytes }
+
+  pub kept-in-place : {ws : List ℕ} → ws ≡ tokenRow (State.tokenOf σ n) → back i ws ts ≡ ts
+  kept-in-place {ws} e = put-lent tokenWords i {r = ws} ts (e ∙ sym (in-slot n at v h l .words)) ∙ sym (put-same tokenWords i ts)
+
+-- ---- a change of every token's row
+
+module _ {n i : ℕ} {ts : List ℕ} (at : FoundAt n ts i) (f : Rules.Token → Rules.Token) (keeps : (t : Rules.Token) → f t .number ≡ t .number) where
+  -- it leaves the DACL
+  pub words-changed : ((t : Rules.Token) → f t .defaults .dacl ≡ t .defaults .dacl)
+      → i < tokenSlots → {ws : List ℕ} → ((t : Rules.Token) → tokenValid t ≡ true → lent i ts ≡ tokenRow t → ws ≡ tokenRow (f t)) → WordsChanged n f ts (back i ws ts)
+  unfolding changeToken
+  words-changed same l e = record {
+    tokens = λ σ v h.
+        let t = State.tokenOf σ n in
+        put-words-in-place n at v h l (f t) (keeps t) (same t) (e t (in-slot n at v h l .isValid) (lent-row n at v h l));
+  }
+
+  pub words-unchanged : tokenSlots ≤ i → WordsChanged n f ts ts
+  unfolding changeToken
+  words-unchanged l = record { tokens = λ σ v h. put-nowhere n at v h l (f (State.tokenOf σ n)) (keeps (State.tokenOf σ n)) }
