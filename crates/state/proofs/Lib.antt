@@ -5,6 +5,6 @@ pub mod ReleaseLaws
 pub mod Slots
 pub mod TokenLooks
 pub mod InPlace
-pub mod TokenPrivileges
+pub mod TokenScalars
 pub mod TokenChanges
 pub mod TokenFrames

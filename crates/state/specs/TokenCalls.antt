@@ -16,7 +16,8 @@ use Rattle.rules.specs.Privileges.{markUsed}
 use Rattle.rules.specs.Memory.{tokenRow, slotRow, slotDacl}
 use Rattle.privilege.specs.Meaning.{privilegesOf}
 use Rattle.privilege.specs.declared.privileges.Privileges.{Privileges}
-use Rattle.token.specs.Meaning.{tokenOf, slotsOf, Sized}
+use Rattle.token.specs.Meaning.{identityOf, tokenOf, slotsOf, Sized}
+use Rattle.token.specs.declared.Identity.{Identity}
 use Rattle.token.specs.declared.Token.{Token}
 use Rattle.state.specs.Parts.{TokensIn, StationsIn}
 use Rattle.state.specs.StationFacts.{nextHandle}
@@ -40,7 +41,13 @@ pub record CallerGiven (s : ℕ) (ts ds ss : List ℕ) (r : Token) : Type 0 wher
   pub sized : Sized r
   pub token : (σ : State) → valid σ ≡ true → TokensIn σ ts ds → StationsIn σ ss → tokenOf r ≡ caller σ s
 
+pub record IdentityGiven (n : ℕ) (ts : List ℕ) (r : Identity) : Type 0 where
+  pub identity : (σ : State) → valid σ ≡ true → {ds : List ℕ} → TokensIn σ ts ds → identityOf r ≡ State.tokenOf σ n .identity
+
 -- the slot of any number; past the last one there is no token
+pub record IdentityAt (slot : ℕ) (ts : List ℕ) (r : Identity) : Type 0 where
+  pub given : (n : ℕ) → FoundAt n ts slot → IdentityGiven n ts r
+
 pub record PrivilegesAt (slot : ℕ) (ts : List ℕ) (r : Privileges) : Type 0 where
   pub given : (n : ℕ) → FoundAt n ts slot → (σ : State) → valid σ ≡ true → {ds : List ℕ} → TokensIn σ ts ds → privilegesOf r ≡ State.tokenOf σ n .privileges
 

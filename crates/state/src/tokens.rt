@@ -9,7 +9,7 @@ ghost use Rattle.rules.specs.Memory.{tokenWords, counterWords, stationWords};
 ghost use Rattle.token.specs.Meaning.{tokenOf, Sized};
 ghost use Rattle.state.specs.Parts.{Lent};
 ghost use Rattle.state.specs.StationFacts.{stationsSize};
-ghost use Rattle.state.specs.TokenCalls.{TokenLoaded, TokenGiven, CallerGiven, PrivilegesAt, Held, Marked, nextIn, NextToken, CanAdd, Stored, TokenPut, TokenAdded, Used};
+ghost use Rattle.state.specs.TokenCalls.{TokenLoaded, TokenGiven, CallerGiven, IdentityGiven, IdentityAt, PrivilegesAt, Held, Marked, nextIn, NextToken, CanAdd, Stored, TokenPut, TokenAdded, Used};
 use crate::stations::NEXT_TOKEN;
 use crate::stations::caller_number;
 use privilege::privileges::Privileges;
@@ -100,6 +100,34 @@ pub fn caller(station: u32, tokens: &[u64], dacls: &[u8], stations: &[u64]) -> T
 {
     let number = caller_number(station, stations);
     token_of(number, tokens, dacls)
+}
+
+// Who the token in a slot is; what `no_token` is, past the last slot.
+pub fn identity_at(slot: usize, tokens: &[u64]) -> Identity
+    requires { ⌜ length (now tokens) ≡ tokenSlots * tokenWords ⌝ }
+    ensures { λ r. ⌜ IdentityAt slot (now (tokens .entry)) r ⌝ }
+{
+    if slot < TOKEN_SLOTS {
+        let at = slot * TOKEN_WORDS;
+        let end = at + TOKEN_WORDS;
+        return row::identity_in(&tokens[at..end]);
+    }
+    Identity {
+        user: 0,
+        session: 0,
+        kind: 1,
+        level: 0,
+        integrity: 0,
+    }
+}
+
+// The same of the live token of a number.
+pub fn identity_of(number: u64, tokens: &[u64]) -> Identity
+    requires { ⌜ length (now tokens) ≡ tokenSlots * tokenWords ⌝ }
+    ensures { λ r. ⌜ IdentityGiven number (now (tokens .entry)) r ⌝ }
+{
+    let slot = slots::find(tokens, number);
+    identity_at(slot, tokens)
 }
 
 // The privileges of the token in a slot; none past the last slot.

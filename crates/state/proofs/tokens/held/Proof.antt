@@ -1,6 +1,6 @@
 -- The caller's token has it enabled. Assumes nothing.
 use borrow.Author.Needs.{needs}
-use Rattle.state.proofs.TokenPrivileges.{held-given}
+use Rattle.state.proofs.TokenScalars.{held-given}
 use Rattle.state.proofs.tokens.held.Statement.{statement}
 use Rattle.state.proofs.tokens.held.Tie as tie
 

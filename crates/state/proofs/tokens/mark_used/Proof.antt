@@ -1,6 +1,6 @@
 -- The row with the bits. Assumes nothing.
 use borrow.Author.Needs.{needs}
-use Rattle.state.proofs.TokenPrivileges.{marked}
+use Rattle.state.proofs.TokenScalars.{marked}
 use Rattle.state.proofs.tokens.mark_used.Statement.{statement}
 use Rattle.state.proofs.tokens.mark_used.Tie as tie
 

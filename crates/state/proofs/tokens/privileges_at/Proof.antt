@@ -1,6 +1,6 @@
 -- The four words, or none. Assumes nothing.
 use borrow.Author.Needs.{needs}
-use Rattle.state.proofs.TokenPrivileges.{privileges-at, no-privileges}
+use Rattle.state.proofs.TokenScalars.{privileges-at, no-privileges}
 use Rattle.state.proofs.tokens.privileges_at.Statement.{statement}
 use Rattle.state.proofs.tokens.privileges_at.Tie as tie
 

@@ -1,6 +1,6 @@
 -- The row of the caller's token, marked. Assumes nothing.
 use borrow.Author.Needs.{needs}
-use Rattle.state.proofs.TokenPrivileges.{used-in-place, used-nowhere}
+use Rattle.state.proofs.TokenScalars.{used-in-place, used-nowhere}
 use Rattle.state.proofs.tokens.used.Statement.{statement}
 use Rattle.state.proofs.tokens.used.Tie as tie
 

@@ -1,25 +1,45 @@
--- The privileges of a token, read and marked in its row. Assumes nothing.
+-- Who a token is, read in its row; its privileges, read and marked there. Assumes nothing.
 use Prim.Native.Nat.{ℕ, _%_, _^_, _≤_, _<_}
 use mathlib.Core.Path.{_≡_, refl, sym, ap, subst, _∙_}
 use mathlib.Core.Bool.{Bool, true}
 use mathlib.Core.List.{List}
-use Rattle.table.specs.Table.{part-at}
 use Rattle.rules.specs.Privileges as Rules
 use Rattle.rules.specs.Privileges.{isEnabled, markUsed, granted}
-use Rattle.rules.specs.Token.{Token, withPrivileges, newToken}
+use Rattle.rules.specs.Token.{Token, withPrivileges, newToken, primaryOf}
 use Rattle.rules.specs.State as State
 use Rattle.rules.specs.State.{State, tokenSlots, noToken, held, usedOn, used, caller, changeToken}
-use Rattle.rules.specs.Memory.{head, tokenRow, tokenWords}
+use Rattle.rules.specs.Memory.{head, tokenRow, tokenAt, identityAt}
+use Rattle.rules.proofs.Rows.{token-back}
 use Rattle.rules.proofs.Bits.{power-inside}
 use Rattle.privilege.specs.Meaning.{privilegesOf}
 use Rattle.privilege.specs.declared.privileges.Privileges.{Privileges}
-use Rattle.token.specs.Row.{privilegesIn, Becomes}
+use Rattle.token.specs.Meaning.{identityOf}
+use Rattle.token.specs.Row.{identityIn, privilegesIn, Becomes}
+use Rattle.token.specs.declared.Identity.{Identity}
 use Rattle.state.specs.Parts.{TokensIn}
 use Rattle.state.specs.StationFacts.{CallerNumber}
-use Rattle.state.specs.TokenCalls.{FoundAt, PrivilegesAt, Held, Marked, WordsChanged, Used}
-use Rattle.state.proofs.InPlace.{lent, back, in-slot, no-token, words-changed, words-unchanged}
+use Rattle.state.specs.TokenCalls.{FoundAt, IdentityGiven, IdentityAt, PrivilegesAt, Held, Marked, WordsChanged, Used}
+use Rattle.state.proofs.InPlace.{lent, back, in-slot, lent-row, no-token, words-changed, words-unchanged}
 
 -- ---- reading
+
+module _ {i : ℕ} {ts : List ℕ} where
+  pub identity-at : {r : Identity} → i < tokenSlots → r ≡ identityIn (lent i ts) → IdentityAt i ts r
+  unfolding identityAt tokenAt
+  identity-at l e = record {
+    given = λ n at. record {
+      identity = λ σ v h.
+          let s = in-slot n at v h l in
+          ap identityOf (e ∙ ap identityIn (lent-row n at v h l)) ∙ ap (λ (t : Token). t .identity) (token-back (State.tokenOf σ n) (s .isValid));
+    };
+  }
+
+  pub no-identity : tokenSlots ≤ i → IdentityAt i ts (record { user = 0; session = 0; kind = 1; level = 0; integrity = 0 })
+  unfolding noToken newToken primaryOf
+  no-identity l = record { given = λ n at. record { identity = λ σ v h. sym (ap (λ (t : Token). t .identity) (no-token n at v h l)) } }
+
+  pub identity-of : {n : ℕ} {r : Identity} → FoundAt n ts i → IdentityAt i ts r → IdentityGiven n ts r
+  identity-of {n} at g = g .given n at
 
 in-row : (ws : List ℕ) (t : Token) → ws ≡ tokenRow t → privilegesOf (privilegesIn ws) ≡ t .privileges
 unfolding tokenRow head
@@ -27,7 +47,7 @@ in-row ws t e = ap (λ (l : List ℕ). privilegesOf (privilegesIn l)) e
 
 pub privileges-at : {i : ℕ} {ts : List ℕ} {p : Privileges} → i < tokenSlots → p ≡ privilegesIn (lent i ts) → PrivilegesAt i ts p
 privileges-at {i} {ts} l e = record {
-  given = λ n at σ v h. ap privilegesOf e ∙ in-row (lent i ts) (State.tokenOf σ n) (part-at tokenWords i ts ∙ in-slot n at v h l .words);
+  given = λ n at σ v h. ap privilegesOf e ∙ in-row (lent i ts) (State.tokenOf σ n) (lent-row n at v h l);
 }
 
 pub no-privileges : {i : ℕ} {ts : List ℕ} → tokenSlots ≤ i → PrivilegesAt i ts (record { present = 0; enabled = 0; «by_default» = 0; used = 0 })
