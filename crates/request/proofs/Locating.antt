@@ -5,8 +5,7 @@ use mathlib.Core.Path.{_≡_, refl, sym, ap, _∙_}
 use mathlib.Core.Bool.{Bool, true, false, _&&_}
 use mathlib.Core.List.{List}
 use lib.Dec.{eqb, leb}
-use borrow.Author.Tests.{eqb-true, leb-true}
-use Rattle.rules.specs.Basic.{if_then_else_}
+use borrow.Author.Tests.{eqb-true, eq-eqb, leb-true, leb-false}
 use Rattle.rules.specs.Handle as rules
 use Rattle.rules.specs.Token.{Token, newToken}
 use Rattle.rules.specs.Valid.{valid}
@@ -38,28 +37,25 @@ module _ {s n right : ℕ} {hs : List Handle} {ts : List ℕ} {t : Target} (l : 
       let none = ap (λ (x : Token). x .number) (no-token (t .handle .token) at v k past) in
       omega arith
 
-  located : (b : Bool) → (eqb (t .refusal) 0 && leb tokenSlots i) ≡ b
-      → TokenLocated s n right hs ts (record { refusal = if b then 2 else t .refusal; token = t .handle .token; slot = i; mask = t .handle .mask })
-  located true e = record {
-    small = omega arith;
-    inside = λ z. absurd (omega arith);
-    slot = at;
-    token = λ σ v h. ap (λ (x : rules.Handle). x .token) (l .handle σ v h);
-    mask = λ σ v h. ap (λ (x : rules.Handle). x .mask) (l .handle σ v h);
-    refusal = λ σ v h k. absurd (never σ v h k (eqb-true (t .refusal) 0 (and-l (eqb (t .refusal) 0) _ e)) (leb-true tokenSlots i (and-r (eqb (t .refusal) 0) _ e)));
-  }
-  located false e = record {
-    small = l .small;
-    inside = λ z. ?;
-    slot = at;
-    token = λ σ v h. ap (λ (x : rules.Handle). x .token) (l .handle σ v h);
-    mask = λ σ v h. ap (λ (x : rules.Handle). x .mask) (l .handle σ v h);
-    refusal = λ σ v h k. l .refusal σ v h;
-  }
+  module _ (k : ℕ) (small : k < 128) (inside : k ≡ 0 → i < tokenSlots)
+      (same : (σ : State) → valid σ ≡ true → (ds : List ℕ) → HandlesIn σ hs → TokensIn σ ts ds → k ≡ t .refusal) where
+    located : TokenLocated s n right hs ts (record { refusal = k; token = t .handle .token; slot = i; mask = t .handle .mask })
+    located = record {
+      small = small;
+      inside = inside;
+      slot = at;
+      token = λ σ v h. ap (λ (x : rules.Handle). x .token) (l .handle σ v h);
+      mask = λ σ v h. ap (λ (x : rules.Handle). x .mask) (l .handle σ v h);
+      refusal = λ σ v {ds} h j. same σ v ds h j ∙ l .refusal σ v h;
+    }
 
-  pub token-located : TokenLocated s n right hs ts
-      (record { refusal = if eqb (t .refusal) 0 && leb tokenSlots i then 2 else t .refusal; token = t .handle .token; slot = i; mask = t .handle .mask })
-  token-located = located _ refl
+  pub token-lost : (eqb (t .refusal) 0 && leb tokenSlots i) ≡ true → TokenLocated s n right hs ts (record { refusal = 2; token = t .handle .token; slot = i; mask = t .handle .mask })
+  token-lost e = located 2 (omega arith) (λ z. absurd (omega arith))
+      (λ σ v ds h k. absurd (never σ v h k (eqb-true (t .refusal) 0 (and-l (eqb (t .refusal) 0) _ e)) (leb-true tokenSlots i (and-r (eqb (t .refusal) 0) _ e))))
+
+  pub token-there : (eqb (t .refusal) 0 && leb tokenSlots i) ≡ false
+      → TokenLocated s n right hs ts (record { refusal = t .refusal; token = t .handle .token; slot = i; mask = t .handle .mask })
+  token-there e = located (t .refusal) (l .small) (λ z. leb-false tokenSlots i (rw (eq-eqb (t .refusal) 0 z) at e)) (λ σ v ds h k. refl)
 
 -- ---- a request that begins with the handle
 

@@ -20,13 +20,7 @@ pub struct Located {
 }
 
 // In a valid state the token of a live handle is in a slot: the test is for the row that is lent.
-pub fn locate(
-    station: u32,
-    number: u32,
-    right: Mask,
-    handles: Handles,
-    tokens: &[u64],
-) -> Located
+pub fn locate(station: u32, number: u32, right: Mask, handles: Handles, tokens: &[u64]) -> Located
     requires { ⌜ length (now tokens) ≡ tokenSlots * tokenWords ⌝ }
     ensures { λ r. ⌜ TokenLocated station number (right .0) (handles .items) (now (tokens .entry)) r ⌝ }
 {
@@ -34,8 +28,16 @@ pub fn locate(
     let h = target.handle;
     let slot = slots::find(tokens, h.token);
     let lost = (target.refusal == 0) & (TOKEN_SLOTS <= slot);
+    if lost {
+        return Located {
+            refusal: 2,
+            token: h.token,
+            slot: slot,
+            mask: h.mask,
+        };
+    }
     Located {
-        refusal: if lost { 2 } else { target.refusal },
+        refusal: target.refusal,
         token: h.token,
         slot: slot,
         mask: h.mask,
