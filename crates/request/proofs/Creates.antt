@@ -73,8 +73,8 @@ module _ (s : ℕ) (t : Token) {hs : List Handle} {ss ts ds : List ℕ} {b : Boo
   pub create-no-room : {r : Outcome} → not b ≡ true → Ends (answers.Refused 8) r → CreatedIssued s t hs ss ts ds ss ts ds r
   create-no-room f e = record { carried = room-refuses i (λ σ. issued s allRights (tokenOf t) (used createToken s σ)) f e }
 
-  pub create-issues : {ts₁ ds₁ ss′ ts′ ds′ : List ℕ} {r : Outcome} → not b ≡ false → s < stationCount → Used createToken s ts ds ss ts₁ ds₁
-      → Issued s allRights t hs ss ts₁ ds₁ ss′ ts′ ds′ r → CreatedIssued s t hs ss ts ds ss′ ts′ ds′ r
+  pub create-issues : {ts₁ ss′ ts′ ds′ : List ℕ} {r : Outcome} → not b ≡ false → s < stationCount → Used createToken s ts ss ts₁
+      → Issued s allRights t hs ss ts₁ ds ss′ ts′ ds′ r → CreatedIssued s t hs ss ts ds ss′ ts′ ds′ r
   unfolding has
   create-issues f in8 u k = record {
     carried = ends-issuing (λ σ. used createToken s σ) k λ σ v p. record {
@@ -90,7 +90,7 @@ module _ (s : ℕ) (t : Token) {hs : List Handle} {ss ts ds : List ℕ} {b : Boo
 
 -- ---- the request
 
-module _ (s user session integrity present byDefault : ℕ) (body : List ℕ) (at count : ℕ) {hs : List Handle} {ss ts ds : List ℕ} {b : Bool} (h : Held createToken s ts ds ss b) where
+module _ (s user session integrity present byDefault : ℕ) (body : List ℕ) (at count : ℕ) {hs : List Handle} {ss ts ds : List ℕ} {b : Bool} (h : Held createToken s ts ss b) where
   is-held : {c : Bool} → not b ≡ c → (σ : State) → valid σ ≡ true → PartsIn σ hs ss ts ds → not (held σ s createToken) ≡ c
   is-held f σ v p = ap not (sym (h .held σ v (p .tokens) (p .stations))) ∙ f
 

@@ -2,7 +2,7 @@
 use Prim.Native.Nat.{ℕ, _<_}
 use native.Mathlib.Omega.{arith}
 use mathlib.Core.Path.{_≡_, refl, sym, ap, ap₂, _∙_}
-use mathlib.Core.Bool.{Bool, true, false, not, _||_}
+use mathlib.Core.Bool.{Bool, true, false, not, _&&_, _||_}
 use mathlib.Core.List.{List, [], _∷_}
 use lib.Dec.{eqb}
 use borrow.Author.Tests.{eqb-true, eq-eqb, ne-eqb, not-true, not-false}
@@ -14,16 +14,16 @@ use Rattle.rules.specs.Token as rules
 use Rattle.rules.specs.Token.{primary}
 use Rattle.rules.specs.Valid.{valid}
 use Rattle.rules.specs.State as state
-use Rattle.rules.specs.State.{State, stationCount, held, used, setToken, released}
+use Rattle.rules.specs.State.{State, stationCount, caller, held, used, setToken, released}
 use Rattle.rules.specs.Decision.{Decision, carriedOut, need_else_then_, success}
 use Rattle.rules.specs.Install.{matches, marked, install}
 use Rattle.rules.proofs.Facts.{valid-facts, facts-valid}
 use Rattle.rules.proofs.Steps.{Is}
 use Rattle.rules.proofs.Kept.{mark, marks, same-identity}
 use Rattle.handle.specs.declared.Handle.{Handle}
-use Rattle.token.specs.Meaning.{tokenOf}
-use Rattle.token.specs.declared.Token.{Token}
-use Rattle.state.specs.TokenCalls.{TokenGiven, CallerGiven, Held, Used}
+use Rattle.token.specs.declared.Identity.{Identity}
+use Rattle.state.specs.StationFacts.{CallerNumber}
+use Rattle.state.specs.TokenCalls.{IdentityGiven, Held, Used}
 use Rattle.state.specs.ReleaseFacts.{PartsIn, Installed}
 use Rattle.state.proofs.TokenFrames.{used-stations, used-handles}
 use Rattle.request.specs.declared.answer.Answer.the-variants as answers
@@ -37,48 +37,54 @@ use Rattle.request.proofs.LookupLaws.{looked-up, looked-up-found, handl
 
 -- ---- the checks
 
-pub matching : {token s : ℕ} {ts ds ss : List ℕ} {new own : Token} {r : Bool} → TokenGiven token ts ds new → CallerGiven s ts ds ss own
-    → r ≡ matches (tokenOf new) (tokenOf own) → Matching token s ts ds ss r
-matching g c e = record { same = λ σ v i j. e ∙ ap₂ matches (g .token σ v i) (c .token σ v i j) }
+pub matching : {token s own : ℕ} {ts ss : List ℕ} {a b : Identity} → CallerNumber s ss own → IdentityGiven token ts a → IdentityGiven own ts b
+    → Matching token s ts ss (eqb (a .user) (b .user) && eqb (a .session) (b .session))
+unfolding matches caller
+matching {own = own} c f g = record {
+  same = λ σ v i j.
+      let p = f .identity σ v i in
+      let q = g .identity σ v i ∙ ap (λ (n : ℕ). state.tokenOf σ n .identity) (c .number σ j) in
+      ap₂ (λ (x y : rules.Identity). eqb (x .user) (y .user) && eqb (x .session) (y .session)) p q;
+}
 
-module _ {same : Bool} {token s : ℕ} {ts ds ss : List ℕ} {may : Bool} (a : Held assignPrimaryToken s ts ds ss may) where
-  pub not-held : not may ≡ true → Checked same token s ts ds ss 4
+module _ {same : Bool} {token s : ℕ} {ts ss : List ℕ} {may : Bool} (a : Held assignPrimaryToken s ts ss may) where
+  pub not-held : not may ≡ true → Checked same token s ts ss 4
   not-held f = record { small = omega arith; refusal = λ σ v i j. rw (sym (a .held σ v i j) ∙ not-true may f) }
 
-  module _ (ok : not may ≡ false) {t : Token} (g : TokenGiven token ts ds t) where
-    pub not-primary : (t .identity .kind ≡ primary → ⊥) → Checked same token s ts ds ss 5
+  module _ (ok : not may ≡ false) {t : Identity} (g : IdentityGiven token ts t) where
+    pub not-primary : (t .kind ≡ primary → ⊥) → Checked same token s ts ss 5
     not-primary f = record {
       small = omega arith;
-      refusal = λ σ v i j. rw (sym (a .held σ v i j) ∙ not-false may ok, sym (g .token σ v i)) (rw (ne-eqb (t .identity .kind) primary f));
+      refusal = λ σ v i j. rw (sym (a .held σ v i j) ∙ not-false may ok, sym (g .identity σ v i)) (rw (ne-eqb (t .kind) primary f));
     }
 
-    module _ (is : t .identity .kind ≡ primary) {trusted : Bool} (b : Held tcb s ts ds ss trusted) where
-      tested : (k : ℕ) → k < 128 → k ≡ refusalNumber true true (same || trusted) → Checked same token s ts ds ss k
+    module _ (is : t .kind ≡ primary) {trusted : Bool} (b : Held tcb s ts ss trusted) where
+      tested : (k : ℕ) → k < 128 → k ≡ refusalNumber true true (same || trusted) → Checked same token s ts ss k
       tested k l e = record {
         small = l;
         refusal = λ σ v i j.
-            rw (sym (a .held σ v i j) ∙ not-false may ok, sym (g .token σ v i)) (rw (eq-eqb (t .identity .kind) primary is, sym (b .held σ v i j)) e);
+            rw (sym (a .held σ v i j) ∙ not-false may ok, sym (g .identity σ v i)) (rw (eq-eqb (t .kind) primary is, sym (b .held σ v i j)) e);
       }
 
-      pub allowed : (same || trusted) ≡ true → Checked same token s ts ds ss 0
+      pub allowed : (same || trusted) ≡ true → Checked same token s ts ss 0
       allowed e = tested 0 (omega arith) (rw e)
 
-      pub mismatched : (same || trusted) ≡ false → Checked same token s ts ds ss 7
+      pub mismatched : (same || trusted) ≡ false → Checked same token s ts ss 7
       mismatched e = tested 7 (omega arith) (rw e)
 
 -- ---- the used bits
 
-used-parts : {n s : ℕ} {hs : List Handle} {ss ts ds ts′ ds′ : List ℕ} (σ : State) → valid σ ≡ true → Used n s ts ds ss ts′ ds′ → PartsIn σ hs ss ts ds
-    → PartsIn (used n s σ) hs ss ts′ ds′
+used-parts : {n s : ℕ} {hs : List Handle} {ss ts ds ts′ : List ℕ} (σ : State) → valid σ ≡ true → Used n s ts ss ts′ → PartsIn σ hs ss ts ds
+    → PartsIn (used n s σ) hs ss ts′ ds
 used-parts {n} {s} σ v u p =
     record { handles = used-handles (p .handles) n s; stations = used-stations (p .stations) n s; tokens = u .tokens σ v (p .tokens) (p .stations) }
 
-module _ {same : Bool} {s : ℕ} {ss ts ds ts′ ds′ : List ℕ} (a : Used assignPrimaryToken s ts ds ss ts′ ds′) where
-  pub marks-one : not same ≡ false → MarksUsed same s ss ts ds ts′ ds′
+module _ {same : Bool} {s : ℕ} {ss ts ts′ : List ℕ} (a : Used assignPrimaryToken s ts ss ts′) where
+  pub marks-one : not same ≡ false → MarksUsed same s ss ts ts′
   unfolding marked
   marks-one f = record { parts = λ σ v t e p. rw (sym e ∙ not-false same f) (used-parts σ v a p) }
 
-  pub marks-both : not same ≡ true → s < stationCount → {ts″ ds″ : List ℕ} → Used tcb s ts′ ds′ ss ts″ ds″ → MarksUsed same s ss ts ds ts″ ds″
+  pub marks-both : not same ≡ true → s < stationCount → {ts″ : List ℕ} → Used tcb s ts′ ss ts″ → MarksUsed same s ss ts ts″
   unfolding marked has
   marks-both f in8 b = record {
     parts = λ σ v t e p.
@@ -89,8 +95,8 @@ module _ {same : Bool} {s : ℕ} {ss ts ds ts′ ds′ : List ℕ} (a : Used ass
 
 -- ---- the effect: the marks leave the token what it was
 
-pub placed : {same : Bool} {token s : ℕ} {hs : List Handle} {ss ts ds ts₁ ds₁ ss′ ts′ ds′ : List ℕ} → s < stationCount
-    → MarksUsed same s ss ts ds ts₁ ds₁ → Installed s token hs ss ts₁ ds₁ ss′ ts′ ds′ → Placed same token s hs ss ts ds ss′ ts′ ds′
+pub placed : {same : Bool} {token s : ℕ} {hs : List Handle} {ss ts ds ts₁ ss′ ts′ ds′ : List ℕ} → s < stationCount
+    → MarksUsed same s ss ts ts₁ → Installed s token hs ss ts₁ ds ss′ ts′ ds′ → Placed same token s hs ss ts ds ss′ ts′ ds′
 placed {token = token} {s = s} in8 u w = record {
   parts = λ σ v p e was number type.
       let f = valid-facts σ v in
@@ -128,16 +134,13 @@ module _ {s n : ℕ} {hs : List Handle} {ss ts ds : List ℕ} {x : Target} (l : 
   unfolding install
   no-handle f r e = handle-refuses l _ r e f
 
-  module _ (z : x .refusal ≡ 0) {same : Bool} (m : Matching (x .handle .token) s ts ds ss same) {k : ℕ} (c : Checked same (x .handle .token) s ts ds ss k) where
-    abbrev token : ℕ
-    token = x .handle .token
-
+  module _ (z : x .refusal ≡ 0) {same : Bool} (m : Matching (x .handle .token) s ts ss same) {k : ℕ} (c : Checked same (x .handle .token) s ts ss k) where
     module _ (σ : State) (v : valid σ ≡ true) (p : PartsIn σ hs ss ts ds) where
       abbrev new : rules.Token
-      new = state.tokenOf σ token
+      new = state.tokenOf σ (x .handle .token)
 
       abbrev after : State
-      after = released (setToken s token (marked s new σ))
+      after = released (setToken s (x .handle .token) (marked s new σ))
 
       decided : carriedOut σ (install σ s n) ≡ carriedOut σ (decide (held σ s assignPrimaryToken) (eqb (new .identity .type) primary) (same || held σ s tcb) (success after []))
       unfolding install
@@ -155,7 +158,7 @@ module _ {s n : ℕ} {hs : List Handle} {ss ts ds : List ℕ} {x : Target} (l : 
           let q = passes σ (held σ s assignPrimaryToken) (eqb (new .identity .type) primary) (same || held σ s tcb) (success after []) (sym checked ∙ e) in
           (decided ∙ q .0, q .1)
 
-      after-parts : k ≡ 0 → {ss′ ts′ ds′ : List ℕ} → Placed same token s hs ss ts ds ss′ ts′ ds′ → PartsIn after hs ss′ ts′ ds′
+      after-parts : k ≡ 0 → {ss′ ts′ ds′ : List ℕ} → Placed same (x .handle .token) s hs ss ts ds ss′ ts′ ds′ → PartsIn after hs ss′ ts′ ds′
       after-parts e w =
           let i = looked-up-found l σ v (p .handles) z .token in
           w .parts σ v p (m .same σ v (p .tokens) (p .stations)) (i .was) (i .number) (eqb-true (new .identity .type) primary (passed e .1))
@@ -163,7 +166,7 @@ module _ {s n : ℕ} {hs : List Handle} {ss ts ds : List ℕ} {x : Target} (l : 
     pub not-allowed : (k ≡ 0 → ⊥) → (r : Outcome) → Ends (answers.Refused k) r → Carried (λ σ. install σ s n) hs ss ts ds ss ts ds r
     not-allowed f r e = refuses k r e (c .small) (λ σ v p. refused σ v p f)
 
-    pub installed : k ≡ 0 → {ss′ ts′ ds′ : List ℕ} → Placed same token s hs ss ts ds ss′ ts′ ds′ → (r : Outcome) → Ends answers.Done r
+    pub installed : k ≡ 0 → {ss′ ts′ ds′ : List ℕ} → Placed same (x .handle .token) s hs ss ts ds ss′ ts′ ds′ → (r : Outcome) → Ends answers.Done r
         → Carried (λ σ. install σ s n) hs ss ts ds ss′ ts′ ds′ r
     installed e w r d =
         ends-with answers.Done r d (λ σ v p. tt) (λ σ v p. rw (passed σ v p e .0) (after-parts σ v p e w)) (λ σ v p. rw (passed σ v p e .0))

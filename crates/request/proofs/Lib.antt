@@ -3,6 +3,8 @@ pub mod Answers
 pub mod Deciding
 pub mod InstallLaws
 pub mod LookupLaws
+pub mod Locating
+pub mod RowEnding
 pub mod Issuing
 pub mod Copying
 pub mod Creates

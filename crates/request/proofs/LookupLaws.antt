@@ -77,18 +77,25 @@ is-known : (known permitted : Bool) → refusalNumber known permitted ≡ 0 → 
 is-known true permitted e = refl
 is-known false permitted e = absurd (omega arith)
 
+-- one state, whose refusal is known
+module _ (σ : State) (s n right : ℕ) (go : rules.Handle → Token → Decision) {k : ℕ} (e : k ≡ refusalNumber (isLive (findHandle σ s n)) (permits (state.handleOf σ s n .mask) right)) where
+  pub stops-at : (k ≡ 0 → ⊥) → carriedOut σ (withHandle σ s n right go) ≡ record { state = σ; answer = k ∷ [] }
+  unfolding withHandle
+  stops-at f = rw e (refused σ (isLive (findHandle σ s n)) (permits (state.handleOf σ s n .mask) right) _ (rw e at f))
+
+  pub goes-on : k ≡ 0 → carriedOut σ (withHandle σ s n right go) ≡ carriedOut σ (go (state.handleOf σ s n) (tokenOf σ (state.handleOf σ s n .token)))
+  unfolding withHandle
+  goes-on z = passed σ (isLive (findHandle σ s n)) (permits (state.handleOf σ s n .mask) right) _ (sym e ∙ z)
+
 module _ {s n right : ℕ} {hs : List Handle} {t : Target} (l : LookedUp s n right hs t) where
   module _ (σ : State) (v : valid σ ≡ true) (i : HandlesIn σ hs) (go : rules.Handle → Token → Decision) where
     pub looked-up-refused : (t .refusal ≡ 0 → ⊥) → carriedOut σ (withHandle σ s n right go) ≡ record { state = σ; answer = t .refusal ∷ [] }
-    unfolding withHandle
-    looked-up-refused f =
-        rw (l .refusal σ v i) (refused σ (isLive (findHandle σ s n)) (permits (state.handleOf σ s n .mask) right) _ (rw (l .refusal σ v i) at f))
+    looked-up-refused f = stops-at σ s n right go (l .refusal σ v i) f
 
     pub looked-up : t .refusal ≡ 0
         → carriedOut σ (withHandle σ s n right go) ≡ carriedOut σ (go (handleOf (t .handle)) (tokenOf σ (t .handle .token)))
-    unfolding withHandle
     looked-up e =
-        passed σ (isLive (findHandle σ s n)) (permits (state.handleOf σ s n .mask) right) _ (sym (l .refusal σ v i) ∙ e)
+        goes-on σ s n right go (l .refusal σ v i) e
         ∙ ap (λ (h : rules.Handle). carriedOut σ (go h (tokenOf σ (h .token)))) (sym (l .handle σ v i))
 
   pub looked-up-found : (σ : State) → valid σ ≡ true → HandlesIn σ hs → t .refusal ≡ 0 → Found σ (handleOf (t .handle))

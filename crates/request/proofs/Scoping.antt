@@ -1,7 +1,7 @@
 -- Request 7: how it ends. Assumes nothing.
-use Prim.Native.Nat.{ℕ, _<_}
+use Prim.Native.Nat.{ℕ, _≤_, _<_}
 use native.Mathlib.Omega.{arith}
-use mathlib.Core.Path.{_≡_, refl, sym, ap, _∙_, subst}
+use mathlib.Core.Path.{_≡_, refl, sym, _∙_}
 use mathlib.Core.Bool.{Bool, true, false, not}
 use mathlib.Core.List.{List, []}
 use borrow.Author.Tests.{not-true, not-false}
@@ -13,39 +13,42 @@ use Rattle.rules.specs.Handle as rules
 use Rattle.rules.specs.Token as Rules
 use Rattle.rules.specs.Token.{withScope, nextModified}
 use Rattle.rules.specs.Valid.{valid}
-use Rattle.rules.specs.State.{State, stationCount, held, used, putToken, changeToken}
+use Rattle.rules.specs.State.{State, tokenSlots, stationCount, held, used, putToken, changeToken}
 use Rattle.rules.specs.AdjustScope.{scope, scopedToken}
 use Rattle.rules.specs.Decision.{Decision, carriedOut, need_else_then_, success}
 use Rattle.rules.proofs.Facts.{valid-facts, facts-valid}
 use Rattle.rules.proofs.Kept.{mark}
 use Rattle.handle.specs.declared.Handle.{Handle}
-use Rattle.token.specs.Meaning.{tokenOf}
-use Rattle.token.specs.declared.Token.{Token}
-use Rattle.state.specs.Parts.{TokensIn}
-use Rattle.state.specs.TokenCalls.{TokenGiven, TokenPut, Held, Used}
+use Rattle.token.specs.Row.{Becomes}
+use Rattle.state.specs.TokenCalls.{FoundAt, WordsChanged, Held, Used}
+use Rattle.state.proofs.InPlace.{lent, back, words-changed, words-unchanged}
 use Rattle.state.specs.ReleaseFacts.{PartsIn}
 use Rattle.state.proofs.TokenFrames.{with-slots, with-tokens, used-stations, used-handles}
 use Rattle.request.specs.declared.lookup.Target.{Target}
 use Rattle.request.specs.declared.outcome.Outcome.{Outcome}
 use Rattle.request.specs.declared.answer.Answer.the-variants as answers
 use Rattle.request.specs.Carried.{Ends, Carried}
-use Rattle.request.specs.Scope.{ScopeSet, ScopeApplied}
+use Rattle.request.specs.Scope.{ScopeApplied}
 use Rattle.request.specs.Lookup.{LookedUp}
 use Rattle.request.proofs.Deciding.{refuses, ends-with}
 use Rattle.request.proofs.LookupLaws.{looked-up, handle-refuses}
 
 -- ---- the effect
 
-pub scope-set : {n : ℕ} (v : ℕ) {t u : Token} {y : Rules.Token} {ts ds ts′ ds′ : List ℕ} → TokenGiven n ts ds t
-    → y ≡ withScope v (tokenOf t) → tokenOf u ≡ nextModified y → TokenPut u ts ds ts′ ds′ → ScopeSet n v ts ds ts′ ds′
-unfolding changeToken scopedToken
-scope-set v {ts′ = ts′} {ds′ = ds′} g a b put = record {
-  tokens = λ σ w i.
-      subst (λ (z : Rules.Token). TokensIn (putToken z σ) ts′ ds′) (b ∙ ap nextModified (a ∙ ap (withScope v) (g .token σ w i))) (put .tokens σ w i);
-}
+pub rescoped : (v : ℕ) {ws ws₁ ws₂ : List ℕ} → Becomes (withScope v) ws ws₁ → Becomes nextModified ws₁ ws₂ → Becomes (scopedToken v) ws ws₂
+unfolding scopedToken
+rescoped v a b = record { row = λ t e. b .row (withScope v t) (a .row t e) }
 
-pub scope-applied : {s n v : ℕ} {ss ts ds ts₁ ds₁ ts₂ ds₂ : List ℕ} → s < stationCount → Used tcb s ts ds ss ts₁ ds₁ → ScopeSet n v ts₁ ds₁ ts₂ ds₂
-    → ScopeApplied s n v ts ds ss ts₂ ds₂
+module _ {n i : ℕ} (v : ℕ) {ts : List ℕ} (at : FoundAt n ts i) where
+  pub scope-set : {ws : List ℕ} → i < tokenSlots → Becomes (scopedToken v) (lent i ts) ws → WordsChanged n (scopedToken v) ts (back i ws ts)
+  unfolding scopedToken withScope nextModified
+  scope-set l b = words-changed at (scopedToken v) (λ t. refl) (λ t. refl) l (λ t w e. b .row t e)
+
+  pub scope-nowhere : tokenSlots ≤ i → WordsChanged n (scopedToken v) ts ts
+  unfolding scopedToken withScope nextModified
+  scope-nowhere l = words-unchanged at (scopedToken v) (λ t. refl) l
+
+pub scope-applied : {s n v : ℕ} {ss ts ts₁ ts₂ : List ℕ} → s < stationCount → Used tcb s ts ss ts₁ → WordsChanged n (scopedToken v) ts₁ ts₂ → ScopeApplied s n v ts ss ts₂
 unfolding has
 scope-applied {s = s} in8 m c = record {
   tokens = λ σ w i j.
@@ -65,7 +68,7 @@ module _ {s n : ℕ} (v : ℕ) {hs : List Handle} {ss ts ds : List ℕ} {t : Tar
   unfolding scope
   scope-handle-refused {r} f e = handle-refuses l (go s v) r e f
 
-  module _ (found : t .refusal ≡ 0) {b : Bool} (h : Held tcb s ts ds ss b) where
+  module _ (found : t .refusal ≡ 0) {b : Bool} (h : Held tcb s ts ss b) where
     decided : (σ : State) → valid σ ≡ true → PartsIn σ hs ss ts ds
         → carriedOut σ (scope σ s n v) ≡ carriedOut σ (need b else privilegeNotHeld then success (changeToken (t .handle .token) (scopedToken v) (used tcb s σ)) [])
     unfolding scope
@@ -76,8 +79,8 @@ module _ {s n : ℕ} (v : ℕ) {hs : List Handle} {ss ts ds : List ℕ} {t : Tar
     unfolding carriedOut refusal
     scope-not-held {r} f e = refuses 4 r e (omega arith) (λ σ w p. decided σ w p ∙ rw (not-true b f))
 
-    pub scope-changes : {r : Outcome} {ts′ ds′ : List ℕ} → not b ≡ false → ScopeApplied s (t .handle .token) v ts ds ss ts′ ds′ → Ends answers.Done r
-        → Carried (λ σ. scope σ s n v) hs ss ts ds ss ts′ ds′ r
+    pub scope-changes : {r : Outcome} {ts′ : List ℕ} → not b ≡ false → ScopeApplied s (t .handle .token) v ts ss ts′ → Ends answers.Done r
+        → Carried (λ σ. scope σ s n v) hs ss ts ds ss ts′ ds r
     unfolding carriedOut changeToken putToken
     scope-changes {r} f c e = ends-with answers.Done r e (λ σ w p. tt)
         (λ σ w p. rw (decided σ w p, not-false b f) (record {

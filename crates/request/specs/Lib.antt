@@ -2,6 +2,8 @@ pub mod Body
 pub mod Answer
 pub mod Carried
 pub mod Lookup
+pub mod Located
+pub mod Ending
 pub mod Issue
 pub mod Copies
 pub mod Creates

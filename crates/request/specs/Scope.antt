@@ -9,8 +9,5 @@ use Rattle.rules.specs.State.{State, used, changeToken}
 use Rattle.rules.specs.AdjustScope.{scopedToken}
 use Rattle.state.specs.Parts.{TokensIn, StationsIn}
 
-pub record ScopeSet (n v : ℕ) (ts ds ts′ ds′ : List ℕ) : Type 0 where
-  pub tokens : (σ : State) → valid σ ≡ true → TokensIn σ ts ds → TokensIn (changeToken n (scopedToken v) σ) ts′ ds′
-
-pub record ScopeApplied (s n v : ℕ) (ts ds ss ts′ ds′ : List ℕ) : Type 0 where
-  pub tokens : (σ : State) → valid σ ≡ true → TokensIn σ ts ds → StationsIn σ ss → TokensIn (changeToken n (scopedToken v) (used tcb s σ)) ts′ ds′
+pub record ScopeApplied (s n v : ℕ) (ts ss ts′ : List ℕ) : Type 0 where
+  pub tokens : (σ : State) → valid σ ≡ true → {ds : List ℕ} → TokensIn σ ts ds → StationsIn σ ss → TokensIn (changeToken n (scopedToken v) (used tcb s σ)) ts′ ds

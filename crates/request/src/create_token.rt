@@ -85,7 +85,7 @@ fn issue_created(
     if !can_issue(handles, tokens, stations) {
         return outcome::refused(8);
     }
-    used(Privileges::CREATE_TOKEN, station, tokens, dacls, stations);
+    used(Privileges::CREATE_TOKEN, station, tokens, stations);
     let all = Mask::ALL;
     issue(station, all.0, t, handles, tokens, dacls, stations)
 }
@@ -108,7 +108,7 @@ pub fn create_token(
     requires { ⌜ Lent (now tokens) (now dacls) (now stations) × (station < stationCount) ⌝ }
     ensures { λ r. ⌜ CreateCarried station user session integrity present «by_default» (now (s .entry)) at count (handles .items) (now (stations .entry)) (now (tokens .entry)) (now (dacls .entry)) (now (stations .exit)) (now (tokens .exit)) (now (dacls .exit)) r ⌝ }
 {
-    if !held(Privileges::CREATE_TOKEN, station, tokens, dacls, stations) {
+    if !held(Privileges::CREATE_TOKEN, station, tokens, stations) {
         return outcome::refused(4);
     }
     let n = next_token(stations);

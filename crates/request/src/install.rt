@@ -1,10 +1,12 @@
 // Request 11: a token becomes the caller's primary one.
 ghost use mathlib.Core.Path.{_≡_};
-ghost use Prim.Native.Nat.{_<_};
+ghost use Prim.Native.Nat.{_*_, _<_};
+ghost use lib.ListN.{length};
 ghost use Rattle.rules.specs.Install as rules;
-ghost use Rattle.rules.specs.State.{stationCount};
-ghost use Rattle.token.specs.Meaning.{tokenOf};
+ghost use Rattle.rules.specs.State.{tokenSlots, stationCount};
+ghost use Rattle.rules.specs.Memory.{tokenWords};
 ghost use Rattle.state.specs.Parts.{Lent};
+ghost use Rattle.state.specs.StationFacts.{stationsSize};
 ghost use Rattle.request.specs.Carried.{Carried};
 ghost use Rattle.request.specs.Install.{Matching, Checked, MarksUsed, Placed};
 use crate::answer::Answer;
@@ -15,52 +17,38 @@ use handle::Handles;
 use privilege::mask::Mask;
 use privilege::privileges::Privileges;
 use state::release;
-use state::tokens::caller;
+use state::stations::caller_number;
 use state::tokens::held;
-use state::tokens::token_of;
+use state::tokens::identity_of;
 use state::tokens::used;
-use token::Token;
 
 // The type of a primary token.
 const PRIMARY: u8 = 1;
 
-// One user and one session.
-fn matches(a: Token, b: Token) -> bool
-    ensures { λ r. ⌜ r ≡ rules.matches (tokenOf a) (tokenOf b) ⌝ }
+// The token is of the caller's user and session.
+fn matching(token: u64, station: u32, tokens: &[u64], stations: &[u64]) -> bool
+    requires { ⌜ (length (now tokens) ≡ tokenSlots * tokenWords) × (length (now stations) ≡ stationsSize) × (station < stationCount) ⌝ }
+    ensures { λ r. ⌜ Matching token station (now (tokens .entry)) (now (stations .entry)) r ⌝ }
 {
-    (a.identity.user == b.identity.user) & (a.identity.session == b.identity.session)
-}
-
-// The token matches the caller's.
-fn matching(token: u64, station: u32, tokens: &[u64], dacls: &[u8], stations: &[u64]) -> bool
-    requires { ⌜ Lent (now tokens) (now dacls) (now stations) × (station < stationCount) ⌝ }
-    ensures { λ r. ⌜ Matching token station (now (tokens .entry)) (now (dacls .entry)) (now (stations .entry)) r ⌝ }
-{
-    let new = token_of(token, tokens, dacls);
-    let own = caller(station, tokens, dacls, stations);
-    matches(new, own)
+    let own = caller_number(station, stations);
+    let a = identity_of(token, tokens);
+    let b = identity_of(own, tokens);
+    (a.user == b.user) & (a.session == b.session)
 }
 
 // What the token is refused for, where it matches the caller's or doesn't: 0 if nothing.
-fn refusal_of(
-    same: bool,
-    token: u64,
-    station: u32,
-    tokens: &[u64],
-    dacls: &[u8],
-    stations: &[u64],
-) -> u64
-    requires { ⌜ Lent (now tokens) (now dacls) (now stations) × (station < stationCount) ⌝ }
-    ensures { λ r. ⌜ Checked same token station (now (tokens .entry)) (now (dacls .entry)) (now (stations .entry)) r ⌝ }
+fn refusal_of(same: bool, token: u64, station: u32, tokens: &[u64], stations: &[u64]) -> u64
+    requires { ⌜ (length (now tokens) ≡ tokenSlots * tokenWords) × (length (now stations) ≡ stationsSize) × (station < stationCount) ⌝ }
+    ensures { λ r. ⌜ Checked same token station (now (tokens .entry)) (now (stations .entry)) r ⌝ }
 {
-    if !held(Privileges::ASSIGN_PRIMARY, station, tokens, dacls, stations) {
+    if !held(Privileges::ASSIGN_PRIMARY, station, tokens, stations) {
         return 4;
     }
-    let new = token_of(token, tokens, dacls);
-    if new.identity.kind != PRIMARY {
+    let new = identity_of(token, tokens);
+    if new.kind != PRIMARY {
         return 5;
     }
-    let trusted = held(Privileges::TCB, station, tokens, dacls, stations);
+    let trusted = held(Privileges::TCB, station, tokens, stations);
     if same | trusted {
         return 0;
     }
@@ -68,13 +56,13 @@ fn refusal_of(
 }
 
 // The used bits fall on the token that is the caller's primary one now; Tcb counts only where the tokens don't match.
-fn mark(same: bool, station: u32, tokens: &mut [u64], dacls: &mut [u8], stations: &[u64])
-    requires { ⌜ Lent (now tokens) (now dacls) (now stations) × (station < stationCount) ⌝ }
-    ensures { λ _. ⌜ MarksUsed same station (now (stations .entry)) (now (tokens .entry)) (now (dacls .entry)) (now (tokens .exit)) (now (dacls .exit)) ⌝ }
+fn mark(same: bool, station: u32, tokens: &mut [u64], stations: &[u64])
+    requires { ⌜ (length (now tokens) ≡ tokenSlots * tokenWords) × (length (now stations) ≡ stationsSize) × (station < stationCount) ⌝ }
+    ensures { λ _. ⌜ MarksUsed same station (now (stations .entry)) (now (tokens .entry)) (now (tokens .exit)) ⌝ }
 {
-    used(Privileges::ASSIGN_PRIMARY, station, tokens, dacls, stations);
+    used(Privileges::ASSIGN_PRIMARY, station, tokens, stations);
     if !same {
-        used(Privileges::TCB, station, tokens, dacls, stations);
+        used(Privileges::TCB, station, tokens, stations);
     }
 }
 
@@ -91,7 +79,7 @@ fn place(
     requires { ⌜ Lent (now tokens) (now dacls) (now stations) × (station < stationCount) ⌝ }
     ensures { λ _. ⌜ Placed same token station (handles .items) (now (stations .entry)) (now (tokens .entry)) (now (dacls .entry)) (now (stations .exit)) (now (tokens .exit)) (now (dacls .exit)) ⌝ }
 {
-    mark(same, station, tokens, dacls, stations);
+    mark(same, station, tokens, stations);
     release::install(station, token, handles, tokens, dacls, stations);
 }
 
@@ -111,8 +99,8 @@ pub fn install(
         return outcome::refused(target.refusal);
     }
     let token = target.handle.token;
-    let same = matching(token, station, tokens, dacls, stations);
-    let refusal = refusal_of(same, token, station, tokens, dacls, stations);
+    let same = matching(token, station, tokens, stations);
+    let refusal = refusal_of(same, token, station, tokens, stations);
     if refusal != 0 {
         return outcome::refused(refusal);
     }

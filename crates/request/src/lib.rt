@@ -18,6 +18,7 @@ pub mod groups;
 pub mod install;
 pub mod issue;
 pub mod layout;
+pub mod located;
 pub mod lookup;
 pub mod new_token;
 pub mod open;

@@ -2,13 +2,15 @@
 ghost use mathlib.Core.Path.{_≡_};
 ghost use Prim.Native.Nat.{_*_, _<_};
 ghost use lib.ListN.{length};
-ghost use Rattle.rules.specs.Token.{maxDacl};
 ghost use Rattle.rules.specs.State.{tokenSlots, stationCount};
 ghost use Rattle.rules.specs.Memory.{tokenWords};
 ghost use Rattle.rules.specs.AdjustScope as rules;
 ghost use Rattle.state.specs.Parts.{Lent};
 ghost use Rattle.request.specs.Carried.{Carried};
-ghost use Rattle.request.specs.Scope.{ScopeSet, ScopeApplied};
+ghost use Rattle.state.specs.StationFacts.{stationsSize};
+ghost use Rattle.state.specs.TokenCalls.{WordsChanged};
+ghost use Rattle.token.specs.Row.{Becomes};
+ghost use Rattle.request.specs.Scope.{ScopeApplied};
 use crate::answer::Answer;
 use crate::lookup::lookup;
 use crate::outcome;
@@ -17,35 +19,40 @@ use handle::Handles;
 use privilege::mask::Mask;
 use privilege::privileges::Privileges;
 use state::tokens::held;
-use state::tokens::put_token;
-use state::tokens::token_of;
 use state::tokens::used;
+use token::row;
+use token::row::TOKEN_WORDS;
+use token::slots;
+use token::slots::TOKEN_SLOTS;
+
+fn rescope(value: u32, words: &mut [u64])
+    requires { ⌜ length (now words) ≡ tokenWords ⌝ }
+    ensures { λ _. ⌜ Becomes (rules.scopedToken value) (now (words .entry)) (now (words .exit)) ⌝ }
+{
+    row::set_scope(words, value);
+    row::step_modified(words);
+}
 
 // The token of that number gets another scope.
-fn set_scope(token: u64, value: u32, tokens: &mut [u64], dacls: &mut [u8])
-    requires { ⌜ (length (now tokens) ≡ tokenSlots * tokenWords) × (length (now dacls) ≡ tokenSlots * maxDacl) ⌝ }
-    ensures { λ _. ⌜ ScopeSet token value (now (tokens .entry)) (now (dacls .entry)) (now (tokens .exit)) (now (dacls .exit)) ⌝ }
+fn set_scope(token: u64, value: u32, tokens: &mut [u64])
+    requires { ⌜ length (now tokens) ≡ tokenSlots * tokenWords ⌝ }
+    ensures { λ _. ⌜ WordsChanged token (rules.scopedToken value) (now (tokens .entry)) (now (tokens .exit)) ⌝ }
 {
-    let t = token_of(token, tokens, dacls);
-    let scoped = token::with_scope(t, value);
-    let next = token::next_modified(scoped);
-    put_token(next, tokens, dacls);
+    let slot = slots::find(tokens, token);
+    if slot < TOKEN_SLOTS {
+        let at = slot * TOKEN_WORDS;
+        let end = at + TOKEN_WORDS;
+        rescope(value, &mut tokens[at..end]);
+    }
 }
 
 // The effect: the caller's token used TCB, then the token of that number, which may be the same, gets the scope.
-fn apply(
-    station: u32,
-    token: u64,
-    value: u32,
-    tokens: &mut [u64],
-    dacls: &mut [u8],
-    stations: &[u64],
-)
-    requires { ⌜ Lent (now tokens) (now dacls) (now stations) × (station < stationCount) ⌝ }
-    ensures { λ _. ⌜ ScopeApplied station token value (now (tokens .entry)) (now (dacls .entry)) (now (stations .entry)) (now (tokens .exit)) (now (dacls .exit)) ⌝ }
+fn apply(station: u32, token: u64, value: u32, tokens: &mut [u64], stations: &[u64])
+    requires { ⌜ (length (now tokens) ≡ tokenSlots * tokenWords) × (length (now stations) ≡ stationsSize) × (station < stationCount) ⌝ }
+    ensures { λ _. ⌜ ScopeApplied station token value (now (tokens .entry)) (now (stations .entry)) (now (tokens .exit)) ⌝ }
 {
-    used(Privileges::TCB, station, tokens, dacls, stations);
-    set_scope(token, value, tokens, dacls);
+    used(Privileges::TCB, station, tokens, stations);
+    set_scope(token, value, tokens);
 }
 
 pub fn scope(
@@ -54,19 +61,19 @@ pub fn scope(
     value: u32,
     handles: Handles,
     tokens: &mut [u64],
-    dacls: &mut [u8],
+    dacls: &[u8],
     stations: &[u64],
 ) -> Outcome
     requires { ⌜ Lent (now tokens) (now dacls) (now stations) × (station < stationCount) ⌝ }
-    ensures { λ r. ⌜ Carried (λ σ. rules.scope σ station number value) (handles .items) (now (stations .entry)) (now (tokens .entry)) (now (dacls .entry)) (now (stations .entry)) (now (tokens .exit)) (now (dacls .exit)) r ⌝ }
+    ensures { λ r. ⌜ Carried (λ σ. rules.scope σ station number value) (handles .items) (now (stations .entry)) (now (tokens .entry)) (now (dacls .entry)) (now (stations .entry)) (now (tokens .exit)) (now (dacls .entry)) r ⌝ }
 {
     let target = lookup(station, number, Mask::ADJUST_SCOPE, handles);
     if target.refusal != 0 {
         return outcome::refused(target.refusal);
     }
-    if !held(Privileges::TCB, station, tokens, dacls, stations) {
+    if !held(Privileges::TCB, station, tokens, stations) {
         return outcome::refused(4);
     }
-    apply(station, target.handle.token, value, tokens, dacls, stations);
+    apply(station, target.handle.token, value, tokens, stations);
     outcome::ends(Answer::Done)
 }

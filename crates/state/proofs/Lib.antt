@@ -4,5 +4,7 @@ pub mod HandleLaws
 pub mod ReleaseLaws
 pub mod Slots
 pub mod TokenLooks
+pub mod InPlace
+pub mod TokenScalars
 pub mod TokenChanges
 pub mod TokenFrames

@@ -1,30 +1,25 @@
--- A token that is stored in its slot, or in a free one, and the used mark. Assumes nothing.
-use Prim.Native.Nat.{ℕ, _+_, _%_, _^_, _≤_, _<_}
+-- A token that is stored in its slot, or in a free one. Assumes nothing.
+use Prim.Native.Nat.{ℕ, _+_, _≤_, _<_}
 use native.Mathlib.Omega.{arith}
-use mathlib.Core.Path.{_≡_, refl, sym, ap, subst, _∙_}
+use mathlib.Core.Path.{_≡_, refl, sym, ap, _∙_}
 use mathlib.Core.Bool.{true}
 use mathlib.Core.List.{List, [], _∷_}
 use lib.ListN.{set}
 use lib.Seq.{set-out}
 use Rattle.table.specs.Table.{flat, put-record}
-use Rattle.rules.specs.Privileges as Privileges
-use Rattle.rules.specs.Token as Rules
-use Rattle.rules.specs.Token.{maxDacl, withPrivileges}
+use Rattle.rules.specs.Token.{maxDacl}
 use Rattle.rules.specs.Table.{live, added, withSlots}
-use Rattle.rules.specs.State.{State, tokenSlots, isNumbered, withTokens, putToken, addToken, changeToken, usedOn, used, caller}
+use Rattle.rules.specs.State.{State, tokenSlots, isNumbered, withTokens, putToken, addToken}
 use Rattle.rules.specs.Index.{freeIndex, foundIndex}
 use Rattle.rules.specs.Valid.{valid}
 use Rattle.rules.specs.Memory.{tokenWords, tokenRow, daclRow, slotRow, slotDacl}
-use Rattle.rules.proofs.Bits.{power-inside}
 use Rattle.rules.proofs.Index.{placed-set, exchanged-set}
-use Rattle.privilege.specs.Meaning.{privilegesOf}
-use Rattle.privilege.specs.declared.privileges.Privileges.{Privileges}
 use Rattle.token.specs.Meaning.{tokenOf}
 use Rattle.token.specs.declared.Token.{Token}
 use Rattle.token.proofs.Laws.{put-words, put-dacls}
 use Rattle.state.specs.Parts.{TokensIn}
 use Rattle.state.specs.StationFacts.{nextHandle}
-use Rattle.state.specs.TokenCalls.{FoundAt, CallerGiven, nextIn, Stored, TokenPut, TokenAdded, Used}
+use Rattle.state.specs.TokenCalls.{FoundAt, nextIn, Stored, TokenPut, TokenAdded}
 use Rattle.state.proofs.TokenLooks.{slots-read, slots-long, FreeAt}
 
 -- ---- one slot
@@ -81,18 +76,3 @@ module _ {t : Token} {i : ℕ} {ts ds ts′ ds′ : List ℕ} (s : Stored t i ts
       second-kept : (ws : List ℕ) (w : ℕ) → nextHandle (set ws 0 w) ≡ nextHandle ws
       second-kept [] w = refl
       second-kept (x ∷ ws) w = refl
-
--- ---- the used mark
-
-pub used-on : {n w : ℕ} {q : Privileges} (t u : Token) → n < 64 → w ≡ 2 ^ n % 2 ^ 64 → privilegesOf q ≡ Privileges.markUsed w (privilegesOf (t .privileges))
-    → tokenOf u ≡ withPrivileges (privilegesOf q) (tokenOf t) → tokenOf u ≡ usedOn n (tokenOf t)
-unfolding usedOn
-used-on {n} t u l ew ep eu =
-    eu ∙ ap (λ x. withPrivileges x (tokenOf t)) (ep ∙ ap (λ (k : ℕ). Privileges.markUsed k (privilegesOf (t .privileges))) (ew ∙ power-inside 64 n l))
-
-pub marked-used : {n s : ℕ} {t u : Token} {ts ds ss ts′ ds′ : List ℕ} → CallerGiven s ts ds ss t → tokenOf u ≡ usedOn n (tokenOf t)
-    → TokenPut u ts ds ts′ ds′ → Used n s ts ds ss ts′ ds′
-unfolding used changeToken caller
-marked-used {n} {ts′ = ts′} {ds′ = ds′} c e put = record {
-  tokens = λ σ v i j. subst (λ (x : Rules.Token). TokensIn (putToken x σ) ts′ ds′) (e ∙ ap (usedOn n) (c .token σ v i j)) (put .tokens σ v i);
-}

@@ -10,25 +10,23 @@ use borrow.Author.Tests.{ltb-true}
 use Rattle.table.specs.Table.{record-at}
 use Rattle.table.specs.Rows.{length-rows, rows-at}
 use Rattle.rules.specs.Number.{max64}
-use Rattle.rules.specs.Privileges.{isEnabled}
 use Rattle.rules.specs.Token as Rules
 use Rattle.rules.specs.Token.{maxDacl}
 use Rattle.rules.specs.Table.{Slot, free, orElse, canAdd, found}
 use Rattle.rules.specs.State as State
-use Rattle.rules.specs.State.{State, tokenSlots, noToken, isNumbered, caller, held, canAddToken}
+use Rattle.rules.specs.State.{State, tokenSlots, noToken, isNumbered, caller, canAddToken}
 use Rattle.rules.specs.Index.{freeIndex}
 use Rattle.rules.specs.Valid.{valid}
 use Rattle.rules.specs.Memory.{tokenWords, slotAt, tokenAt}
 use Rattle.rules.proofs.Logic.{and-r}
 use Rattle.rules.proofs.Facts.{valid-facts}
 use Rattle.rules.proofs.Index.{found-at}
-use Rattle.privilege.specs.Meaning.{privilegesOf}
 use Rattle.token.specs.Meaning.{tokenOf, slotsOf, Sized}
 use Rattle.token.specs.declared.Token.{Token}
 use Rattle.state.specs.Parts.{TokensIn}
 use Rattle.state.specs.StationFacts.{CallerNumber}
 use Rattle.state.proofs.FormedLaws.{valid-formed, tokens-back}
-use Rattle.state.specs.TokenCalls.{FoundAt, TokenGiven, TokenLoaded, CallerGiven, Held, NextToken, CanAdd}
+use Rattle.state.specs.TokenCalls.{FoundAt, TokenGiven, TokenLoaded, CallerGiven, NextToken, CanAdd}
 use Rattle.state.proofs.Slots.{some-free, found-live, live-or}
 
 -- ---- the slots that the rows stand for
@@ -79,11 +77,6 @@ token-given {n} e k = k .given n e
 pub caller-given : {s n : ℕ} {ts ds ss : List ℕ} {t : Token} → CallerNumber s ss n → TokenGiven n ts ds t → CallerGiven s ts ds ss t
 unfolding caller
 caller-given c g = record { sized = g .sized; token = λ σ v i j. g .token σ v i ∙ ap (State.tokenOf σ) (c .number σ j) }
-
-pub held-given : {n s : ℕ} {ts ds ss : List ℕ} {t : Token} {r : Bool} → CallerGiven s ts ds ss t → r ≡ isEnabled n (privilegesOf (t .privileges))
-    → Held n s ts ds ss r
-unfolding held
-held-given {n} c e = record { held = λ σ v i j. e ∙ ap (λ (x : Rules.Token). isEnabled n (x .privileges)) (c .token σ v i j) }
 
 -- ---- the next number, and room for a token
 

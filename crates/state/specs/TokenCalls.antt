@@ -9,11 +9,15 @@ use Rattle.rules.specs.Number.{max64}
 use Rattle.rules.specs.Token as Rules
 use Rattle.rules.specs.Table.{Slot, live}
 use Rattle.rules.specs.State as State
-use Rattle.rules.specs.State.{State, tokenSlots, isNumbered, caller, held, putToken, used, canAddToken, addToken}
+use Rattle.rules.specs.State.{State, tokenSlots, isNumbered, caller, held, putToken, changeToken, used, canAddToken, addToken}
 use Rattle.rules.specs.Index.{foundIndex}
 use Rattle.rules.specs.Valid.{valid}
-use Rattle.rules.specs.Memory.{slotRow, slotDacl}
-use Rattle.token.specs.Meaning.{tokenOf, slotsOf, Sized}
+use Rattle.rules.specs.Privileges.{markUsed}
+use Rattle.rules.specs.Memory.{tokenRow, slotRow, slotDacl}
+use Rattle.privilege.specs.Meaning.{privilegesOf}
+use Rattle.privilege.specs.declared.privileges.Privileges.{Privileges}
+use Rattle.token.specs.Meaning.{identityOf, tokenOf, slotsOf, Sized}
+use Rattle.token.specs.declared.Identity.{Identity}
 use Rattle.token.specs.declared.Token.{Token}
 use Rattle.state.specs.Parts.{TokensIn, StationsIn}
 use Rattle.state.specs.StationFacts.{nextHandle}
@@ -37,8 +41,18 @@ pub record CallerGiven (s : ℕ) (ts ds ss : List ℕ) (r : Token) : Type 0 wher
   pub sized : Sized r
   pub token : (σ : State) → valid σ ≡ true → TokensIn σ ts ds → StationsIn σ ss → tokenOf r ≡ caller σ s
 
-pub record Held (n s : ℕ) (ts ds ss : List ℕ) (r : Bool) : Type 0 where
-  pub held : (σ : State) → valid σ ≡ true → TokensIn σ ts ds → StationsIn σ ss → r ≡ held σ s n
+pub record IdentityGiven (n : ℕ) (ts : List ℕ) (r : Identity) : Type 0 where
+  pub identity : (σ : State) → valid σ ≡ true → {ds : List ℕ} → TokensIn σ ts ds → identityOf r ≡ State.tokenOf σ n .identity
+
+-- the slot of any number; past the last one there is no token
+pub record IdentityAt (slot : ℕ) (ts : List ℕ) (r : Identity) : Type 0 where
+  pub given : (n : ℕ) → FoundAt n ts slot → IdentityGiven n ts r
+
+pub record PrivilegesAt (slot : ℕ) (ts : List ℕ) (r : Privileges) : Type 0 where
+  pub given : (n : ℕ) → FoundAt n ts slot → (σ : State) → valid σ ≡ true → {ds : List ℕ} → TokensIn σ ts ds → privilegesOf r ≡ State.tokenOf σ n .privileges
+
+pub record Held (n s : ℕ) (ts ss : List ℕ) (r : Bool) : Type 0 where
+  pub held : (σ : State) → valid σ ≡ true → {ds : List ℕ} → TokensIn σ ts ds → StationsIn σ ss → r ≡ held σ s n
 
 -- the word that has the next number
 abbrev pub nextIn : List ℕ → ℕ
@@ -68,5 +82,13 @@ pub record TokenAdded (t : Token) (ts ds ss ts′ ds′ ss′ : List ℕ) : Type
   -- what add_handle asks stays
   pub handle-next : nextHandle ss′ ≡ nextHandle ss
 
-pub record Used (n s : ℕ) (ts ds ss ts′ ds′ : List ℕ) : Type 0 where
-  pub tokens : (σ : State) → valid σ ≡ true → TokensIn σ ts ds → StationsIn σ ss → TokensIn (used n s σ) ts′ ds′
+-- the token of number n becomes f of it, and its DACL's row stays
+pub record WordsChanged (n : ℕ) (f : Rules.Token → Rules.Token) (ts ts′ : List ℕ) : Type 0 where
+  pub tokens : (σ : State) → valid σ ≡ true → {ds : List ℕ} → TokensIn σ ts ds → TokensIn (changeToken n f σ) ts′ ds
+
+-- a row gets used bits
+pub record Marked (bits : ℕ) (ws ws′ : List ℕ) : Type 0 where
+  pub row : (t : Rules.Token) → ws ≡ tokenRow t → ws′ ≡ tokenRow (Rules.withPrivileges (markUsed bits (t .privileges)) t)
+
+pub record Used (n s : ℕ) (ts ss ts′ : List ℕ) : Type 0 where
+  pub tokens : (σ : State) → valid σ ≡ true → {ds : List ℕ} → TokensIn σ ts ds → StationsIn σ ss → TokensIn (used n s σ) ts′ ds

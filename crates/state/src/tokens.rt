@@ -4,11 +4,12 @@ ghost use Prim.Native.Nat.{_+_, _*_, _<_};
 ghost use lib.ListN.{length};
 ghost use Rattle.rules.specs.Number.{max64};
 ghost use Rattle.rules.specs.Token.{maxDacl};
-ghost use Rattle.rules.specs.State.{noToken, usedOn, tokenSlots, stationCount};
+ghost use Rattle.rules.specs.State.{noToken, tokenSlots, stationCount};
 ghost use Rattle.rules.specs.Memory.{tokenWords, counterWords, stationWords};
 ghost use Rattle.token.specs.Meaning.{tokenOf, Sized};
 ghost use Rattle.state.specs.Parts.{Lent};
-ghost use Rattle.state.specs.TokenCalls.{TokenLoaded, TokenGiven, CallerGiven, Held, nextIn, NextToken, CanAdd, Stored, TokenPut, TokenAdded, Used};
+ghost use Rattle.state.specs.StationFacts.{stationsSize};
+ghost use Rattle.state.specs.TokenCalls.{TokenLoaded, TokenGiven, CallerGiven, IdentityGiven, IdentityAt, PrivilegesAt, Held, Marked, nextIn, NextToken, CanAdd, Stored, TokenPut, TokenAdded, Used};
 use crate::stations::NEXT_TOKEN;
 use crate::stations::caller_number;
 use privilege::privileges::Privileges;
@@ -21,6 +22,8 @@ use token::MAX_DACL;
 use token::MAX_GROUPS;
 use token::MAX_RESTRICTING;
 use token::Token;
+use token::row;
+use token::row::TOKEN_WORDS;
 use token::slots;
 use token::slots::TOKEN_SLOTS;
 
@@ -99,13 +102,60 @@ pub fn caller(station: u32, tokens: &[u64], dacls: &[u8], stations: &[u64]) -> T
     token_of(number, tokens, dacls)
 }
 
-// The privilege is enabled on the caller's token.
-pub fn held(privilege: u64, station: u32, tokens: &[u64], dacls: &[u8], stations: &[u64]) -> bool
-    requires { ⌜ Lent (now tokens) (now dacls) (now stations) × (station < stationCount) ⌝ }
-    ensures { λ r. ⌜ Held privilege station (now (tokens .entry)) (now (dacls .entry)) (now (stations .entry)) r ⌝ }
+// Who the token in a slot is; what `no_token` is, past the last slot.
+pub fn identity_at(slot: usize, tokens: &[u64]) -> Identity
+    requires { ⌜ length (now tokens) ≡ tokenSlots * tokenWords ⌝ }
+    ensures { λ r. ⌜ IdentityAt slot (now (tokens .entry)) r ⌝ }
 {
-    let t = caller(station, tokens, dacls, stations);
-    let p = t.privileges;
+    if slot < TOKEN_SLOTS {
+        let at = slot * TOKEN_WORDS;
+        let end = at + TOKEN_WORDS;
+        return row::identity_in(&tokens[at..end]);
+    }
+    Identity {
+        user: 0,
+        session: 0,
+        kind: 1,
+        level: 0,
+        integrity: 0,
+    }
+}
+
+// The same of the live token of a number.
+pub fn identity_of(number: u64, tokens: &[u64]) -> Identity
+    requires { ⌜ length (now tokens) ≡ tokenSlots * tokenWords ⌝ }
+    ensures { λ r. ⌜ IdentityGiven number (now (tokens .entry)) r ⌝ }
+{
+    let slot = slots::find(tokens, number);
+    identity_at(slot, tokens)
+}
+
+// The privileges of the token in a slot; none past the last slot.
+fn privileges_at(slot: usize, tokens: &[u64]) -> Privileges
+    requires { ⌜ length (now tokens) ≡ tokenSlots * tokenWords ⌝ }
+    ensures { λ r. ⌜ PrivilegesAt slot (now (tokens .entry)) r ⌝ }
+{
+    if slot < TOKEN_SLOTS {
+        let at = slot * TOKEN_WORDS;
+        let end = at + TOKEN_WORDS;
+        return row::privileges_in(&tokens[at..end]);
+    }
+    Privileges {
+        present: 0,
+        enabled: 0,
+        by_default: 0,
+        used: 0,
+    }
+}
+
+// The privilege is enabled on the caller's token.
+pub fn held(privilege: u64, station: u32, tokens: &[u64], stations: &[u64]) -> bool
+    requires { ⌜ (length (now tokens) ≡ tokenSlots * tokenWords) × (length (now stations) ≡ stationsSize) × (station < stationCount) ⌝ }
+    ensures { λ r. ⌜ Held privilege station (now (tokens .entry)) (now (stations .entry)) r ⌝ }
+{
+    let number = caller_number(station, stations);
+    let slot = slots::find(tokens, number);
+    let p = privileges_at(slot, tokens);
     p.holds(privilege)
 }
 
@@ -156,21 +206,24 @@ pub fn add_token(t: Token, tokens: &mut [u64], dacls: &mut [u8], stations: &mut 
     stations[NEXT_TOKEN] = stations[NEXT_TOKEN] + 1;
 }
 
-fn used_on(privilege: u64, t: Token) -> Token
-    requires { ⌜ (privilege < 64) × Sized t ⌝ }
-    ensures { λ r. ⌜ (tokenOf r ≡ usedOn privilege (tokenOf t)) × Sized r ⌝ }
+fn mark_used(bits: u64, words: &mut [u64])
+    requires { ⌜ length (now words) ≡ tokenWords ⌝ }
+    ensures { λ r. ⌜ Marked bits (now (words .entry)) (now (words .exit)) ⌝ }
 {
-    let p = t.privileges;
-    let marked = p.mark_used(words::bit(privilege));
-    token::with_privileges(t, marked)
+    let p = row::privileges_in(words);
+    row::set_privileges(words, p.mark_used(bits));
 }
 
 // A success needed the privilege: its used bit is set on the caller's token.
-pub fn used(privilege: u64, station: u32, tokens: &mut [u64], dacls: &mut [u8], stations: &[u64])
-    requires { ⌜ Lent (now tokens) (now dacls) (now stations) × (station < stationCount) × (privilege < 64) ⌝ }
-    ensures { λ r. ⌜ Used privilege station (now (tokens .entry)) (now (dacls .entry)) (now (stations .entry)) (now (tokens .exit)) (now (dacls .exit)) ⌝ }
+pub fn used(privilege: u64, station: u32, tokens: &mut [u64], stations: &[u64])
+    requires { ⌜ (length (now tokens) ≡ tokenSlots * tokenWords) × (length (now stations) ≡ stationsSize) × (station < stationCount) × (privilege < 64) ⌝ }
+    ensures { λ r. ⌜ Used privilege station (now (tokens .entry)) (now (stations .entry)) (now (tokens .exit)) ⌝ }
 {
-    let t = caller(station, tokens, dacls, stations);
-    let marked = used_on(privilege, t);
-    put_token(marked, tokens, dacls);
+    let number = caller_number(station, stations);
+    let slot = slots::find(tokens, number);
+    if slot < TOKEN_SLOTS {
+        let at = slot * TOKEN_WORDS;
+        let end = at + TOKEN_WORDS;
+        mark_used(words::bit(privilege), &mut tokens[at..end]);
+    }
 }

@@ -1,10 +1,12 @@
 -- What the parts of a token's row stand for, as values of the code, and what they are written as. Assumes nothing.
+use mathlib.Core.Path.{_≡_}
 use mathlib.Core.List.{List, [], _∷_}
 use Prim.Native.Nat.{ℕ, _+_, _*_, _/_}
 use lib.Dec.{eqb}
 use lib.ListN.{getD}
 use mir.Val.{boolByte}
-use Rattle.rules.specs.Memory.{word32, low32, low8}
+use Rattle.rules.specs.Token as Rules
+use Rattle.rules.specs.Memory.{word32, low32, low8, tokenRow}
 use Rattle.privilege.specs.declared.privileges.Privileges.{Privileges}
 use Rattle.token.specs.declared.Group.{Group}
 use Rattle.token.specs.declared.Identity.{Identity}
@@ -45,3 +47,7 @@ headOf t =
     ∷ t .defaults .owner ∷ t .defaults .«primary_group» ∷ t .scope ∷ t .identity .integrity
     ∷ t .privileges .present ∷ t .privileges .enabled ∷ t .privileges .«by_default» ∷ t .privileges .used
     ∷ t .«group_count» ∷ t .«restricting_count» ∷ t .«dacl_count» ∷ []
+
+-- the row of every token t becomes that of f t
+pub record Becomes (f : Rules.Token → Rules.Token) (ws ws′ : List ℕ) : Type 0 where
+  pub row : (t : Rules.Token) → ws ≡ tokenRow t → ws′ ≡ tokenRow (f t)

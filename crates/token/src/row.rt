@@ -2,11 +2,12 @@
 ghost use mathlib.Core.Path.{_≡_};
 ghost use Prim.Native.Nat.{_<_, min};
 ghost use lib.ListN.{length, getD};
-ghost use Rattle.rules.specs.Token.{maxDacl};
+ghost use Rattle.rules.specs.Token.{maxDacl, nextModified, withPrivileges, withScope};
 ghost use Rattle.rules.specs.Memory.{tokenWords, tokenRow, daclRow, slotRow, slotDacl, tokenAt};
 ghost use Rattle.rules.specs.Table.{free};
 ghost use Rattle.token.specs.Meaning.{tokenOf, Sized};
-ghost use Rattle.token.specs.Row.{identityIn, privilegesIn, limitsIn, defaultsIn, headOf};
+ghost use Rattle.privilege.specs.Meaning.{privilegesOf};
+ghost use Rattle.token.specs.Row.{identityIn, privilegesIn, limitsIn, defaultsIn, headOf, Becomes};
 use crate::Defaults;
 use crate::Identity;
 use crate::Limits;
@@ -26,7 +27,7 @@ pub const TOKEN_WORDS: usize = GROUPS_END + MAX_RESTRICTING;
 
 // ---- reading
 
-fn identity_in(words: &[u64]) -> Identity
+pub fn identity_in(words: &[u64]) -> Identity
     requires { ⌜ length (now words) ≡ tokenWords ⌝ }
     ensures { λ r. ⌜ r ≡ identityIn (now (words .entry)) ⌝ }
 {
@@ -39,7 +40,7 @@ fn identity_in(words: &[u64]) -> Identity
     }
 }
 
-fn privileges_in(words: &[u64]) -> Privileges
+pub fn privileges_in(words: &[u64]) -> Privileges
     requires { ⌜ length (now words) ≡ tokenWords ⌝ }
     ensures { λ r. ⌜ r ≡ privilegesIn (now (words .entry)) ⌝ }
 {
@@ -176,6 +177,33 @@ pub fn store(t: Token, words: &mut [u64], bytes: &mut [u8])
 {
     store_words(t, words);
     store_dacl(t, bytes);
+}
+
+// ---- changes in place
+
+// The modified number steps: from 2^64 - 1 back to 0.
+pub fn step_modified(words: &mut [u64])
+    requires { ⌜ length (now words) ≡ tokenWords ⌝ }
+    ensures { λ _. ⌜ Becomes nextModified (now (words .entry)) (now (words .exit)) ⌝ }
+{
+    words[1] = std::num::wrapping_add_u64(words[1], 1);
+}
+
+pub fn set_privileges(words: &mut [u64], p: Privileges)
+    requires { ⌜ length (now words) ≡ tokenWords ⌝ }
+    ensures { λ _. ⌜ Becomes (withPrivileges (privilegesOf p)) (now (words .entry)) (now (words .exit)) ⌝ }
+{
+    words[13] = p.present;
+    words[14] = p.enabled;
+    words[15] = p.by_default;
+    words[16] = p.used;
+}
+
+pub fn set_scope(words: &mut [u64], scope: u32)
+    requires { ⌜ length (now words) ≡ tokenWords ⌝ }
+    ensures { λ _. ⌜ Becomes (withScope scope) (now (words .entry)) (now (words .exit)) ⌝ }
+{
+    words[11] = scope as u64;
 }
 
 // A free slot.

@@ -1,4 +1,4 @@
--- By the privilege and by the fields. Assumes nothing.
+-- A law for each end. Assumes nothing.
 use borrow.Author.Needs.{needs}
 use Rattle.request.proofs.Creates.{create-not-held, create-refused, creates}
 use Rattle.request.proofs.create_token.create_token.Statement.{statement}
@@ -12,16 +12,14 @@ create-token-spec =
     (λ c κs. search needs)
     (λ c. search needs)
     (λ c. search needs)
-    (λ c. search needs)
     (λ c. search (needs, create-not-held))
     (λ c κs. search needs)
     (λ c κs. search needs)
     (λ c κs. search needs)
     (λ c. search needs)
     (λ c. search needs)
-    (λ c. search needs)
     (λ c. search (needs, create-refused))
-    (λ c κs. search (needs, c .before .before .before .before .before .before .before .before .before .before .before .before .before .before .before .before .before .pre, c .before .before .before .before .before .make .ensures .sized))
+    (λ c κs. search (needs, c .before .before .before .before .before .before .before .before .before .before .before .before .before .before .before .before .pre, c .before .before .before .before .before .make .ensures .sized))
     (λ c. search needs)
     (λ c. search needs)
     (λ c. search needs)

@@ -16,15 +16,13 @@ install-spec =
     (λ c κs. search needs)
     (λ c. search needs)
     (λ c. search needs)
-    (λ c. search needs)
-    (λ c. search (needs, not-allowed, c .before .before .before .before .before .before .before .before .before .before .before .before .lookup .ensures))
+    (λ c. search (needs, not-allowed, c .before .before .before .before .before .before .before .before .before .before .lookup .ensures))
     (λ c κs. search needs)
     (λ c κs. search needs)
     (λ c. search needs)
     (λ c. search needs)
     (λ c. search needs)
-    (λ c.
-    let checked = c .before .before .before .before .before .before .before .before .before .before .before in
-    let found = checked .before .before .before .before .before .before .before .before .before in
-    installed (found .before .before .lookup .ensures) (found .if1 .left) (checked .before .before .before .before .before .matching .ensures) (checked .before .refusal-of .ensures)
+    (λ c. let checked = c .before .before .before .before .before .before .before .before .before .before .before in
+    let found = checked .before .before .before .before .before .before .before in
+    installed (found .before .before .lookup .ensures) (found .if1 .left) (checked .before .before .before .before .matching .ensures) (checked .before .refusal-of .ensures)
     (checked .if2 .left) (c .before .before .before .before .before .before .before .place .ensures) _ (c .ends .ensures)))

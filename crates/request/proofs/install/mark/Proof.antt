@@ -11,8 +11,6 @@ mark-spec =
     (λ c κs. search needs)
     (λ c κs. search needs)
     (λ c. search needs)
-    (λ c. search needs)
     (λ c. search (needs, marks-both))
-    (λ c. search needs)
     (λ c. search needs)
     (λ c. search (needs, marks-one)))

@@ -11,5 +11,4 @@ apply-spec =
     (λ c κs. search needs)
     (λ c κs. search needs)
     (λ c. search needs)
-    (λ c. search needs)
     (λ c. search (needs, scope-applied)))

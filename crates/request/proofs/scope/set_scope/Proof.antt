@@ -1,6 +1,6 @@
--- The token of the number, changed and put back. Assumes nothing.
+-- In the row of the token's slot, if there is one. Assumes nothing.
 use borrow.Author.Needs.{needs}
-use Rattle.request.proofs.Scoping.{scope-set}
+use Rattle.request.proofs.Scoping.{scope-set, scope-nowhere}
 use Rattle.request.proofs.scope.set_scope.Statement.{statement}
 use Rattle.request.proofs.scope.set_scope.Tie as tie
 
@@ -9,9 +9,14 @@ set-scope-spec =
     tie.close
     (tie.spec
     (λ c κs. search needs)
-    (λ c κs. search needs)
-    (λ c κs. search needs)
-    (λ c κs. search needs)
     (λ c. search needs)
     (λ c. search needs)
-    (λ c. search (needs, scope-set)))
+    (λ c. search needs)
+    (λ c. search needs)
+    (λ c. search needs)
+    (λ c. search needs)
+    (λ c κs. search needs)
+    (λ c. search needs)
+    (λ c. search (needs, scope-set))
+    (λ c. search needs)
+    (λ c. search (needs, scope-nowhere)))

@@ -1,6 +1,6 @@
--- The caller's token, marked and put back. Assumes nothing.
+-- The row of the caller's token, marked. Assumes nothing.
 use borrow.Author.Needs.{needs}
-use Rattle.state.proofs.TokenChanges.{marked-used}
+use Rattle.state.proofs.TokenScalars.{used-in-place, used-nowhere}
 use Rattle.state.proofs.tokens.used.Statement.{statement}
 use Rattle.state.proofs.tokens.used.Tie as tie
 
@@ -10,7 +10,15 @@ used-spec =
     (tie.spec
     (λ c κs. search needs)
     (λ c κs. search needs)
+    (λ c. search needs)
+    (λ c. search needs)
     (λ c κs. search needs)
     (λ c. search needs)
     (λ c. search needs)
-    (λ c. search (needs, marked-used)))
+    (λ c. search needs)
+    (λ c. search needs)
+    (λ c κs. search needs)
+    (λ c. search needs)
+    (λ c. search (needs, used-in-place))
+    (λ c. search needs)
+    (λ c. search (needs, used-nowhere)))

@@ -1,0 +1,45 @@
+// The token that a request works on by a handle: it is looked up, and read and changed in its row.
+ghost use mathlib.Core.Path.{_≡_};
+ghost use Prim.Native.Nat.{_*_};
+ghost use lib.ListN.{length};
+ghost use Rattle.rules.specs.State.{tokenSlots};
+ghost use Rattle.rules.specs.Memory.{tokenWords};
+ghost use Rattle.request.specs.Located.{TokenLocated};
+use crate::lookup;
+use handle::Handles;
+use privilege::mask::Mask;
+use token::slots;
+use token::slots::TOKEN_SLOTS;
+
+// What the handle is refused for, 0 if nothing; its token's number and slot, and its mask.
+pub struct Located {
+    pub refusal: u64,
+    pub token: u64,
+    pub slot: usize,
+    pub mask: u32,
+}
+
+// In a valid state the token of a live handle is in a slot: the test is for the row that is lent.
+pub fn locate(station: u32, number: u32, right: Mask, handles: Handles, tokens: &[u64]) -> Located
+    requires { ⌜ length (now tokens) ≡ tokenSlots * tokenWords ⌝ }
+    ensures { λ r. ⌜ TokenLocated station number (right .0) (handles .items) (now (tokens .entry)) r ⌝ }
+{
+    let target = lookup::lookup(station, number, right, handles);
+    let h = target.handle;
+    let slot = slots::find(tokens, h.token);
+    let lost = (target.refusal == 0) & (TOKEN_SLOTS <= slot);
+    if lost {
+        return Located {
+            refusal: 2,
+            token: h.token,
+            slot: slot,
+            mask: h.mask,
+        };
+    }
+    Located {
+        refusal: target.refusal,
+        token: h.token,
+        slot: slot,
+        mask: h.mask,
+    }
+}

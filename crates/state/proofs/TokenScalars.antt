@@ -1,0 +1,85 @@
+-- Who a token is, read in its row; its privileges, read and marked there. Assumes nothing.
+use Prim.Native.Nat.{ℕ, _%_, _^_, _≤_, _<_}
+use mathlib.Core.Path.{_≡_, refl, sym, ap, subst, _∙_}
+use mathlib.Core.Bool.{Bool, true}
+use mathlib.Core.List.{List}
+use Rattle.rules.specs.Privileges as Rules
+use Rattle.rules.specs.Privileges.{isEnabled, markUsed, granted}
+use Rattle.rules.specs.Token.{Token, withPrivileges, newToken, primaryOf}
+use Rattle.rules.specs.State as State
+use Rattle.rules.specs.State.{State, tokenSlots, noToken, held, usedOn, used, caller, changeToken}
+use Rattle.rules.specs.Memory.{head, tokenRow, tokenAt, identityAt}
+use Rattle.rules.proofs.Rows.{token-back}
+use Rattle.rules.proofs.Bits.{power-inside}
+use Rattle.privilege.specs.Meaning.{privilegesOf}
+use Rattle.privilege.specs.declared.privileges.Privileges.{Privileges}
+use Rattle.token.specs.Meaning.{identityOf}
+use Rattle.token.specs.Row.{identityIn, privilegesIn, Becomes}
+use Rattle.token.specs.declared.Identity.{Identity}
+use Rattle.state.specs.Parts.{TokensIn}
+use Rattle.state.specs.StationFacts.{CallerNumber}
+use Rattle.state.specs.TokenCalls.{FoundAt, IdentityGiven, IdentityAt, PrivilegesAt, Held, Marked, WordsChanged, Used}
+use Rattle.state.proofs.InPlace.{lent, back, in-slot, lent-row, no-token, words-changed, words-unchanged}
+
+-- ---- reading
+
+module _ {i : ℕ} {ts : List ℕ} where
+  pub identity-at : {r : Identity} → i < tokenSlots → r ≡ identityIn (lent i ts) → IdentityAt i ts r
+  unfolding identityAt tokenAt
+  identity-at l e = record {
+    given = λ n at. record {
+      identity = λ σ v h.
+          let s = in-slot n at v h l in
+          ap identityOf (e ∙ ap identityIn (lent-row n at v h l)) ∙ ap (λ (t : Token). t .identity) (token-back (State.tokenOf σ n) (s .isValid));
+    };
+  }
+
+  pub no-identity : tokenSlots ≤ i → IdentityAt i ts (record { user = 0; session = 0; kind = 1; level = 0; integrity = 0 })
+  unfolding noToken newToken primaryOf
+  no-identity l = record { given = λ n at. record { identity = λ σ v h. sym (ap (λ (t : Token). t .identity) (no-token n at v h l)) } }
+
+  pub identity-of : {n : ℕ} {r : Identity} → FoundAt n ts i → IdentityAt i ts r → IdentityGiven n ts r
+  identity-of {n} at g = g .given n at
+
+in-row : (ws : List ℕ) (t : Token) → ws ≡ tokenRow t → privilegesOf (privilegesIn ws) ≡ t .privileges
+unfolding tokenRow head
+in-row ws t e = ap (λ (l : List ℕ). privilegesOf (privilegesIn l)) e
+
+pub privileges-at : {i : ℕ} {ts : List ℕ} {p : Privileges} → i < tokenSlots → p ≡ privilegesIn (lent i ts) → PrivilegesAt i ts p
+privileges-at {i} {ts} l e = record {
+  given = λ n at σ v h. ap privilegesOf e ∙ in-row (lent i ts) (State.tokenOf σ n) (lent-row n at v h l);
+}
+
+pub no-privileges : {i : ℕ} {ts : List ℕ} → tokenSlots ≤ i → PrivilegesAt i ts (record { present = 0; enabled = 0; «by_default» = 0; used = 0 })
+unfolding noToken newToken granted
+no-privileges l = record { given = λ n at σ v h. sym (ap (λ (t : Token). t .privileges) (no-token n at v h l)) }
+
+module _ {s m i : ℕ} {ts ss : List ℕ} (c : CallerNumber s ss m) (at : FoundAt m ts i) where
+  pub held-given : {n : ℕ} {p : Privileges} {r : Bool} → PrivilegesAt i ts p → r ≡ isEnabled n (privilegesOf p) → Held n s ts ss r
+  unfolding held caller
+  held-given {n} g e = record {
+    held = λ σ v h j. e ∙ ap (isEnabled n) (g .given m at σ v h) ∙ ap (λ (k : ℕ). isEnabled n (State.tokenOf σ k .privileges)) (c .number σ j);
+  }
+
+  -- ---- the used mark
+
+  used-by : {n : ℕ} {ts′ : List ℕ} → WordsChanged m (usedOn n) ts ts′ → Used n s ts ss ts′
+  unfolding used
+  used-by {n} {ts′} w = record {
+    tokens = λ σ v {ds} h j. subst (λ (k : ℕ). TokensIn (changeToken k (usedOn n) σ) ts′ ds) (c .number σ j) (w .tokens σ v h);
+  }
+
+  pub used-in-place : {n w : ℕ} {ws : List ℕ} → i < tokenSlots → n < 64 → w ≡ 2 ^ n % 2 ^ 64 → Marked w (lent i ts) ws → Used n s ts ss (back i ws ts)
+  unfolding usedOn withPrivileges
+  used-in-place {n} {w} l in64 e k = used-by (words-changed at (usedOn n) (λ t. refl) (λ t. refl) l
+      (λ t v q. k .row t q ∙ ap (λ (b : ℕ). tokenRow (withPrivileges (markUsed b (t .privileges)) t)) (e ∙ power-inside 64 n in64)))
+
+  pub used-nowhere : {n : ℕ} → tokenSlots ≤ i → Used n s ts ss ts
+  unfolding usedOn withPrivileges
+  used-nowhere {n} l = used-by (words-unchanged at (usedOn n) (λ t. refl) l)
+
+pub marked : {bits : ℕ} {ws ws′ : List ℕ} {p q : Privileges} → p ≡ privilegesIn ws → privilegesOf q ≡ markUsed bits (privilegesOf p)
+    → Becomes (withPrivileges (privilegesOf q)) ws ws′ → Marked bits ws ws′
+marked {bits} {ws} g e b = record {
+  row = λ t k. b .row t k ∙ ap (λ (x : Rules.Privileges). tokenRow (withPrivileges x t)) (e ∙ ap (markUsed bits) (ap privilegesOf g ∙ in-row ws t k));
+}
