@@ -67,14 +67,12 @@ module _ {s n right : ℕ} {hs : List Handle} {ss ts ds : List ℕ} {y : Located
   row-ends num dacl {ws} {a} e r w = ends-with a r w (λ σ v p. e .fit _ _)
       (λ σ v p.
       let t = state.tokenOf σ (y .token) in
-      let in16 = g .inside z in
-      let there = in-slot (y .token) (g .slot) v (p .tokens) in16 in
-      let row = lent-row (y .token) (g .slot) v (p .tokens) in16 in
+      let there = in-slot (y .token) (g .slot z) v (p .tokens) (g .inside) in
+      let row = lent-row (y .token) (g .slot z) v (p .tokens) (g .inside) in
       rw (decided σ v p) (served-parts σ (x t) p
-      (words-after (y .token) (g .slot) v (p .tokens) in16 (x t) (num t) (dacl t) (e .row t (there .isValid) row))))
+      (words-after (y .token) (g .slot z) v (p .tokens) (g .inside) (x t) (num t) (dacl t) (e .row t (there .isValid) row))))
       (λ σ v p.
       let t = state.tokenOf σ (y .token) in
-      let in16 = g .inside z in
-      let there = in-slot (y .token) (g .slot) v (p .tokens) in16 in
-      let row = lent-row (y .token) (g .slot) v (p .tokens) in16 in
+      let there = in-slot (y .token) (g .slot z) v (p .tokens) (g .inside) in
+      let row = lent-row (y .token) (g .slot z) v (p .tokens) (g .inside) in
       e .answer t (there .isValid) row _ _ ∙ sym (served-answer σ (x t)) ∙ sym (ap (λ (q : Served). q .answer) (decided σ v p)))

@@ -16,8 +16,8 @@ use Rattle.request.specs.declared.located.Located.{Located}
 pub record TokenLocated (station number right : ℕ) (hs : List Handle) (ts : List ℕ) (r : Located) : Type 0 where
   pub small : r .refusal < 128
   -- what lending the row asks
-  pub inside : r .refusal ≡ 0 → r .slot < tokenSlots
-  pub slot : FoundAt (r .token) ts (r .slot)
+  pub inside : r .slot < tokenSlots
+  pub slot : r .refusal ≡ 0 → FoundAt (r .token) ts (r .slot)
   pub token : (σ : State) → valid σ ≡ true → HandlesIn σ hs → r .token ≡ handleOf σ station number .token
   pub mask : (σ : State) → valid σ ≡ true → HandlesIn σ hs → r .mask ≡ handleOf σ station number .mask
   pub refusal : (σ : State) → valid σ ≡ true → {ds : List ℕ} → HandlesIn σ hs → TokensIn σ ts ds

@@ -1,16 +1,39 @@
 // Request 5: privileges.
+ghost use mathlib.Core.Path.{_≡_};
+ghost use lib.ListN.{length, drop};
+ghost use Rattle.rules.specs.Memory.{tokenWords};
+ghost use Rattle.rules.specs.Request.{times, entry};
 ghost use Rattle.rules.specs.AdjustPrivileges.{adjust};
 ghost use Rattle.state.specs.Parts.{Lent};
+ghost use Rattle.request.specs.Ending.{RowEnds};
+ghost use Rattle.request.specs.Adjusting.{privilegesEnding};
 ghost use Rattle.request.specs.Adjusts.{EntriesCarried};
 use crate::answer::Answer;
+use crate::located;
 use crate::outcome;
 use crate::outcome::Outcome;
 use crate::privileges;
-use crate::subject;
 use handle::Handles;
 use privilege::mask::Mask;
+use token::row;
+use token::row::TOKEN_WORDS;
 
-// The count entries that stand at a place of a body.
+// The count entries that stand at a place of a body, on the token in a row.
+fn adjust_row(s: &[u8], at: usize, count: u64, words: &mut [u64]) -> Answer
+    requires { ⌜ length (now words) ≡ tokenWords ⌝ }
+    ensures { λ r. ⌜ RowEnds (privilegesEnding (times count entry (drop at (now (s .entry))))) (now (words .entry)) (now (words .exit)) r ⌝ }
+{
+    let before = row::privileges_in(words);
+    let adjusted = privileges::adjust(before, s, at, count);
+    if !adjusted.ok {
+        return Answer::Refused(5);
+    }
+    let made = adjusted.privileges;
+    row::set_privileges(words, made);
+    row::step_modified(words);
+    Answer::Value(adjusted.previous)
+}
+
 pub fn adjust_privileges(
     station: u32,
     number: u32,
@@ -19,27 +42,18 @@ pub fn adjust_privileges(
     count: u64,
     handles: Handles,
     tokens: &mut [u64],
-    dacls: &mut [u8],
+    dacls: &[u8],
     stations: &[u64],
 ) -> Outcome
     requires { ⌜ Lent (now tokens) (now dacls) (now stations) ⌝ }
-    ensures { λ r. ⌜ EntriesCarried adjust station number (now (s .entry)) at count (handles .items) (now (stations .entry)) (now (tokens .entry)) (now (dacls .entry)) (now (stations .entry)) (now (tokens .exit)) (now (dacls .exit)) r ⌝ }
+    ensures { λ r. ⌜ EntriesCarried adjust station number (now (s .entry)) at count (handles .items) (now (stations .entry)) (now (tokens .entry)) (now (dacls .entry)) (now (stations .entry)) (now (tokens .exit)) (now (dacls .entry)) r ⌝ }
 {
-    let x = subject::find(
-        station,
-        number,
-        Mask::ADJUST_PRIVILEGES,
-        handles,
-        tokens,
-        dacls,
-    );
-    if x.target.refusal != 0 {
-        return outcome::refused(x.target.refusal);
+    let x = located::locate(station, number, Mask::ADJUST_PRIVILEGES, handles, tokens);
+    if x.refusal != 0 {
+        return outcome::refused(x.refusal);
     }
-    let adjusted = privileges::adjust(x.token.privileges, s, at, count);
-    if !adjusted.ok {
-        return outcome::refused(5);
-    }
-    let made = token::with_privileges(x.token, adjusted.privileges);
-    subject::finish(made, Answer::Value(adjusted.previous), tokens, dacls)
+    let from = x.slot * TOKEN_WORDS;
+    let end = from + TOKEN_WORDS;
+    let answer = adjust_row(s, at, count, &mut tokens[from..end]);
+    outcome::ends(answer)
 }

@@ -11,7 +11,7 @@ use privilege::mask::Mask;
 use token::slots;
 use token::slots::TOKEN_SLOTS;
 
-// What the handle is refused for, 0 if nothing; its token's number and slot, and its mask.
+// What the handle is refused for, 0 if nothing; its token's number and slot, and its mask. The slot is always one that can be lent.
 pub struct Located {
     pub refusal: u64,
     pub token: u64,
@@ -19,7 +19,7 @@ pub struct Located {
     pub mask: u32,
 }
 
-// In a valid state the token of a live handle is in a slot: the test is for the row that is lent.
+// In a valid state the token of a live handle is in a slot.
 pub fn locate(station: u32, number: u32, right: Mask, handles: Handles, tokens: &[u64]) -> Located
     requires { ⌜ length (now tokens) ≡ tokenSlots * tokenWords ⌝ }
     ensures { λ r. ⌜ TokenLocated station number (right .0) (handles .items) (now (tokens .entry)) r ⌝ }
@@ -27,12 +27,11 @@ pub fn locate(station: u32, number: u32, right: Mask, handles: Handles, tokens: 
     let target = lookup::lookup(station, number, right, handles);
     let h = target.handle;
     let slot = slots::find(tokens, h.token);
-    let lost = (target.refusal == 0) & (TOKEN_SLOTS <= slot);
-    if lost {
+    if TOKEN_SLOTS <= slot {
         return Located {
             refusal: 2,
             token: h.token,
-            slot: slot,
+            slot: 0,
             mask: h.mask,
         };
     }

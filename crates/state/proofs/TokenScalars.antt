@@ -41,13 +41,13 @@ module _ {i : ℕ} {ts : List ℕ} where
   pub identity-of : {n : ℕ} {r : Identity} → FoundAt n ts i → IdentityAt i ts r → IdentityGiven n ts r
   identity-of {n} at g = g .given n at
 
-in-row : (ws : List ℕ) (t : Token) → ws ≡ tokenRow t → privilegesOf (privilegesIn ws) ≡ t .privileges
+pub privileges-in-row : (ws : List ℕ) (t : Token) → ws ≡ tokenRow t → privilegesOf (privilegesIn ws) ≡ t .privileges
 unfolding tokenRow head
-in-row ws t e = ap (λ (l : List ℕ). privilegesOf (privilegesIn l)) e
+privileges-in-row ws t e = ap (λ (l : List ℕ). privilegesOf (privilegesIn l)) e
 
 pub privileges-at : {i : ℕ} {ts : List ℕ} {p : Privileges} → i < tokenSlots → p ≡ privilegesIn (lent i ts) → PrivilegesAt i ts p
 privileges-at {i} {ts} l e = record {
-  given = λ n at σ v h. ap privilegesOf e ∙ in-row (lent i ts) (State.tokenOf σ n) (lent-row n at v h l);
+  given = λ n at σ v h. ap privilegesOf e ∙ privileges-in-row (lent i ts) (State.tokenOf σ n) (lent-row n at v h l);
 }
 
 pub no-privileges : {i : ℕ} {ts : List ℕ} → tokenSlots ≤ i → PrivilegesAt i ts (record { present = 0; enabled = 0; «by_default» = 0; used = 0 })
@@ -81,5 +81,5 @@ module _ {s m i : ℕ} {ts ss : List ℕ} (c : CallerNumber s ss m) (at : FoundA
 pub marked : {bits : ℕ} {ws ws′ : List ℕ} {p q : Privileges} → p ≡ privilegesIn ws → privilegesOf q ≡ markUsed bits (privilegesOf p)
     → Becomes (withPrivileges (privilegesOf q)) ws ws′ → Marked bits ws ws′
 marked {bits} {ws} g e b = record {
-  row = λ t k. b .row t k ∙ ap (λ (x : Rules.Privileges). tokenRow (withPrivileges x t)) (e ∙ ap (markUsed bits) (ap privilegesOf g ∙ in-row ws t k));
+  row = λ t k. b .row t k ∙ ap (λ (x : Rules.Privileges). tokenRow (withPrivileges x t)) (e ∙ ap (markUsed bits) (ap privilegesOf g ∙ privileges-in-row ws t k));
 }

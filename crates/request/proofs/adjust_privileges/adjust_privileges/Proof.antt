@@ -1,6 +1,6 @@
--- Each way in which request 5 ends. Assumes nothing.
+-- By the handle, in the row of its token. Assumes nothing.
 use borrow.Author.Needs.{needs}
-use Rattle.request.proofs.AdjustsPrivileges.{no-handle, bad-entry, adjusts}
+use Rattle.request.proofs.AdjustsPrivileges.{no-handle, row-adjusted}
 use Rattle.request.proofs.adjust_privileges.adjust_privileges.Statement.{statement}
 use Rattle.request.proofs.adjust_privileges.adjust_privileges.Tie as tie
 
@@ -11,15 +11,14 @@ adjust-privileges-spec =
     (λ c κs. search needs)
     (λ c κs. search needs)
     (λ c. search needs)
-    (λ c. search needs)
     (λ c. search (needs, no-handle))
+    (λ c. search needs)
+    (λ c. search needs)
+    (λ c. search needs)
+    (λ c. search needs)
+    (λ c. search needs)
+    (λ c. search needs)
     (λ c κs. search needs)
     (λ c κs. search needs)
     (λ c. search needs)
-    (λ c. search needs)
-    (λ c. search (needs, bad-entry))
-    (λ c κs. search needs)
-    (λ c κs. search needs)
-    (λ c. search needs)
-    (λ c. search needs)
-    (λ c. search (needs, adjusts)))
+    (λ c. search (needs, row-adjusted)))
