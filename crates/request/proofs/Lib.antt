@@ -6,6 +6,7 @@ pub mod LookupLaws
 pub mod Locating
 pub mod RowEnding
 pub mod Issuing
+pub mod RowIssuing
 pub mod Copying
 pub mod Creates
 pub mod Regrouped

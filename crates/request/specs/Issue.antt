@@ -6,6 +6,7 @@ use mathlib.Core.List.{List}
 use Rattle.rules.specs.Number.{max32, max64}
 use Rattle.rules.specs.Token as rules
 use Rattle.rules.specs.State.{State, addToken, addHandle}
+use Rattle.rules.specs.Memory.{tokenRow, daclRow}
 use Rattle.rules.specs.Valid.{valid}
 use Rattle.rules.specs.Refusal.{tableFull}
 use Rattle.rules.specs.Decision.{Decision, need_else_then_, canIssue, issued}
@@ -42,3 +43,9 @@ issuedIf room s mask t σ = need room else tableFull then issued s mask t σ
 
 pub record IssuedIfRoom (s mask : ℕ) (t : Token) (hs : List Handle) (ss ts ds ss′ ts′ ds′ : List ℕ) (r : Outcome) : Type 0 where
   pub carried : Carried (λ σ. issuedIf (canIssue σ) s mask (tokenOf t) σ) hs ss ts ds ss′ ts′ ds′ r
+
+-- a token by its rows, whatever token they are of
+pub record RowIssued (s mask : ℕ) (ws bs : List ℕ) (hs : List Handle) (ss ts ds ss′ ts′ ds′ : List ℕ) (r : Outcome) : Type 0 where
+  pub parts : (u : rules.Token) → ws ≡ tokenRow u → bs ≡ daclRow u → (σ : State) → valid σ ≡ true → PartsIn σ hs ss ts ds
+      → PartsIn (addHandle s (u .number) mask (addToken u σ)) (changed hs (r .change)) ss′ ts′ ds′
+  pub answer : (σ : State) → StationsIn σ ss → r .answer ≡ answers.Value (σ .handles .next)

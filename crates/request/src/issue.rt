@@ -2,18 +2,20 @@
 ghost use mathlib.Core.Path.{_≡_};
 ghost use Prim.Native.Nat.{_*_};
 ghost use lib.ListN.{length};
+ghost use Rattle.rules.specs.Token.{maxDacl};
 ghost use Rattle.rules.specs.State.{tokenSlots};
 ghost use Rattle.rules.specs.Memory.{tokenWords};
 ghost use Rattle.token.specs.Meaning.{Sized};
 ghost use Rattle.state.specs.Parts.{Lent};
 ghost use Rattle.state.specs.StationFacts.{stationsSize};
-ghost use Rattle.request.specs.Issue.{NumbersLeft, IssueRoom, Issued, IssuedIfRoom};
+ghost use Rattle.request.specs.Issue.{NumbersLeft, IssueRoom, Issued, IssuedIfRoom, RowIssued};
 use crate::answer::Answer;
 use crate::outcome;
 use crate::outcome::Outcome;
 use handle::Handles;
 use state::handles::add_handle;
 use state::handles::can_add_handle;
+use state::tokens::add_row;
 use state::tokens::add_token;
 use state::tokens::can_add_token;
 use token::Token;
@@ -67,4 +69,28 @@ pub fn issue_if_room(
         return outcome::refused(8);
     }
     issue(station, mask, t, handles, tokens, dacls, stations)
+}
+
+// A new token by its rows, and a handle on it.
+pub fn issue_row(
+    station: u32,
+    mask: u32,
+    words: &[u64],
+    bytes: &[u8],
+    handles: Handles,
+    tokens: &mut [u64],
+    dacls: &mut [u8],
+    stations: &mut [u64],
+) -> Outcome
+    requires { ⌜ Lent (now tokens) (now dacls) (now stations) × (length (now words) ≡ tokenWords) × (length (now bytes) ≡ maxDacl) × NumbersLeft (now stations) ⌝ }
+    ensures { λ r. ⌜ RowIssued station mask (now (words .entry)) (now (bytes .entry)) (handles .items) (now (stations .entry)) (now (tokens .entry)) (now (dacls .entry)) (now (stations .exit)) (now (tokens .exit)) (now (dacls .exit)) r ⌝ }
+{
+    add_row(words, bytes, tokens, dacls, stations);
+    let change = add_handle(station, words[0], mask, handles, stations);
+    let added = change.handle;
+    let number = added.number as u64;
+    Outcome {
+        answer: Answer::Value(number),
+        change: change,
+    }
 }

@@ -7,4 +7,5 @@ pub mod TokenLooks
 pub mod InPlace
 pub mod TokenScalars
 pub mod TokenChanges
+pub mod Adding
 pub mod TokenFrames

@@ -13,7 +13,7 @@ use Rattle.rules.specs.State.{State, tokenSlots, isNumbered, caller, held, putT
 use Rattle.rules.specs.Index.{foundIndex}
 use Rattle.rules.specs.Valid.{valid}
 use Rattle.rules.specs.Privileges.{markUsed}
-use Rattle.rules.specs.Memory.{tokenRow, slotRow, slotDacl}
+use Rattle.rules.specs.Memory.{tokenRow, daclRow, slotRow, slotDacl}
 use Rattle.privilege.specs.Meaning.{privilegesOf}
 use Rattle.privilege.specs.declared.privileges.Privileges.{Privileges}
 use Rattle.token.specs.Meaning.{identityOf, tokenOf, slotsOf, Sized}
@@ -79,6 +79,18 @@ pub record TokenPut (t : Token) (ts ds ts′ ds′ : List ℕ) : Type 0 where
 pub record TokenAdded (t : Token) (ts ds ss ts′ ds′ ss′ : List ℕ) : Type 0 where
   pub tokens : (σ : State) → valid σ ≡ true → TokensIn σ ts ds → TokensIn (addToken (tokenOf t) σ) ts′ ds′
   pub stations : (σ : State) → StationsIn σ ss → StationsIn (addToken (tokenOf t) σ) ss′
+  -- what add_handle asks stays
+  pub handle-next : nextHandle ss′ ≡ nextHandle ss
+
+-- slot i gets the rows of some token u
+pub record RowsPut (ws bs : List ℕ) (i : ℕ) (ts ds ts′ ds′ : List ℕ) : Type 0 where
+  pub words : (u : Rules.Token) → ws ≡ tokenRow u → (ps : List (Slot Rules.Token)) → length ps ≡ tokenSlots → ts ≡ flat slotRow ps → ts′ ≡ flat slotRow (set ps i (live u))
+  pub bytes : (u : Rules.Token) → bs ≡ daclRow u → (ps : List (Slot Rules.Token)) → length ps ≡ tokenSlots → ds ≡ flat slotDacl ps → ds′ ≡ flat slotDacl (set ps i (live u))
+
+-- a new token by its rows, whatever token they are of
+pub record RowAdded (ws bs ts ds ss ts′ ds′ ss′ : List ℕ) : Type 0 where
+  pub tokens : (u : Rules.Token) → ws ≡ tokenRow u → bs ≡ daclRow u → (σ : State) → valid σ ≡ true → TokensIn σ ts ds → TokensIn (addToken u σ) ts′ ds′
+  pub stations : (u : Rules.Token) (σ : State) → StationsIn σ ss → StationsIn (addToken u σ) ss′
   -- what add_handle asks stays
   pub handle-next : nextHandle ss′ ≡ nextHandle ss
 

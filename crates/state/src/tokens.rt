@@ -9,7 +9,7 @@ ghost use Rattle.rules.specs.Memory.{tokenWords, counterWords, stationWords};
 ghost use Rattle.token.specs.Meaning.{tokenOf, Sized};
 ghost use Rattle.state.specs.Parts.{Lent};
 ghost use Rattle.state.specs.StationFacts.{stationsSize};
-ghost use Rattle.state.specs.TokenCalls.{TokenLoaded, TokenGiven, CallerGiven, IdentityGiven, IdentityAt, PrivilegesAt, Held, Marked, nextIn, NextToken, CanAdd, Stored, TokenPut, TokenAdded, Used};
+ghost use Rattle.state.specs.TokenCalls.{TokenLoaded, TokenGiven, CallerGiven, IdentityGiven, IdentityAt, PrivilegesAt, Held, Marked, nextIn, NextToken, CanAdd, Stored, TokenPut, TokenAdded, RowsPut, RowAdded, Used};
 use crate::stations::NEXT_TOKEN;
 use crate::stations::caller_number;
 use privilege::privileges::Privileges;
@@ -203,6 +203,32 @@ pub fn add_token(t: Token, tokens: &mut [u64], dacls: &mut [u8], stations: &mut 
 {
     let slot = slots::free_slot(tokens);
     store(t, tokens, dacls, slot);
+    stations[NEXT_TOKEN] = stations[NEXT_TOKEN] + 1;
+}
+
+// A slot past the end changes nothing.
+fn put_rows(words: &[u64], bytes: &[u8], tokens: &mut [u64], dacls: &mut [u8], slot: usize)
+    requires { ⌜ (length (now words) ≡ tokenWords) × (length (now bytes) ≡ maxDacl) × (length (now tokens) ≡ tokenSlots * tokenWords) × (length (now dacls) ≡ tokenSlots * maxDacl) ⌝ }
+    ensures { λ r. ⌜ RowsPut (now (words .entry)) (now (bytes .entry)) slot (now (tokens .entry)) (now (dacls .entry)) (now (tokens .exit)) (now (dacls .exit)) ⌝ }
+{
+    if slot < TOKEN_SLOTS {
+        slots::put_at(words, bytes, tokens, dacls, slot);
+    }
+}
+
+// A new token by its rows, whose number is the next one.
+pub fn add_row(
+    words: &[u64],
+    bytes: &[u8],
+    tokens: &mut [u64],
+    dacls: &mut [u8],
+    stations: &mut [u64],
+)
+    requires { ⌜ Lent (now tokens) (now dacls) (now stations) × (length (now words) ≡ tokenWords) × (length (now bytes) ≡ maxDacl) × (nextIn (now stations) < max64) ⌝ }
+    ensures { λ r. ⌜ RowAdded (now (words .entry)) (now (bytes .entry)) (now (tokens .entry)) (now (dacls .entry)) (now (stations .entry)) (now (tokens .exit)) (now (dacls .exit)) (now (stations .exit)) ⌝ }
+{
+    let slot = slots::free_slot(tokens);
+    put_rows(words, bytes, tokens, dacls, slot);
     stations[NEXT_TOKEN] = stations[NEXT_TOKEN] + 1;
 }
 

@@ -82,6 +82,20 @@ fn count_in(words: &[u64], at: usize, size: usize) -> usize
     if count < most { count as usize } else { size }
 }
 
+// A copy of the row.
+pub fn copied(words: &[u64]) -> [u64; TOKEN_WORDS]
+    requires { ⌜ length (now words) ≡ tokenWords ⌝ }
+    ensures { λ r. ⌜ r ≡ now (words .entry) ⌝ }
+{
+    let mut out = [0u64; TOKEN_WORDS];
+    let mut i: usize = 0;
+    while i < TOKEN_WORDS {
+        out[i] = words[i];
+        i += 1;
+    }
+    out
+}
+
 // Whatever the row holds: what is past a width or a count is left out.
 pub fn load(words: &[u64], bytes: &[u8]) -> Token
     requires { ⌜ (length (now words) ≡ tokenWords) × (length (now bytes) ≡ maxDacl) ⌝ }

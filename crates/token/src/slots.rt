@@ -15,6 +15,7 @@ use crate::MAX_DACL;
 use crate::Token;
 use crate::row;
 use crate::row::TOKEN_WORDS;
+use crate::words;
 
 pub const TOKEN_SLOTS: usize = 16;
 
@@ -38,6 +39,19 @@ pub fn store_at(t: Token, tokens: &mut [u64], dacls: &mut [u8], slot: usize)
     let from = slot * MAX_DACL;
     let till = from + MAX_DACL;
     row::store(t, &mut tokens[at..end], &mut dacls[from..till]);
+}
+
+// A slot's rows become these.
+pub fn put_at(words: &[u64], bytes: &[u8], tokens: &mut [u64], dacls: &mut [u8], slot: usize)
+    requires { ⌜ (length (now words) ≡ tokenWords) × (length (now bytes) ≡ maxDacl) × (length (now tokens) ≡ tokenSlots * tokenWords) × (length (now dacls) ≡ tokenSlots * maxDacl) × (slot < tokenSlots) ⌝ }
+    ensures { λ r. ⌜ (now (tokens .exit) ≡ put-record tokenWords slot (now (words .entry)) (now (tokens .entry))) × (now (dacls .exit) ≡ put-record maxDacl slot (now (bytes .entry)) (now (dacls .entry))) ⌝ }
+{
+    let at = slot * TOKEN_WORDS;
+    let end = at + TOKEN_WORDS;
+    let from = slot * MAX_DACL;
+    let till = from + MAX_DACL;
+    words::copy_words(words, &mut tokens[at..end]);
+    words::copy_bytes(bytes, &mut dacls[from..till]);
 }
 
 pub fn clear_at(tokens: &mut [u64], dacls: &mut [u8], slot: usize)
