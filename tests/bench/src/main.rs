@@ -1,5 +1,6 @@
 //! Nanoseconds of a call: the broker, the rival, and one reading of the same lent bytes, taking
-//! turns in one run. `bench [ROUNDS]`; of each hundred calls the quickest round counts.
+//! turns in one run. `bench [ROUNDS [ROW]]`; of each hundred calls the quickest round counts. ROW is
+//! a part of the rows' names.
 
 use std::hint::black_box;
 use std::time::Instant;
@@ -72,13 +73,15 @@ fn measure(work: &Work, rounds: usize) -> [f64; 3] {
 }
 
 fn main() {
-    let rounds = std::env::args().nth(1).map_or(200, |word| word.parse().expect("how many rounds"));
+    let mut words = std::env::args().skip(1);
+    let rounds = words.next().map_or(200, |word| word.parse().expect("how many rounds"));
+    let row = words.next().unwrap_or_default();
     println!("ns per call; of each {STRETCH} calls the quickest of {rounds} rounds");
     println!(
         "                                 broker    rival    floor  broker/rival  broker/floor"
     );
-    for work in all() {
-        let [broker, rival, floor] = measure(&work, rounds);
+    for work in all().iter().filter(|work| work.name.contains(&row)) {
+        let [broker, rival, floor] = measure(work, rounds);
         let (name, ratio, over) = (work.name, broker / rival, broker / floor);
         println!("{name:30} {broker:8.0} {rival:8.0} {floor:8.0} {ratio:13.2} {over:13.2}");
     }
