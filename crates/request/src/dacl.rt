@@ -10,18 +10,8 @@ ghost use Rattle.rules.specs.Request.{byte};
 ghost use Rattle.request.specs.Layout.{valuesAt, There};
 ghost use Rattle.request.specs.Bytes.{DaclWritten};
 use token::MAX_DACL;
+use token::words::copy_bytes;
 use token::words::zero_bytes;
-
-fn copy(src: &[u8], out: &mut [u8])
-    requires { ⌜ length (now out) ≡ length (now src) ⌝ }
-    ensures { λ _. ⌜ now (out .exit) ≡ now (src .entry) ⌝ }
-{
-    let mut i: usize = 0;
-    while i < src.len() {
-        out[i] = src[i];
-        i += 1;
-    }
-}
 
 // The bytes, and then zeros.
 fn store(src: &[u8], out: &mut [u8])
@@ -29,7 +19,7 @@ fn store(src: &[u8], out: &mut [u8])
     ensures { λ _. ⌜ now (out .exit) ≡ pad maxDacl (now (src .entry)) ⌝ }
 {
     let n = src.len();
-    copy(src, &mut out[0..n]);
+    copy_bytes(src, &mut out[0..n]);
     zero_bytes(MAX_DACL - n, &mut out[n..MAX_DACL]);
 }
 
