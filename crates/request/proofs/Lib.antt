@@ -1,4 +1,5 @@
 pub mod ClassBodies
+pub mod ClassLists
 pub mod Answers
 pub mod Deciding
 pub mod InstallLaws

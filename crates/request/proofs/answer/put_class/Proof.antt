@@ -1,6 +1,6 @@
--- The numbers, and the DACL for class 6. Assumes nothing.
+-- Two lists, and the classes of few numbers. Assumes nothing.
 use borrow.Author.Needs.{needs}
-use Rattle.request.proofs.Answers.{class-room, class-framed}
+use Rattle.request.proofs.Answers.{groups-fit, sids-fit, groups-wrote, sids-wrote}
 use Rattle.request.proofs.answer.put_class.Statement.{statement}
 use Rattle.request.proofs.answer.put_class.Tie as tie
 
@@ -8,13 +8,12 @@ pub put-class-spec : {M : Type 1} → statement M
 put-class-spec =
     tie.close
     (tie.spec
+    (λ c κs. search (needs, groups-fit))
+    (λ c κs. search (needs, sids-fit))
     (λ c κs. search needs)
     (λ c. search needs)
+    (λ c. search (needs, groups-wrote))
     (λ c. search needs)
+    (λ c. search (needs, sids-wrote))
     (λ c. search needs)
-    (λ c. search needs)
-    (λ c. search needs)
-    (λ c. search needs)
-    (λ c κs. search (needs, class-room))
-    (λ c. search needs)
-    (λ c. search (needs, class-framed)))
+    (λ c. search needs))

@@ -1,6 +1,6 @@
--- The status is counted and taken off. Assumes nothing.
+-- Two lists, and the classes of few numbers. Assumes nothing.
 use borrow.Author.Needs.{needs}
-use Rattle.request.proofs.Answers.{status-counted, class-counted}
+use Rattle.request.proofs.Answers.{groups-counted, sids-counted}
 use Rattle.request.proofs.class.size.Statement.{statement}
 use Rattle.request.proofs.class.size.Tie as tie
 
@@ -9,10 +9,8 @@ size-spec =
     tie.close
     (tie.spec
     (λ c κs. search needs)
-    (λ c. search needs)
-    (λ c. search needs)
-    (λ c. search needs)
     (λ c κs. search needs)
-    (λ c. search (needs, status-counted))
-    (λ c. search needs)
-    (λ c. search (needs, class-counted)))
+    (λ c κs. search needs)
+    (λ c. search (needs, groups-counted))
+    (λ c. search (needs, sids-counted))
+    (λ c. search needs))
