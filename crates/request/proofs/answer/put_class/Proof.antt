@@ -1,7 +1,7 @@
 -- Each class of several numbers, and those of one. Assumes nothing.
 use borrow.Author.Needs.{needs}
 use Rattle.rules.specs.Query.{words, classes, classBytes}
-use Rattle.rules.specs.Memory.{identityAt, privilegesAt, defaultsAt, tokenAt}
+use Rattle.rules.specs.Memory.{identityAt, privilegesAt, tokenAt}
 use Rattle.request.proofs.ClassBodies.{known-low, known-high}
 use Rattle.request.proofs.Answers.{class-fits-in, class-wrote, dacl-fits-in, dacl-wrote, one-wrote, none-wrote}
 use Rattle.request.proofs.answer.put_class.Statement.{statement}

@@ -1,7 +1,7 @@
 -- Each class in turn. Assumes nothing.
 use borrow.Author.Needs.{needs}
-use Rattle.rules.specs.Query.{words, classes, classBytes}
-use Rattle.rules.specs.Memory.{identityAt, privilegesAt, defaultsAt, tokenAt}
+use Rattle.rules.specs.Query.{classes, classBytes}
+use Rattle.rules.specs.Memory.{identityAt, defaultsAt, tokenAt}
 use Rattle.request.proofs.ClassBodies.{one, one-sid, one-last}
 use Rattle.request.proofs.class.one.Statement.{statement}
 use Rattle.request.proofs.class.one.Tie as tie

@@ -1,7 +1,7 @@
 -- Each class of several numbers, and those of one. Assumes nothing.
 use borrow.Author.Needs.{needs}
-use Rattle.rules.specs.Query.{words, classes, classBytes}
-use Rattle.rules.specs.Memory.{identityAt, privilegesAt, defaultsAt, tokenAt}
+use Rattle.rules.specs.Query.{classes, classBytes}
+use Rattle.rules.specs.Memory.{identityAt, tokenAt}
 use Rattle.request.proofs.ClassBodies.{counted-numbers, counted-privileges, counted-same, counted-one}
 use Rattle.request.proofs.class.size.Statement.{statement}
 use Rattle.request.proofs.class.size.Tie as tie
