@@ -77,6 +77,11 @@ module _ (t : ℕ → Bool) (f : ℕ → Bool) where
       → {s : List ℕ} {acc i : ℕ} → Gathered s acc i → i < length s → Gathered s (bitOr acc (g (getD s i 0))) (i + 1)
   gathered-more u g v {s} {acc} {i} h l = record { tested = rw (u acc (g (getD s i 0))) (tested-more f 0 s (h .tested) l (v (getD s i 0))) }
 
+  -- the same where a call gave it
+  pub gathered-given : ((a b : ℕ) → t (bitOr a b) ≡ (t a && t b)) → (g : ℕ → ℕ) → ((x : ℕ) → t (g x) ≡ f x)
+      → {s : List ℕ} {acc i r : ℕ} → Gathered s acc i → i < length s → r ≡ g (getD s i 0) → Gathered s (bitOr acc r) (i + 1)
+  gathered-given u g v {s} {acc} {i} h l e = rw e (gathered-more u g v h l)
+
   pub gathered-done : {s : List ℕ} {acc i : ℕ} → Gathered s acc i → length s ≤ i → t acc ≡ all f s
   gathered-done {s} h l = tested-done f 0 s (h .tested) l
 

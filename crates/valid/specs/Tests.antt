@@ -1,6 +1,6 @@
 -- Valid memory as the code tests it: row by row, and over the numbers of what is live.
 -- proofs/Whole says that these tests come to `Memory.valid`. Assumes nothing.
-use Prim.Native.Nat.{ℕ, zero, suc, _+_, _-_, _%_, _≤_}
+use Prim.Native.Nat.{ℕ, zero, suc, _+_, _-_, _%_, _^_, _≤_}
 use mathlib.Core.Path.{_≡_}
 use mathlib.Core.Bool.{Bool, true, not, _&&_, _||_}
 use mathlib.Core.List.{List, [], _∷_}
@@ -74,6 +74,10 @@ tokenTest ws bs = same (slotRow (slotAt ws bs)) ws && same (slotDacl (slotAt ws 
 
 unfoldable pub groupTest : ℕ → Bool
 groupTest w = groupValid (unpack w)
+
+-- bit 63 says that LOGON_ID is there by half, bit 37 that both ENABLED and DENY_ONLY are
+abbrev pub carriedTo : ℕ → ℕ
+carriedTo w = (bitAnd w 0xC000001400000000 + 0x4000000C00000000) % 2 ^ 64
 
 -- user, type, level, elevation, marks, scope, integrity, privileges
 abbrev pub headTest : List ℕ → Bool
