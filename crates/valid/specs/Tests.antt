@@ -101,6 +101,14 @@ headTest ws =
 unfoldable pub stationTest : List ℕ → List ℕ → Bool
 stationTest ws bs = same (stationRow (stationAt ws bs)) ws && same (pendingRow (stationAt ws bs)) bs && streamValid (stationAt ws bs)
 
+-- nothing pending
+abbrev pub idleTest : List ℕ → Bool
+idleTest ws = eqb (getD ws 1 0) 0 && ltb (getD ws 2 0) 2
+
+-- of each row; the bytes beside it are not looked at
+abbrev pub allIdle : List ℕ → Bool
+allIdle ws = testRows {B = ℕ} (λ row none. idleTest row) stationWords 0 stationCount ws []
+
 -- ---- numbers
 
 unfoldable pub columnBy : (List ℕ → ℕ) → ℕ → ℕ → List ℕ → List ℕ
