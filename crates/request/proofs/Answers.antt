@@ -1,105 +1,54 @@
 -- The bytes of each answer, and that its frame fits. Assumes nothing.
-use Prim.Native.Nat.{ℕ, zero, suc, _+_, _*_, _-_, _^_, _≤_, _<_}
+use Prim.Native.Nat.{ℕ, zero, suc, _+_, _*_, _-_, _^_, _≤_, _<_, min}
 use native.Mathlib.Omega.{arith}
 use mathlib.Core.Path.{_≡_, refl, sym, ap, ap₂, _∙_}
-use mathlib.Core.Bool.{true}
-use mathlib.Core.List.{List, [], _∷_, _++_, map, append-nil}
-use lib.Seq.{length-take-le, getD-take, getD-drop}
-use lib.ListN.{length, take, drop, getD, replicate, length-append, List·getD-map}
+use mathlib.Core.Bool.{true, not, _&&_}
+use mathlib.Core.List.{List, [], _∷_, _++_, append-nil}
+use lib.Dec.{leb}
+use lib.Seq.{getD-take, getD-drop}
+use lib.ListN.{length, take, drop, getD, replicate, length-append}
 use Rattle.table.specs.Table.{record-at, part-at}
 use Rattle.rules.specs.Number.{encode, encodeIn, encodeAll}
 use Rattle.rules.specs.Frame.{frame, maxAnswer}
-use Rattle.rules.specs.Token as Rules
 use Rattle.rules.specs.Token.{maxDacl}
 use Rattle.rules.specs.State.{tokenSlots}
-use Rattle.rules.specs.Memory.{tokenWords, limitsAt, tokenAt}
+use Rattle.rules.specs.Memory.{tokenWords, tokenAt}
 use Rattle.rules.specs.Valid.{tokenValid}
 use Rattle.rules.specs.AdjustGroups.{reportWords}
-use Rattle.rules.specs.Query.{words, classes, classBytes}
+use Rattle.rules.specs.Query.{classBytes}
 use Rattle.rules.proofs.Facts.{token-facts}
-use Rattle.rules.proofs.Numbers.{encode-one, encode-some}
+use Rattle.rules.proofs.Numbers.{encode-one}
 use Rattle.rules.proofs.Answers.{word, class-fits, frame-fits}
 use Rattle.number.specs.Answer.{answered}
-use Rattle.request.specs.Body.{bytes, only, bodies, bodyOf, groupNumbers, sidNumbers, RowCounted, Listed, RowListed}
+use Rattle.request.specs.Body.{RowOne}
 use Rattle.request.specs.Answer.{tokenIn, answerOf, Fit, Room, WroteFrame}
-use Rattle.request.specs.declared.class.Fields.{Fields}
 use Rattle.request.specs.declared.answer.Answer.{Answer}
 use Rattle.request.specs.declared.answer.Answer.the-variants as answer
-
--- ---- a class's bytes
-
-as-bodies : (t : Rules.Token) → classes t ≡ map bytes (bodies t)
-unfolding classes bodies encodeAll words
-as-bodies t = simp append-nil
-
-class-body : (t : Rules.Token) (class : ℕ) → classBytes t class ≡ bytes (bodyOf t class)
-unfolding classBytes bodyOf encodeAll
-class-body t class =
-    ap (λ (l : List (List ℕ)). getD ([] ∷ l) class []) (as-bodies t) ∙ List·getD-map bytes (only [] ∷ bodies t) class (only [])
+use Rattle.request.proofs.ClassBodies.{no-class, dacl-bytes}
 
 -- a status is one byte
 first-byte : (n : ℕ) (ns : List ℕ) → n < 128 → encodeAll (n ∷ ns) ≡ n ∷ encodeAll ns
 unfolding encodeAll
 first-byte n ns h = ap (λ (l : List ℕ). l ++ encodeAll ns) (encode-one n h)
 
--- classes 2 and 10 of a row
-module _ (ws bs : List ℕ) (class : ℕ) where
-  group-bytes : class ≡ 2 → classBytes (tokenAt ws bs) class ≡ encodeAll (groupNumbers ws)
-  unfolding classBytes classes tokenAt
-  group-bytes e = ap (classBytes (tokenAt ws bs)) e
-
-  sid-bytes : class ≡ 10 → classBytes (tokenAt ws bs) class ≡ encodeAll (sidNumbers ws)
-  unfolding classBytes classes tokenAt
-  sid-bytes e = ap (classBytes (tokenAt ws bs)) e
-
--- ---- how long a class is
-
-module _ {ws : List ℕ} {class r : ℕ} where
-  pub groups-counted : class ≡ 2 → r ≡ length (encodeAll (groupNumbers ws)) → RowCounted ws class r
-  groups-counted e h = record { counted = λ bs l. h ∙ ap length (sym (group-bytes ws bs class e)) }
-
-  pub sids-counted : class ≡ 10 → r ≡ length (encodeAll (sidNumbers ws)) → RowCounted ws class r
-  sids-counted e h = record { counted = λ bs l. h ∙ ap length (sym (sid-bytes ws bs class e)) }
+with-value : (n v : ℕ) → n < 128 → encodeAll (n ∷ v ∷ []) ≡ n ∷ encode v
+unfolding encodeAll
+with-value n v h = first-byte n (v ∷ []) h ∙ ap (λ (l : List ℕ). n ∷ l) (append-nil (encode v))
 
 -- the part of a list from its start
 start : (n : ℕ) (xs : List ℕ) → take (n - 0) (drop 0 xs) ≡ take n xs
 start n xs = ap (λ (k : ℕ). take k xs) {x = n - 0} {y = n} (omega arith)
 
-module _ (ws : List ℕ) (class : ℕ) (f : Fields) (h : RowListed ws class f) where
-  class-bytes : (bs : List ℕ) → length bs ≡ maxDacl
-      → encodeAll (take (f .count) (f .fields)) ++ take (f .plain) bs ≡ 0 ∷ classBytes (tokenAt ws bs) class
-  unfolding encodeAll encode encodeIn
-  class-bytes bs l =
-      ap₂ (λ (ns ps : List ℕ). encodeAll ns ++ ps) (h .body bs l .front) (h .body bs l .after) ∙ ap (λ (ns : List ℕ). 0 ∷ ns) (sym (class-body (tokenAt ws bs) class))
-
-  module _ (m : ℕ) (e : m ≡ length (encodeAll (take (f .count - 0) (drop 0 (f .fields))))) where
-    all-counted : m ≡ length (encodeAll (take (f .count) (f .fields)))
-    all-counted = e ∙ ap (λ (ns : List ℕ). length (encodeAll ns)) (start (f .count) (f .fields))
-
-    counted : (bs : List ℕ) → length bs ≡ maxDacl → m + f .plain ≡ suc (length (classBytes (tokenAt ws bs) class))
-    counted bs l =
-        let k = length-take-le (f .plain) bs (omega arith) in
-        omega (arith, all-counted, simp length-append at (ap length (class-bytes bs l)))
-
-    pub status-counted : 1 ≤ m
-    unfolding encodeAll
-    status-counted =
-        let b = h .body (replicate maxDacl 0) refl in
-        omega (
-          arith,
-          all-counted,
-          ap (λ (ns : List ℕ). length (encodeAll ns)) (b .front),
-          length-append (encode 0) (encodeAll (bodyOf (tokenAt ws (replicate maxDacl 0)) class .numbers)),
-          encode-some 0,
-        )
-
-    pub few-counted : RowCounted ws class (m - 1 + f .plain)
-    few-counted = record { counted = λ bs l. omega (arith, counted bs l, status-counted) }
+wrote-same : {xs ys o o′ : List ℕ} {r : ℕ} → xs ≡ ys → WroteFrame xs o o′ r → WroteFrame ys o o′ r
+wrote-same {o = o} e w = record {
+  size = w .size ∙ ap (λ (l : List ℕ). length (frame l)) e;
+  bytes = w .bytes ∙ ap (λ (l : List ℕ). frame l ++ drop (length (frame l)) o) e;
+}
 
 -- ---- what a writer of numbers and plain bytes leaves
 
 -- fs and ps are the bytes of a body whose frame fits
-module _ (body fs ps o : List ℕ) (e : encodeAll fs ++ ps ≡ body) (fits : length (frame body) ≤ length o) where
+module _ (body fs ps o : List ℕ) (e : encodeAll fs ++ ps ≡ body) (fits : Room body o) where
   enough : length (answered fs ps) ≤ length o
   enough = omega (arith, ap (λ (l : List ℕ). length (frame l)) e)
 
@@ -109,8 +58,15 @@ module _ (body fs ps o : List ℕ) (e : encodeAll fs ++ ps ≡ body) (fits : len
     bytes = w ∙ ap (λ (l : List ℕ). frame l ++ drop (length (frame l)) o) e;
   }
 
--- numbers alone
-module _ (n : ℕ) (xs ns o : List ℕ) (e : take n xs ≡ ns) (fits : length (frame (encodeAll ns)) ≤ length o) where
+-- numbers alone: a whole array, or its start
+module _ (ns o : List ℕ) (fits : Room (encodeAll ns) o) where
+  pub whole-room : length (answered ns []) ≤ length o
+  whole-room = enough (encodeAll ns) ns [] o (append-nil (encodeAll ns)) fits
+
+  pub whole-framed : (o′ : List ℕ) (r : ℕ) → r ≡ length (answered ns []) → o′ ≡ answered ns [] ++ drop (length (answered ns [])) o → WroteFrame (encodeAll ns) o o′ r
+  whole-framed = framed (encodeAll ns) ns [] o (append-nil (encodeAll ns)) fits
+
+module _ (n : ℕ) (xs ns o : List ℕ) (e : take n xs ≡ ns) (fits : Room (encodeAll ns) o) where
   abbrev fs : List ℕ
   fs = take (n - 0) (drop 0 xs)
 
@@ -151,73 +107,62 @@ unfolding encodeAll encode encodeIn
 zeros zero = refl
 zeros (suc n) = ap suc (zeros n)
 
-module _ (w : ℕ) (o : List ℕ) (hw : w < 2 ^ 64) (room : maxAnswer ≤ length o) where
-  abbrev report-numbers : List ℕ
-  report-numbers = 0 ∷ w ∷ replicate (reportWords - 1) 0
-
-  report-fits : length (frame (encodeAll report-numbers)) ≤ length o
-  unfolding encodeAll
-  report-fits =
-      let l = frame-fits (encode 0 ++ (encode w ++ encodeAll (replicate (reportWords - 1) 0)))
-      (simp length-append (omega (arith, word 0 (omega arith), word w hw, zeros (reportWords - 1)))) in
-      omega arith
-
-  pub report-room : length (answered report-numbers []) ≤ length o
-  report-room = enough (encodeAll report-numbers) report-numbers [] o (append-nil (encodeAll report-numbers)) report-fits
-
-  pub report-framed : (o′ : List ℕ) (r : ℕ) → r ≡ length (answered report-numbers [])
-      → o′ ≡ answered report-numbers [] ++ drop (length (answered report-numbers [])) o → WroteFrame (encodeAll report-numbers) o o′ r
-  report-framed = framed (encodeAll report-numbers) report-numbers [] o (append-nil (encodeAll report-numbers)) report-fits
+pub report-fits : (w : ℕ) (o : List ℕ) → w < 2 ^ 64 → maxAnswer ≤ length o → Room (encodeAll (0 ∷ w ∷ replicate (reportWords - 1) 0)) o
+unfolding encodeAll
+report-fits w o hw room =
+    let l = frame-fits (encode 0 ++ (encode w ++ encodeAll (replicate (reportWords - 1) 0)))
+    (simp length-append (omega (arith, word 0 (omega arith), word w hw, zeros (reportWords - 1)))) in
+    omega arith
 
 -- ---- a class of a row
 
-wrote-same : {xs ys o o′ : List ℕ} {r : ℕ} → xs ≡ ys → WroteFrame xs o o′ r → WroteFrame ys o o′ r
-wrote-same {o = o} e w = record {
-  size = w .size ∙ ap (λ (l : List ℕ). length (frame l)) e;
-  bytes = w .bytes ∙ ap (λ (l : List ℕ). frame l ++ drop (length (frame l)) o) e;
-}
+module _ (ws bs o : List ℕ) (class k : ℕ) (ns : List ℕ) (e : class ≡ k) (b : classBytes (tokenAt ws bs) k ≡ encodeAll ns) where
+  as-class : encodeAll (0 ∷ ns) ≡ 0 ∷ classBytes (tokenAt ws bs) class
+  as-class = first-byte 0 ns (omega arith) ∙ ap (λ (l : List ℕ). 0 ∷ l) (sym (ap (classBytes (tokenAt ws bs)) e ∙ b))
+
+  pub class-fits-in : Room (0 ∷ classBytes (tokenAt ws bs) class) o → Room (encodeAll (0 ∷ ns)) o
+  class-fits-in h = omega (arith, ap (λ (l : List ℕ). length (frame l)) as-class)
+
+  pub class-wrote : {o′ : List ℕ} {r : ℕ} → WroteFrame (encodeAll (0 ∷ ns)) o o′ r → WroteFrame (0 ∷ classBytes (tokenAt ws bs) class) o o′ r
+  class-wrote w = wrote-same as-class w
 
 module _ (ws bs o : List ℕ) (class : ℕ) where
-  all-groups : class ≡ 2 → encodeAll (0 ∷ groupNumbers ws) ≡ 0 ∷ classBytes (tokenAt ws bs) class
-  all-groups e = first-byte 0 (groupNumbers ws) (omega arith) ∙ ap (λ (l : List ℕ). 0 ∷ l) (sym (group-bytes ws bs class e))
-
-  all-sids : class ≡ 10 → encodeAll (0 ∷ sidNumbers ws) ≡ 0 ∷ classBytes (tokenAt ws bs) class
-  all-sids e = first-byte 0 (sidNumbers ws) (omega arith) ∙ ap (λ (l : List ℕ). 0 ∷ l) (sym (sid-bytes ws bs class e))
-
-  pub groups-fit : class ≡ 2 → Room ws bs class o → length (frame (encodeAll (0 ∷ groupNumbers ws))) ≤ length o
-  groups-fit e h = omega (arith, ap (λ (l : List ℕ). length (frame l)) (all-groups e))
-
-  pub sids-fit : class ≡ 10 → Room ws bs class o → length (frame (encodeAll (0 ∷ sidNumbers ws))) ≤ length o
-  sids-fit e h = omega (arith, ap (λ (l : List ℕ). length (frame l)) (all-sids e))
-
-  module _ {o′ : List ℕ} {r : ℕ} where
-    pub groups-wrote : class ≡ 2 → WroteFrame (encodeAll (0 ∷ groupNumbers ws)) o o′ r → WroteFrame (0 ∷ classBytes (tokenAt ws bs) class) o o′ r
-    groups-wrote e w = wrote-same (all-groups e) w
-
-    pub sids-wrote : class ≡ 10 → WroteFrame (encodeAll (0 ∷ sidNumbers ws)) o o′ r → WroteFrame (0 ∷ classBytes (tokenAt ws bs) class) o o′ r
-    sids-wrote e w = wrote-same (all-sids e) w
-
-module _ (ws bs o : List ℕ) (class : ℕ) (f : Fields) (h : RowListed ws class f) (l : length bs ≡ maxDacl) (room : Room ws bs class o) where
-  abbrev cs : List ℕ
-  cs = take (f .count - 0) (drop 0 (f .fields))
-
-  abbrev ps : List ℕ
-  ps = take (f .plain - 0) (drop 0 bs)
-
-  same-class : encodeAll cs ++ ps ≡ 0 ∷ classBytes (tokenAt ws bs) class
-  same-class = ap₂ (λ (ns ps : List ℕ). encodeAll ns ++ ps) (start (f .count) (f .fields)) (start (f .plain) bs) ∙ class-bytes ws class f h bs l
-
-  pub few-room : length (answered cs ps) ≤ length o
-  few-room = enough (0 ∷ classBytes (tokenAt ws bs) class) cs ps o same-class room
-
-  pub few-framed : (o′ : List ℕ) (r : ℕ) → r ≡ length (answered cs ps) → o′ ≡ answered cs ps ++ drop (length (answered cs ps)) o
+  pub one-wrote : {m : ℕ} {o′ : List ℕ} {r : ℕ} → RowOne ws class m → WroteFrame (encodeAll (0 ∷ m ∷ [])) o o′ r
       → WroteFrame (0 ∷ classBytes (tokenAt ws bs) class) o o′ r
-  few-framed = framed (0 ∷ classBytes (tokenAt ws bs) class) cs ps o same-class room
+  one-wrote {m} h w = wrote-same (with-value 0 m (omega arith) ∙ ap (λ (l : List ℕ). 0 ∷ l) (sym (h .bytes bs))) w
+
+  pub none-wrote : {o′ : List ℕ} {r : ℕ} → not (leb 1 class && leb class 13) ≡ true → WroteFrame (encodeAll (0 ∷ [])) o o′ r
+      → WroteFrame (0 ∷ classBytes (tokenAt ws bs) class) o o′ r
+  unfolding encodeAll
+  none-wrote u w = wrote-same (first-byte 0 [] (omega arith) ∙ ap (λ (l : List ℕ). 0 ∷ l) (sym (no-class ws bs class u))) w
+
+  pub dacl-fits-in : class ≡ 6 → Room (0 ∷ classBytes (tokenAt ws bs) class) o → Room (0 ∷ classBytes (tokenAt ws bs) 6) o
+  dacl-fits-in e h = rw e at h
+
+  pub dacl-wrote : {o′ : List ℕ} {r : ℕ} → class ≡ 6 → WroteFrame (0 ∷ classBytes (tokenAt ws bs) 6) o o′ r
+      → WroteFrame (0 ∷ classBytes (tokenAt ws bs) class) o o′ r
+  dacl-wrote e w = wrote-same (ap (λ (k : ℕ). 0 ∷ classBytes (tokenAt ws bs) k) (sym e)) w
+
+-- the DACL: its count, and then its bytes
+module _ (ws bs o : List ℕ) (n : ℕ) (l : length bs ≡ maxDacl) (c : n ≡ min (getD ws 19 0) maxDacl) (fits : Room (0 ∷ classBytes (tokenAt ws bs) 6) o) where
+  abbrev ps : List ℕ
+  ps = take (n - 0) (drop 0 bs)
+
+  same-dacl : encodeAll (0 ∷ n ∷ []) ++ ps ≡ 0 ∷ classBytes (tokenAt ws bs) 6
+  same-dacl =
+      ap₂ _++_ (with-value 0 n (omega arith)) (start n bs) ∙ ap (λ (l : List ℕ). 0 ∷ l) (dacl-bytes ws bs n l c)
+
+  pub dacl-room : length (answered (0 ∷ n ∷ []) ps) ≤ length o
+  dacl-room = enough (0 ∷ classBytes (tokenAt ws bs) 6) (0 ∷ n ∷ []) ps o same-dacl fits
+
+  pub dacl-framed : (o′ : List ℕ) (r : ℕ) → r ≡ length (answered (0 ∷ n ∷ []) ps) → o′ ≡ answered (0 ∷ n ∷ []) ps ++ drop (length (answered (0 ∷ n ∷ []) ps)) o
+      → WroteFrame (0 ∷ classBytes (tokenAt ws bs) 6) o o′ r
+  dacl-framed = framed (0 ∷ classBytes (tokenAt ws bs) 6) (0 ∷ n ∷ []) ps o same-dacl fits
 
 -- the row in a slot, of words that are below 2^64
 module _ (ts ds o : List ℕ) (slot class : ℕ) (below : (i : ℕ) → getD ts i 0 < 2 ^ 64) where
   pub class-room : tokenValid (tokenIn ts ds slot) ≡ true → maxAnswer ≤ length o
-      → Room (take (slot * tokenWords + tokenWords - slot * tokenWords) (drop (slot * tokenWords) ts)) (take (slot * maxDacl + maxDacl - slot * maxDacl) (drop (slot * maxDacl) ds)) class o
+      → Room (0 ∷ classBytes (tokenAt (take (slot * tokenWords + tokenWords - slot * tokenWords) (drop (slot * tokenWords) ts)) (take (slot * maxDacl + maxDacl - slot * maxDacl) (drop (slot * maxDacl) ds))) class) o
   unfolding tokenAt record-at
   class-room v room =
       let t = tokenIn ts ds slot in
@@ -227,10 +172,6 @@ module _ (ts ds o : List ℕ) (slot class : ℕ) (below : (i : ℕ) → getD ts 
       rw (part-at tokenWords slot ts, part-at maxDacl slot ds) (omega arith)
 
 -- ---- each answer
-
-with-value : (n v : ℕ) → n < 128 → encodeAll (n ∷ v ∷ []) ≡ n ∷ encode v
-unfolding encodeAll
-with-value n v h = first-byte n (v ∷ []) h ∙ ap (λ (l : List ℕ). n ∷ l) (append-nil (encode v))
 
 module _ (ws bs : List ℕ) (a : Answer) (o o′ : List ℕ) (r : ℕ) where
   meant : (x : Answer) (xs : List ℕ) → a ≡ x → WroteFrame xs o o′ r → xs ≡ answerOf ws bs x → WroteFrame (answerOf ws bs a) o o′ r

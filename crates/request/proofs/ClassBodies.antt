@@ -1,16 +1,21 @@
--- A class of a row that is few numbers: each number is the token's. Assumes nothing.
+-- The classes of a row: each number is the token's. Assumes nothing.
 use Prim.Native.Nat.{ℕ, zero, suc, _+_, _-_, _%_, _≤_, _<_, min}
 use native.Mathlib.Omega.{arith}
-use mathlib.Core.Path.{_≡_, refl, sym, ap, _∙_}
-use mathlib.Core.List.{List, [], _∷_, map}
-use lib.ListN.{length, take, drop, getD, length-drop, length-map, List·getD-map, List·getD-eq-default}
+use mathlib.Core.Path.{_≡_, refl, sym, ap, ap₂, _∙_}
+use mathlib.Core.Bool.{true, false, not, _&&_}
+use mathlib.Core.List.{List, [], _∷_, _++_, map}
+use lib.Dec.{leb}
+use lib.ListN.{length, take, drop, getD, length-append, length-drop, length-map, List·getD-map, List·getD-eq-default}
 use lib.Seq.{take-take, getD-take, getD-drop, length-take-le}
-use Rattle.table.specs.Lists.{take-least}
+use borrow.Author.Tests.{leb-true, leb-false, le-leb, not-true, not-false}
+use Rattle.table.specs.Lists.{take-least, named-take}
+use Rattle.rules.specs.Number.{encode, encodeAll}
 use Rattle.rules.specs.Group.{Group, noGroup}
 use Rattle.rules.specs.Token.{sidAt, maxGroups, maxDacl}
-use Rattle.rules.specs.Memory.{word32, headWords, tokenWords, unpack, identityAt, groupsAt, defaultsAt, tokenAt}
-use Rattle.request.specs.Body.{Body, only, bodies, bodyOf, NoList, RowSid, Holds, RowListed}
-use Rattle.request.specs.declared.class.Fields.{Fields}
+use Rattle.rules.specs.Query.{words, classes, classBytes}
+use Rattle.rules.specs.Memory.{word32, headWords, tokenWords, unpack, identityAt, privilegesAt, groupsAt, defaultsAt, tokenAt}
+use Rattle.rules.proofs.Logic.{and-l, and-r}
+use Rattle.request.specs.Body.{privilegeWords, IsOne, RowSid, RowOne, RowCounted}
 
 -- ---- the groups that the row's count leaves
 
@@ -25,6 +30,16 @@ module _ (ws : List ℕ) (n : ℕ) (l : length ws ≡ tokenWords) (e : n ≡ min
   pub groups-counted : length (groupsAt ws) ≡ n
   groups-counted =
       ap length groups-cut ∙ length-map (take n (drop headWords ws)) unpack ∙ length-take-le n (drop headWords ws) (simp length-drop (omega arith))
+
+-- ---- the DACL that the row's count leaves
+
+pub dacl-bytes : (ws bs : List ℕ) (n : ℕ) → length bs ≡ maxDacl → n ≡ min (getD ws 19 0) maxDacl
+    → encode n ++ take n bs ≡ classBytes (tokenAt ws bs) 6
+unfolding classBytes classes tokenAt defaultsAt
+dacl-bytes ws bs n l c =
+    let cut : take n bs ≡ take (getD ws 19 0) bs = ap (λ (k : ℕ). take k bs) c ∙ take-least (getD ws 19 0) maxDacl bs l in
+    let long : length (take (getD ws 19 0) bs) ≡ n = ap length (sym cut) ∙ length-take-le n bs (omega arith) in
+    ap₂ (λ (k : ℕ) (xs : List ℕ). encode k ++ xs) (sym long) cut
 
 -- ---- the SID of an index
 
@@ -65,54 +80,70 @@ pub above : (n k : ℕ) → Apart n k → 1 ≤ k → n < k
 above zero k a h = h
 above (suc n) k a h = let l = above n k (a .0) h in let u = a .1 in omega arith
 
--- k is none of the classes of few numbers
-abbrev pub NotFew : ℕ → Type 0
-NotFew k =
-    (k ≡ 1 → ⊥) × (k ≡ 3 → ⊥) × (k ≡ 4 → ⊥) × (k ≡ 5 → ⊥) × (k ≡ 6 → ⊥) × (k ≡ 7 → ⊥) × (k ≡ 8 → ⊥) × (k ≡ 9 → ⊥) × (k ≡ 11 → ⊥) × (k ≡ 12 → ⊥) × (k ≡ 13 → ⊥)
+-- k is none of the classes of one number but 13
+abbrev pub NotOne : ℕ → Type 0
+NotOne k = (k ≡ 1 → ⊥) × (k ≡ 4 → ⊥) × (k ≡ 5 → ⊥) × (k ≡ 7 → ⊥) × (k ≡ 8 → ⊥) × (k ≡ 11 → ⊥) × (k ≡ 12 → ⊥)
 
-no-class : (k : ℕ) → NoList k → NotFew k → Apart 13 k
-no-class k n (a, b, c, d, e, f, g, h, i, j, l) =
-    (((((((((((((tt, a), n .not-groups), b), c), d), e), f), g), h), n .not-sids), i), j), l)
+last-one : (k : ℕ) → IsOne k → NotOne k → k ≡ 13
+last-one k n (a, b, c, d, e, f, g) =
+    let u : Apart 12 k = ((((((((((((tt, a), n .not-groups), n .not-privileges), b), c), n .not-dacl), d), e), n .not-statistics), n .not-sids), f), g) in
+    let l = above 12 k u (n .low) in
+    let h = n .high in
+    omega arith
 
-module _ (ws : List ℕ) (class : ℕ) (r : Fields) where
-  -- numbers alone
-  pub listed : (k : ℕ) (ns : List ℕ) → class ≡ k → Holds (0 ∷ ns) 0 r → ((bs : List ℕ) → bodyOf (tokenAt ws bs) k ≡ only ns) → RowListed ws class r
-  listed k ns e h b = record {
-    long = h .long;
-    within = h .within;
-    inside = omega arith;
-    body = λ bs l.
-        let same = ap (bodyOf (tokenAt ws bs)) e ∙ b bs in
-        record {
-          front = h .front ∙ ap (λ (x : Body). 0 ∷ x .numbers) (sym same);
-          after = ap (λ (n : ℕ). take n bs) (h .after) ∙ ap (λ (x : Body). x .plain) (sym same);
-        };
-  }
+module _ {ws : List ℕ} {class r : ℕ} where
+  pub one : (k : ℕ) → class ≡ k → ((bs : List ℕ) → classBytes (tokenAt ws bs) k ≡ encode r) → RowOne ws class r
+  one k e b = record { bytes = λ bs. ap (classBytes (tokenAt ws bs)) e ∙ b bs }
 
   -- a SID that was looked up
-  pub listed-sid : (k index m : ℕ) → class ≡ k → Holds (0 ∷ m ∷ []) 0 r → RowSid ws index m
-      → ((bs : List ℕ) → bodyOf (tokenAt ws bs) k ≡ only (sidAt (tokenAt ws bs) index ∷ [])) → RowListed ws class r
-  listed-sid k index m e h q b = listed k (m ∷ []) e h (λ bs. b bs ∙ ap (λ (j : ℕ). only (j ∷ [])) (sym (q .sid bs)))
+  pub one-sid : (k index : ℕ) → class ≡ k → RowSid ws index r → ((bs : List ℕ) → classBytes (tokenAt ws bs) k ≡ encode (sidAt (tokenAt ws bs) index))
+      → RowOne ws class r
+  one-sid k index e q b = one k e (λ bs. b bs ∙ ap encode (sym (q .sid bs)))
 
-  pub listed-none : Holds (0 ∷ []) 0 r → NoList class → NotFew class → RowListed ws class r
-  unfolding bodyOf bodies
-  listed-none h n u = listed class [] refl h (λ bs. none bs class (no-class class n u))
-    where
-      none : (bs : List ℕ) (k : ℕ) → Apart 13 k → bodyOf (tokenAt ws bs) k ≡ only []
-      none bs zero u = refl
-      none bs (suc k) u = List·getD-eq-default (only [] ∷ bodies (tokenAt ws bs)) (only []) (above 13 (suc k) u (omega arith))
+  pub one-last : IsOne class → NotOne class → ((bs : List ℕ) → classBytes (tokenAt ws bs) 13 ≡ encode r) → RowOne ws class r
+  one-last n u b = one 13 (last-one class n u) b
 
-  pub listed-dacl : (n : ℕ) → n ≡ min (getD ws 19 0) maxDacl → class ≡ 6 → Holds (0 ∷ n ∷ []) n r → RowListed ws class r
-  unfolding bodyOf bodies tokenAt defaultsAt
-  listed-dacl n c e h = record {
-    long = h .long;
-    within = h .within;
-    inside = omega arith;
-    body = λ bs l.
-        let cut : take n bs ≡ take (getD ws 19 0) bs = ap (λ (k : ℕ). take k bs) c ∙ take-least (getD ws 19 0) maxDacl bs l in
-        let long : length (take (getD ws 19 0) bs) ≡ n = ap length (sym cut) ∙ length-take-le n bs (omega arith) in
-        record {
-          front = h .front ∙ ap (λ (k : ℕ). 0 ∷ k ∷ []) (sym long) ∙ ap (λ (k : ℕ). 0 ∷ bodyOf (tokenAt ws bs) k .numbers) (sym e);
-          after = ap (λ (k : ℕ). take k bs) (h .after) ∙ cut ∙ ap (λ (k : ℕ). bodyOf (tokenAt ws bs) k .plain) (sym e);
-        };
-  }
+-- ---- how long a class is
+
+module _ {ws : List ℕ} {class r : ℕ} where
+  pub counted-numbers : (k : ℕ) (ns : List ℕ) → class ≡ k → ((bs : List ℕ) → classBytes (tokenAt ws bs) k ≡ encodeAll ns) → r ≡ length (encodeAll ns)
+      → RowCounted ws class r
+  counted-numbers k ns e b h = record { counted = λ bs l. h ∙ ap length (sym (ap (classBytes (tokenAt ws bs)) e ∙ b bs)) }
+
+  pub counted-privileges : length ws ≡ tokenWords → class ≡ 3 → r ≡ length (encodeAll (take (17 - 13) (drop 13 ws))) → RowCounted ws class r
+  unfolding classBytes classes tokenAt privilegesAt words
+  counted-privileges l e h =
+      counted-numbers 3 (privilegeWords ws) e (λ bs. refl)
+      (h ∙ ap (λ (ns : List ℕ). length (encodeAll ns)) (sym (named-take 4 13 ws (omega arith))))
+
+  pub counted-same : class ≡ 6 → RowCounted ws 6 r → RowCounted ws class r
+  counted-same e c = record { counted = λ bs l. c .counted bs l ∙ ap (λ (k : ℕ). length (classBytes (tokenAt ws bs) k)) (sym e) }
+
+  pub counted-one : {m : ℕ} → RowOne ws class m → r ≡ length (encode m) → RowCounted ws class r
+  counted-one o h = record { counted = λ bs l. h ∙ ap length (sym (o .bytes bs)) }
+
+pub counted-dacl : {ws : List ℕ} {n m : ℕ} → n ≡ min (getD ws 19 0) maxDacl → m ≡ length (encode n) → RowCounted ws 6 (m + n)
+counted-dacl {ws} {n} c e = record {
+  counted = λ bs l.
+      let k : length (take n bs) ≡ n = length-take-le n bs (omega arith) in
+      ap (λ (j : ℕ). j + n) e
+      ∙ ap (λ (j : ℕ). length (encode n) + j) (sym k)
+      ∙ sym (length-append (encode n) (take n bs))
+      ∙ ap length (dacl-bytes ws bs n l c);
+}
+
+-- ---- which classes there are
+
+module _ (class : ℕ) where
+  pub known-low : not (leb 1 class && leb class 13) ≡ false → 1 ≤ class
+  known-low h = leb-true 1 class (and-l (leb 1 class) (leb class 13) (not-false (leb 1 class && leb class 13) h))
+
+  pub known-high : not (leb 1 class && leb class 13) ≡ false → class ≤ 13
+  known-high h = leb-true class 13 (and-r (leb 1 class) (leb class 13) (not-false (leb 1 class && leb class 13) h))
+
+pub no-class : (ws bs : List ℕ) (class : ℕ) → not (leb 1 class && leb class 13) ≡ true → classBytes (tokenAt ws bs) class ≡ []
+unfolding classBytes classes
+no-class ws bs zero h = refl
+no-class ws bs (suc k) h =
+    List·getD-eq-default ([] ∷ classes (tokenAt ws bs)) []
+    (leb-false (suc k) 13 (not-true (leb (suc k) 13) (rw (le-leb 1 (suc k) (omega arith)) at h)))

@@ -12,7 +12,7 @@ use Rattle.table.specs.Table.{flat}
 use Rattle.rules.specs.Number.{encode, encodeAll}
 use Rattle.rules.specs.Token.{maxGroups, maxRestricting}
 use Rattle.rules.specs.Query.{pairs}
-use Rattle.rules.specs.Memory.{word32, low32, headWords, tokenWords, unpack, groupsAt, limitsAt}
+use Rattle.rules.specs.Memory.{word32, low32, headWords, tokenWords, unpack, limitsAt}
 use Rattle.request.specs.Body.{maxNumbers, maxSids, groupNumbers, sidNumbers}
 use Rattle.request.proofs.ClassBodies.{groups-cut, groups-counted}
 

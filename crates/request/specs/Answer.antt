@@ -37,9 +37,9 @@ Fit words dacls (answer.Value v) = Unit {0}
 Fit words dacls (answer.Report w) = Unit {0}
 Fit words dacls (answer.Class slot class) = (slot < tokenSlots) × (tokenValid (tokenIn words dacls slot) ≡ true)
 
--- a class of a row fits the buffer
-abbrev pub Room : List ℕ → List ℕ → ℕ → List ℕ → Type 0
-Room ws bs class o = length (frame (0 ∷ classBytes (tokenAt ws bs) class)) ≤ length o
+-- a body's frame fits the buffer
+abbrev pub Room : List ℕ → List ℕ → Type 0
+Room body o = length (frame body) ≤ length o
 
 -- a body's frame stands at the start of the buffer, and the bytes after it are as they were
 pub record WroteFrame (body before after : List ℕ) (r : ℕ) : Type 0 where

@@ -5,14 +5,14 @@ ghost use mathlib.Core.List.{[], _∷_};
 ghost use Prim.Native.Nat.{_*_, _-_, _≤_, _<_};
 ghost use lib.ListN.{length, take, replicate};
 ghost use Rattle.rules.specs.Number.{encodeAll};
-ghost use Rattle.rules.specs.Frame.{frame, maxAnswer};
+ghost use Rattle.rules.specs.Frame.{maxAnswer};
 ghost use Rattle.rules.specs.Token.{maxDacl};
 ghost use Rattle.rules.specs.State.{tokenSlots};
 ghost use Rattle.rules.specs.Memory.{tokenWords, tokenAt};
 ghost use Rattle.rules.specs.Valid.{tokenValid};
 ghost use Rattle.rules.specs.AdjustGroups.{reportWords};
 ghost use Rattle.rules.specs.Query.{classBytes};
-ghost use Rattle.request.specs.Body.{groupNumbers, sidNumbers, NoList};
+ghost use Rattle.request.specs.Body.{groupNumbers, sidNumbers, privilegeWords, statistics};
 ghost use Rattle.request.specs.Answer.{tokenIn, answerOf, Fit, Room, WroteFrame};
 use crate::class;
 use token::MAX_DACL;
@@ -68,19 +68,35 @@ fn put_report(word: u64, out: &mut [u8]) -> usize
 
 // ---- a class of a row
 
-fn put_few(words: &[u64], dacl: &[u8], class: u64, out: &mut [u8]) -> usize
-    requires { ⌜ (length (now words) ≡ tokenWords) × (length (now dacl) ≡ maxDacl) × NoList class × Room (now words) (now dacl) class (now out) ⌝ }
-    ensures { λ r. ⌜ WroteFrame (0 ∷ classBytes (tokenAt (now (words .entry)) (now (dacl .entry))) class) (now (out .entry)) (now (out .exit)) r ⌝ }
+fn put_privileges(words: &[u64], out: &mut [u8]) -> usize
+    requires { ⌜ (length (now words) ≡ tokenWords) × Room (encodeAll (0 ∷ privilegeWords (now words))) (now out) ⌝ }
+    ensures { λ r. ⌜ WroteFrame (encodeAll (0 ∷ privilegeWords (now (words .entry)))) (now (out .entry)) (now (out .exit)) r ⌝ }
 {
-    let f = class::contents(words, class);
-    let n = f.count;
-    let fields = f.fields;
-    let plain = f.plain;
-    number::answer(&fields[0..n], &dacl[0..plain], out)
+    let fields = [0, words[13], words[14], words[15], words[16]];
+    let none = [0u8; 1];
+    number::answer(&fields, &none[0..0], out)
+}
+
+fn put_statistics(words: &[u64], out: &mut [u8]) -> usize
+    requires { ⌜ (length (now words) ≡ tokenWords) × Room (encodeAll (0 ∷ statistics (now words))) (now out) ⌝ }
+    ensures { λ r. ⌜ WroteFrame (encodeAll (0 ∷ statistics (now (words .entry)))) (now (out .entry)) (now (out .exit)) r ⌝ }
+{
+    let fields = [0, words[0], words[2], words[1], words[4] % 256];
+    let none = [0u8; 1];
+    number::answer(&fields, &none[0..0], out)
+}
+
+fn put_dacl(words: &[u64], dacl: &[u8], out: &mut [u8]) -> usize
+    requires { ⌜ (length (now words) ≡ tokenWords) × (length (now dacl) ≡ maxDacl) × Room (0 ∷ classBytes (tokenAt (now words) (now dacl)) 6) (now out) ⌝ }
+    ensures { λ r. ⌜ WroteFrame (0 ∷ classBytes (tokenAt (now (words .entry)) (now (dacl .entry))) 6) (now (out .entry)) (now (out .exit)) r ⌝ }
+{
+    let n = class::count(words, 19, MAX_DACL);
+    let fields = [0, n as u64];
+    number::answer(&fields, &dacl[0..n], out)
 }
 
 fn put_groups(words: &[u64], out: &mut [u8]) -> usize
-    requires { ⌜ (length (now words) ≡ tokenWords) × (length (frame (encodeAll (0 ∷ groupNumbers (now words)))) ≤ length (now out)) ⌝ }
+    requires { ⌜ (length (now words) ≡ tokenWords) × Room (encodeAll (0 ∷ groupNumbers (now words))) (now out) ⌝ }
     ensures { λ r. ⌜ WroteFrame (encodeAll (0 ∷ groupNumbers (now (words .entry)))) (now (out .entry)) (now (out .exit)) r ⌝ }
 {
     let n = class::count(words, 17, MAX_GROUPS);
@@ -99,7 +115,7 @@ fn put_groups(words: &[u64], out: &mut [u8]) -> usize
 }
 
 fn put_sids(words: &[u64], out: &mut [u8]) -> usize
-    requires { ⌜ (length (now words) ≡ tokenWords) × (length (frame (encodeAll (0 ∷ sidNumbers (now words)))) ≤ length (now out)) ⌝ }
+    requires { ⌜ (length (now words) ≡ tokenWords) × Room (encodeAll (0 ∷ sidNumbers (now words))) (now out) ⌝ }
     ensures { λ r. ⌜ WroteFrame (encodeAll (0 ∷ sidNumbers (now (words .entry)))) (now (out .entry)) (now (out .exit)) r ⌝ }
 {
     let n = class::count(words, 18, MAX_RESTRICTING);
@@ -116,13 +132,20 @@ fn put_sids(words: &[u64], out: &mut [u8]) -> usize
 }
 
 fn put_class(words: &[u64], dacl: &[u8], class: u64, out: &mut [u8]) -> usize
-    requires { ⌜ (length (now words) ≡ tokenWords) × (length (now dacl) ≡ maxDacl) × Room (now words) (now dacl) class (now out) ⌝ }
+    requires { ⌜ (length (now words) ≡ tokenWords) × (length (now dacl) ≡ maxDacl) × (maxAnswer ≤ length (now out)) × Room (0 ∷ classBytes (tokenAt (now words) (now dacl)) class) (now out) ⌝ }
     ensures { λ r. ⌜ WroteFrame (0 ∷ classBytes (tokenAt (now (words .entry)) (now (dacl .entry))) class) (now (out .entry)) (now (out .exit)) r ⌝ }
 {
+    let known = (1 <= class) & (class <= 13);
+    if !known {
+        return put(1, 0, 0, out);
+    }
     match class {
         2 => put_groups(words, out),
+        3 => put_privileges(words, out),
+        6 => put_dacl(words, dacl, out),
+        9 => put_statistics(words, out),
         10 => put_sids(words, out),
-        _ => put_few(words, dacl, class, out),
+        _ => put(2, 0, class::one(words, class), out),
     }
 }
 

@@ -1,34 +1,15 @@
-// Request 4: what a query answers of a token's row, for each class, and how long that is. Classes 2 and 10 are lists; the others are few numbers.
+// Request 4: what a query answers of a token's row, and how long that is. Most classes are one number.
 ghost use mathlib.Core.Path.{_≡_};
-ghost use mathlib.Core.List.{[], _∷_};
 ghost use Prim.Native.Nat.{_≤_, _<_, min};
-ghost use lib.ListN.{length, take, getD};
+ghost use lib.ListN.{length, getD};
 ghost use Rattle.rules.specs.Number.{encodeAll};
 ghost use Rattle.rules.specs.Memory.{tokenWords};
-ghost use Rattle.request.specs.Body.{fewNumbers, groupNumbers, sidNumbers, NoList, RowSid, RowCounted, Holds, RowListed};
+ghost use Rattle.request.specs.Body.{groupNumbers, sidNumbers, statistics, IsOne, RowSid, RowOne, RowCounted};
 use token::MAX_DACL;
 use token::MAX_GROUPS;
 use token::MAX_RESTRICTING;
 use token::row::GROUPS_END;
 use token::row::HEAD_WORDS;
-
-// The status and at most four numbers, and how many bytes of the token's DACL follow.
-pub struct Fields {
-    pub count: usize,
-    pub fields: [u64; 5],
-    pub plain: usize,
-}
-
-fn few(count: usize, fields: [u64; 5]) -> Fields
-    requires { ⌜ count ≤ fewNumbers ⌝ }
-    ensures { λ r. ⌜ Holds (take count fields) 0 r ⌝ }
-{
-    Fields {
-        count,
-        fields,
-        plain: 0,
-    }
-}
 
 // A count of the row, cut to its list's size.
 pub fn count(words: &[u64], at: usize, most: usize) -> usize
@@ -55,46 +36,24 @@ fn sid_at(words: &[u64], index: u64) -> u64
     words[HEAD_WORDS - 1 + at] % 4294967296
 }
 
-fn dacl(n: usize) -> Fields
-    ensures { λ r. ⌜ Holds (0 ∷ n ∷ []) n r ⌝ }
-{
-    let mut f = few(2, [0, n as u64, 0, 0, 0]);
-    f.plain = n;
-    f
-}
-
-// A success and the numbers of a class that is no list; no class is below 1 or above 13.
-pub fn contents(words: &[u64], class: u64) -> Fields
-    requires { ⌜ (length (now words) ≡ tokenWords) × NoList class ⌝ }
-    ensures { λ r. ⌜ RowListed (now (words .entry)) class r ⌝ }
+// The number of a class that is one.
+pub fn one(words: &[u64], class: u64) -> u64
+    requires { ⌜ (length (now words) ≡ tokenWords) × IsOne class ⌝ }
+    ensures { λ r. ⌜ RowOne (now (words .entry)) class r ⌝ }
 {
     match class {
-        1 => few(2, [0, words[3] % 4294967296, 0, 0, 0]),
-        3 => few(5, [0, words[13], words[14], words[15], words[16]]),
-        4 => few(2, [0, sid_at(words, words[9] % 4294967296), 0, 0, 0]),
-        5 => few(2, [0, sid_at(words, words[10] % 4294967296), 0, 0, 0]),
-        6 => dacl(count(words, 19, MAX_DACL)),
-        7 => few(2, [0, words[4] % 256, 0, 0, 0]),
-        8 => few(2, [0, words[5] % 256, 0, 0, 0]),
-        9 => few(5, [0, words[0], words[2], words[1], words[4] % 256]),
-        11 => few(2, [0, words[11] % 4294967296, 0, 0, 0]),
-        12 => few(2, [0, words[6] % 256, 0, 0, 0]),
-        13 => few(2, [0, words[12] % 4294967296, 0, 0, 0]),
-        _ => few(1, [0, 0, 0, 0, 0]),
+        1 => words[3] % 4294967296,
+        4 => sid_at(words, words[9] % 4294967296),
+        5 => sid_at(words, words[10] % 4294967296),
+        7 => words[4] % 256,
+        8 => words[5] % 256,
+        11 => words[11] % 4294967296,
+        12 => words[6] % 256,
+        _ => words[12] % 4294967296,
     }
 }
 
 // ---- how many bytes follow the status
-
-fn few_size(words: &[u64], class: u64) -> usize
-    requires { ⌜ (length (now words) ≡ tokenWords) × NoList class ⌝ }
-    ensures { λ r. ⌜ RowCounted (now (words .entry)) class r ⌝ }
-{
-    let f = contents(words, class);
-    let n = f.count;
-    let fields = f.fields;
-    number::sizes(&fields[0..n]) - 1 + f.plain
-}
 
 fn groups_size(words: &[u64]) -> usize
     requires { ⌜ length (now words) ≡ tokenWords ⌝ }
@@ -125,13 +84,32 @@ fn sids_size(words: &[u64]) -> usize
     sum
 }
 
-pub fn size(words: &[u64], class: u64) -> usize
+fn dacl_size(words: &[u64]) -> usize
     requires { ⌜ length (now words) ≡ tokenWords ⌝ }
+    ensures { λ r. ⌜ RowCounted (now (words .entry)) 6 r ⌝ }
+{
+    let n = count(words, 19, MAX_DACL);
+    number::size(n as u64) + n
+}
+
+fn statistics_size(words: &[u64]) -> usize
+    requires { ⌜ length (now words) ≡ tokenWords ⌝ }
+    ensures { λ r. ⌜ r ≡ length (encodeAll (statistics (now (words .entry)))) ⌝ }
+{
+    let fields = [words[0], words[2], words[1], words[4] % 256];
+    number::sizes(&fields)
+}
+
+pub fn size(words: &[u64], class: u64) -> usize
+    requires { ⌜ (length (now words) ≡ tokenWords) × (1 ≤ class) × (class ≤ 13) ⌝ }
     ensures { λ r. ⌜ RowCounted (now (words .entry)) class r ⌝ }
 {
     match class {
         2 => groups_size(words),
+        3 => number::sizes(&words[13..17]),
+        6 => dacl_size(words),
+        9 => statistics_size(words),
         10 => sids_size(words),
-        _ => few_size(words, class),
+        _ => number::size(one(words, class)),
     }
 }

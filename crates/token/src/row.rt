@@ -73,7 +73,7 @@ fn defaults_in(words: &[u64]) -> Defaults
 }
 
 // A count, cut to its list's size.
-fn count_in(words: &[u64], at: usize, size: usize) -> usize
+pub fn count_in(words: &[u64], at: usize, size: usize) -> usize
     requires { ⌜ at < length (now words) ⌝ }
     ensures { λ r. ⌜ r ≡ min (getD (now (words .entry)) at 0) size ⌝ }
 {

@@ -1,6 +1,6 @@
 -- Sixteen words, of which the first is given. Assumes nothing.
 use borrow.Author.Needs.{needs}
-use Rattle.request.proofs.Answers.{report-room, report-framed}
+use Rattle.request.proofs.Answers.{report-fits, whole-room, whole-framed}
 use Rattle.request.proofs.answer.put_report.Statement.{statement}
 use Rattle.request.proofs.answer.put_report.Tie as tie
 
@@ -13,6 +13,6 @@ put-report-spec =
     (λ c. search needs)
     (λ c. search needs)
     (λ c. search needs)
-    (λ c κs. search (needs, report-room))
+    (λ c κs. search (needs, whole-room, report-fits))
     (λ c. search needs)
-    (λ c. search (needs, report-framed)))
+    (λ c. search (needs, whole-framed, report-fits)))

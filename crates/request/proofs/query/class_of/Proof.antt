@@ -1,5 +1,6 @@
 -- A law for each answer. Assumes nothing.
 use borrow.Author.Needs.{needs}
+use Rattle.request.proofs.ClassBodies.{known-low, known-high}
 use Rattle.request.proofs.Querying.{class-unknown, class-missing, class-above, class-given}
 use Rattle.request.proofs.query.class_of.Statement.{statement}
 use Rattle.request.proofs.query.class_of.Tie as tie
@@ -17,6 +18,6 @@ class-of-spec =
     (λ c. search needs)
     (λ c. search needs)
     (λ c. search needs)
-    (λ c κs. search needs)
+    (λ c κs. search (needs, known-low, known-high))
     (λ c. search (needs, class-above))
     (λ c. search (needs, class-given)))
