@@ -215,7 +215,7 @@ module _ (user : ℕ) (s : List ℕ) (at count : ℕ) where
             (sym (folded-stays user (times (left - 1) group (drop q s))) ∙ stepped bad (rw (test, not-true (ltb n maxGroups && v) t)))
 
         module _ (t : not (ltb n maxGroups && v) ≡ false) where
-          pub below : n < maxGroups
+          below : n < maxGroups
           below = ltb-true n maxGroups (and-l (ltb n maxGroups) v (not-false (ltb n maxGroups && v) t))
 
           pub place-in : headWords + n < length ws
