@@ -8,7 +8,7 @@ use lib.Dec.{eqb, leb, ltb}
 use lib.ListN.{length, take, drop, getD, length-append, length-take, length-drop, drop-of-length-le}
 use borrow.Author.Tests.{lt-ltb, le-ltb, eq-eqb, ne-eqb}
 use Rattle.rules.specs.Basic.{if_then_else_}
-use Rattle.rules.specs.Frame.{maxBody, Length, unread, invalid, size, secondOf, lengthOf, part, framedBy, framed}
+use Rattle.rules.specs.Frame.{maxBody, Length, unread, invalid, size, secondOf, lengthOf, framedBy, framed}
 use Rattle.stream.specs.declared.Framed.the-variants as code
 use Rattle.stream.specs.declared.frame.Length as declared
 use Rattle.stream.specs.declared.frame.Length.the-variants as len

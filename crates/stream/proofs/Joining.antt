@@ -6,7 +6,7 @@ use native.Mathlib.Omega.{arith}
 use mathlib.Core.Path.{_≡_, refl, sym, ap, ap₂, subst, _∙_}
 use mathlib.Core.List.{List, [], _∷_, _++_, append-nil, append-assoc}
 use lib.ListN.{length, take, drop, getD, set, replicate, length-append, length-take, length-drop, length-replicate, length-set, take-append-drop, drop-of-length-le}
-use lib.Seq.{append-snoc, take-suc-set, drop-set-lt, drop-cons, drop-drop, length-take-le, take-all, paste, take-paste, drop-paste, length-paste}
+use lib.Seq.{append-snoc, take-suc-set, drop-set-lt, drop-cons, drop-drop, length-take-le, take-all, take-paste, drop-paste, length-paste}
 use Rattle.rules.specs.Frame as Frame
 use Rattle.rules.specs.Valid.{isPart}
 use Rattle.rules.specs.Memory.{pendingBytes}
