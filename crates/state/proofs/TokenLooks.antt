@@ -26,7 +26,7 @@ use Rattle.token.specs.declared.Token.{Token}
 use Rattle.state.specs.Parts.{TokensIn}
 use Rattle.state.specs.StationFacts.{CallerNumber}
 use Rattle.state.proofs.FormedLaws.{valid-formed, tokens-back}
-use Rattle.state.specs.TokenCalls.{FoundAt, TokenGiven, TokenLoaded, CallerGiven, NextToken, CanAdd}
+use Rattle.state.specs.TokenCalls.{FoundAt, TokenGiven, TokenLoaded, NextToken, CanAdd}
 use Rattle.state.proofs.Slots.{some-free, found-live, live-or}
 
 -- ---- the slots that the rows stand for
@@ -71,12 +71,6 @@ token-missing {r} {ts} {ds} l q z = record {
 
 pub token-given : {n r : ℕ} {ts ds : List ℕ} {t : Token} → FoundAt n ts r → TokenLoaded r ts ds t → TokenGiven n ts ds t
 token-given {n} e k = k .given n e
-
--- ---- a station's token
-
-pub caller-given : {s n : ℕ} {ts ds ss : List ℕ} {t : Token} → CallerNumber s ss n → TokenGiven n ts ds t → CallerGiven s ts ds ss t
-unfolding caller
-caller-given c g = record { sized = g .sized; token = λ σ v i j. g .token σ v i ∙ ap (State.tokenOf σ) (c .number σ j) }
 
 -- ---- the next number, and room for a token
 
