@@ -3,7 +3,7 @@ use Prim.Native.Nat.{ℕ, _+_, _*_, _-_, _<_}
 use native.Mathlib.Omega.{arith}
 use mathlib.Core.Path.{_≡_, refl, sym, ap, _∙_}
 use mathlib.Core.Bool.{Bool, true, false, not, _&&_, _||_}
-use mathlib.Core.List.{List, []}
+use mathlib.Core.List.{List}
 use lib.Dec.{eqb, leb}
 use lib.ListN.{length, take, drop, set, replicate, length-set}
 use borrow.Author.Tests.{eq-eqb, ne-eqb, not-true}
@@ -26,11 +26,11 @@ use Rattle.rules.proofs.Logic.{and-l, and-r}
 use Rattle.handle.specs.Meaning.{handleOf}
 use Rattle.handle.specs.declared.Handle.{Handle}
 use Rattle.privilege.specs.declared.privileges.Privileges.{Privileges}
-use Rattle.token.specs.Meaning.{tokenOf, identityOf}
+use Rattle.token.specs.Meaning.{tokenOf}
 use Rattle.token.specs.Row.{privilegesIn}
 use Rattle.token.specs.declared.Identity.{Identity}
 use Rattle.token.specs.declared.Token.{Token}
-use Rattle.state.specs.TokenCalls.{FoundAt, IdentityAt, NextToken}
+use Rattle.state.specs.TokenCalls.{IdentityAt, NextToken}
 use Rattle.state.specs.ReleaseFacts.{PartsIn}
 use Rattle.state.proofs.InPlace.{lent, in-slot}
 use Rattle.request.specs.declared.answer.Answer.the-variants as answers

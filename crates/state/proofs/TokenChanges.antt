@@ -8,12 +8,12 @@ use lib.ListN.{set}
 use lib.Seq.{set-out}
 use Rattle.table.specs.Table.{flat, put-record}
 use Rattle.rules.specs.Token.{maxDacl}
-use Rattle.rules.specs.Table.{live, added, withSlots}
-use Rattle.rules.specs.State.{State, tokenSlots, isNumbered, withTokens, putToken, addToken}
-use Rattle.rules.specs.Index.{freeIndex, foundIndex}
+use Rattle.rules.specs.Table.{live, added}
+use Rattle.rules.specs.State.{State, tokenSlots, withTokens, addToken}
+use Rattle.rules.specs.Index.{freeIndex}
 use Rattle.rules.specs.Valid.{valid}
 use Rattle.rules.specs.Memory.{tokenWords, tokenRow, daclRow, slotRow, slotDacl}
-use Rattle.rules.proofs.Index.{placed-set, exchanged-set}
+use Rattle.rules.proofs.Index.{placed-set}
 use Rattle.token.specs.Meaning.{tokenOf}
 use Rattle.token.specs.declared.Token.{Token}
 use Rattle.token.proofs.Laws.{put-words, put-dacls}

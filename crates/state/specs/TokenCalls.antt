@@ -9,7 +9,7 @@ use Rattle.rules.specs.Number.{max64}
 use Rattle.rules.specs.Token as Rules
 use Rattle.rules.specs.Table.{Slot, live}
 use Rattle.rules.specs.State as State
-use Rattle.rules.specs.State.{State, tokenSlots, isNumbered, caller, held, putToken, changeToken, used, canAddToken, addToken}
+use Rattle.rules.specs.State.{State, tokenSlots, isNumbered, held, changeToken, used, canAddToken, addToken}
 use Rattle.rules.specs.Index.{foundIndex}
 use Rattle.rules.specs.Valid.{valid}
 use Rattle.rules.specs.Privileges.{markUsed}
