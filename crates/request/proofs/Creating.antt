@@ -20,6 +20,9 @@ use Rattle.rules.specs.Memory.{headWords, tokenWords, pack}
 use Rattle.rules.specs.Request.{follow, _>>=_, give, times, u32, entry, group}
 use Rattle.rules.specs.Create.{givable, validPair, entered}
 use Rattle.rules.proofs.Logic.{and-l}
+use Rattle.token.specs.declared.Group as Code
+use Rattle.token.specs.Meaning.{groupOf}
+use Rattle.token.specs.Row.{wordOf}
 use Rattle.token.specs.NewRow.{headless}
 use Rattle.token.proofs.NewRow.{length-headless, no-groups, one-group}
 use Rattle.request.specs.declared.entry.Pair.{Pair}
@@ -215,7 +218,7 @@ module _ (user : ℕ) (s : List ℕ) (at count : ℕ) where
             (sym (folded-stays user (times (left - 1) group (drop q s))) ∙ stepped bad (rw (test, not-true (ltb n maxGroups && v) t)))
 
         module _ (t : not (ltb n maxGroups && v) ≡ false) where
-          pub below : n < maxGroups
+          below : n < maxGroups
           below = ltb-true n maxGroups (and-l (ltb n maxGroups) v (not-false (ltb n maxGroups && v) t))
 
           pub place-in : headWords + n < length ws
@@ -233,3 +236,8 @@ module _ (user : ℕ) (s : List ℕ) (at count : ℕ) where
             room = omega (arith, below);
             rest = stepped (got (i .groups ++ (entered one ∷ [])) []) (rw (test, not-false (ltb n maxGroups && v) t));
           }
+
+-- the word of a group that is entered
+pub entered-packed : (g e : Code.Group) {w : ℕ} → groupOf e ≡ entered (groupOf g) → w ≡ wordOf e → w ≡ pack (entered (groupOf g))
+unfolding pack
+entered-packed g e q r = r ∙ ap pack q

@@ -22,7 +22,6 @@ pub mod Folding
 pub mod Creating
 pub mod Restricting
 pub mod Bytes
-pub mod Changing
 pub mod AdjustsPrivileges
 pub mod AdjustsGroups
 pub mod Defaulting

@@ -3,15 +3,15 @@ use Prim.Native.Nat.{ℕ, _+_, _-_, _≤_, _<_}
 use native.Mathlib.Omega.{arith}
 use mathlib.Core.Path.{_≡_, refl, sym, ap, ap₂, _∙_, subst}
 use mathlib.Core.Bool.{Bool, true, false, not, _&&_, and-assoc}
-use mathlib.Core.List.{List, [], _++_, append-nil}
+use mathlib.Core.List.{List, [], append-nil}
 use lib.Dec.{leb}
-use lib.ListN.{length, take, drop}
+use lib.ListN.{length, drop}
 use lib.Seq.{length-take-le}
 use borrow.Author.Tests.{not-true, not-false, le-leb, lt-leb}
 use Rattle.rules.specs.Basic.{all, distinct}
 use Rattle.rules.specs.Bits.{within}
 use Rattle.rules.specs.Mask as Mask
-use Rattle.rules.specs.Refusal.{badField, tableFull}
+use Rattle.rules.specs.Refusal.{badField}
 use Rattle.rules.specs.Privileges.{existing}
 use Rattle.rules.specs.Handle as rules-handle
 use Rattle.rules.specs.Token as rules
@@ -23,7 +23,7 @@ use Rattle.rules.specs.Decision.{Decision, carriedOut, canIssue}
 use Rattle.rules.specs.Restrict.{isBelow, validRestrict, deniedAll, limited, restricted, restrict}
 use Rattle.rules.proofs.Logic.{and-r, not-both}
 use Rattle.handle.specs.declared.Handle.{Handle}
-use Rattle.token.specs.Meaning.{tokenOf, Sized}
+use Rattle.token.specs.Meaning.{tokenOf}
 use Rattle.token.specs.declared.Token.{Token}
 use Rattle.state.specs.TokenCalls.{NextToken}
 use Rattle.request.specs.declared.answer.Answer.the-variants as answers
@@ -31,7 +31,7 @@ use Rattle.request.specs.declared.outcome.Outcome.{Outcome}
 use Rattle.request.specs.declared.restrict.Denied.{Denied}
 use Rattle.request.specs.declared.restricted.Copy.{Copy}
 use Rattle.request.specs.declared.subject.Subject.{Subject}
-use Rattle.request.specs.Carried.{Ends, Carried}
+use Rattle.request.specs.Carried.{Ends}
 use Rattle.request.specs.Subject.{SubjectGiven}
 use Rattle.request.specs.Issue.{issuedIf, IssuedIfRoom}
 use Rattle.request.specs.Restricting.{GroupsDenied, withSids, SidsAdded}

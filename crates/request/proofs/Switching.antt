@@ -172,7 +172,7 @@ module _ {s : List ℕ} {start count : ℕ} {gw₀ gw : List ℕ} {at left : ℕ
   making-done h = ended (fold-end entry step gw s at left gw _ (m .rest gw) h)
 
   module _ (h : 0 < left) (r : Pair) (f : PairAt s at r) where
-    -- nobody asks for it
+    -- of entries that were all read before, none is lost
     pub making-lost : r ≡ pair.Bad → EntriesMade count (drop start s) gw₀ gw
     making-lost g = ended (fold-lost entry step gw s at left gw _ (m .rest gw) h (is-none s at r f g))
 

@@ -18,6 +18,7 @@ use crate::class;
 use token::MAX_DACL;
 use token::MAX_GROUPS;
 use token::MAX_RESTRICTING;
+use token::row;
 use token::row::GROUPS_END;
 use token::row::HEAD_WORDS;
 use token::row::TOKEN_WORDS;
@@ -90,7 +91,7 @@ fn put_dacl(words: &[u64], dacl: &[u8], out: &mut [u8]) -> usize
     requires { ⌜ (length (now words) ≡ tokenWords) × (length (now dacl) ≡ maxDacl) × Room (0 ∷ classBytes (tokenAt (now words) (now dacl)) 6) (now out) ⌝ }
     ensures { λ r. ⌜ WroteFrame (0 ∷ classBytes (tokenAt (now (words .entry)) (now (dacl .entry))) 6) (now (out .entry)) (now (out .exit)) r ⌝ }
 {
-    let n = class::count(words, 19, MAX_DACL);
+    let n = row::count_in(words, 19, MAX_DACL);
     let fields = [0, n as u64];
     number::answer(&fields, &dacl[0..n], out)
 }
@@ -99,7 +100,7 @@ fn put_groups(words: &[u64], out: &mut [u8]) -> usize
     requires { ⌜ (length (now words) ≡ tokenWords) × Room (encodeAll (0 ∷ groupNumbers (now words))) (now out) ⌝ }
     ensures { λ r. ⌜ WroteFrame (encodeAll (0 ∷ groupNumbers (now (words .entry)))) (now (out .entry)) (now (out .exit)) r ⌝ }
 {
-    let n = class::count(words, 17, MAX_GROUPS);
+    let n = row::count_in(words, 17, MAX_GROUPS);
     let mut fields = [0u64; MAX_NUMBERS];
     fields[1] = n as u64;
     let mut i: usize = 0;
@@ -118,7 +119,7 @@ fn put_sids(words: &[u64], out: &mut [u8]) -> usize
     requires { ⌜ (length (now words) ≡ tokenWords) × Room (encodeAll (0 ∷ sidNumbers (now words))) (now out) ⌝ }
     ensures { λ r. ⌜ WroteFrame (encodeAll (0 ∷ sidNumbers (now (words .entry)))) (now (out .entry)) (now (out .exit)) r ⌝ }
 {
-    let n = class::count(words, 18, MAX_RESTRICTING);
+    let n = row::count_in(words, 18, MAX_RESTRICTING);
     let mut fields = [0u64; MAX_SIDS];
     fields[1] = n as u64;
     let mut i: usize = 0;

@@ -1,25 +1,16 @@
 // Request 4: what a query answers of a token's row, and how long that is. Most classes are one number.
 ghost use mathlib.Core.Path.{_≡_};
-ghost use Prim.Native.Nat.{_≤_, _<_, min};
-ghost use lib.ListN.{length, getD};
+ghost use Prim.Native.Nat.{_≤_, _<_};
+ghost use lib.ListN.{length};
 ghost use Rattle.rules.specs.Number.{encodeAll};
 ghost use Rattle.rules.specs.Memory.{tokenWords};
 ghost use Rattle.request.specs.Body.{groupNumbers, sidNumbers, statistics, IsOne, RowSid, RowOne, RowCounted};
 use token::MAX_DACL;
 use token::MAX_GROUPS;
 use token::MAX_RESTRICTING;
+use token::row;
 use token::row::GROUPS_END;
 use token::row::HEAD_WORDS;
-
-// A count of the row, cut to its list's size.
-pub fn count(words: &[u64], at: usize, most: usize) -> usize
-    requires { ⌜ at < length (now words) ⌝ }
-    ensures { λ r. ⌜ r ≡ min (getD (now (words .entry)) at 0) most ⌝ }
-{
-    let n = words[at];
-    let limit = most as u64;
-    if n < limit { n as usize } else { most }
-}
 
 // A SID's index is 0 for the user, k for group k - 1.
 fn sid_at(words: &[u64], index: u64) -> u64
@@ -30,7 +21,7 @@ fn sid_at(words: &[u64], index: u64) -> u64
     if at == 0 {
         return words[3] % 4294967296;
     }
-    if count(words, 17, MAX_GROUPS) < at {
+    if row::count_in(words, 17, MAX_GROUPS) < at {
         return 0;
     }
     words[HEAD_WORDS - 1 + at] % 4294967296
@@ -59,7 +50,7 @@ fn groups_size(words: &[u64]) -> usize
     requires { ⌜ length (now words) ≡ tokenWords ⌝ }
     ensures { λ r. ⌜ r ≡ length (encodeAll (groupNumbers (now (words .entry)))) ⌝ }
 {
-    let n = count(words, 17, MAX_GROUPS);
+    let n = row::count_in(words, 17, MAX_GROUPS);
     let mut sum = number::size(n as u64);
     let mut i: usize = 0;
     while i < n {
@@ -74,7 +65,7 @@ fn sids_size(words: &[u64]) -> usize
     requires { ⌜ length (now words) ≡ tokenWords ⌝ }
     ensures { λ r. ⌜ r ≡ length (encodeAll (sidNumbers (now (words .entry)))) ⌝ }
 {
-    let n = count(words, 18, MAX_RESTRICTING);
+    let n = row::count_in(words, 18, MAX_RESTRICTING);
     let mut sum = number::size(n as u64);
     let mut i: usize = 0;
     while i < n {
@@ -88,7 +79,7 @@ fn dacl_size(words: &[u64]) -> usize
     requires { ⌜ length (now words) ≡ tokenWords ⌝ }
     ensures { λ r. ⌜ RowCounted (now (words .entry)) 6 r ⌝ }
 {
-    let n = count(words, 19, MAX_DACL);
+    let n = row::count_in(words, 19, MAX_DACL);
     number::size(n as u64) + n
 }
 

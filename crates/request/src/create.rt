@@ -49,10 +49,7 @@ fn entered(g: Group) -> Group
 fn entered_word(g: Group) -> u64
     ensures { λ r. ⌜ r ≡ pack (entered (groupOf g)) ⌝ }
 {
-    let e = entered(g);
-    let sid = e.sid as u64;
-    let attributes = e.attributes as u64;
-    sid + attributes * 4294967296
+    token::words::pack(entered(g))
 }
 
 // The count pairs that stand at a place of a body, entered in a row of zeros until one is bad or past the last place.

@@ -5,14 +5,14 @@ use native.Mathlib.Omega.{arith}
 use mathlib.Core.Path.{_≡_, refl, sym, ap, _∙_}
 use mathlib.Core.Bool.{true}
 use mathlib.Core.List.{List, _++_}
-use lib.ListN.{length, take, drop, getD, set, take-append-drop, List·getD-eq-default}
+use lib.ListN.{take, drop, getD, set, take-append-drop, List·getD-eq-default}
 use lib.Seq.{set-out}
 use borrow.Author.Tests.{eqb-true}
 use Rattle.table.specs.Lists.{pad}
 use Rattle.table.specs.Table.{flat, record-at, put-record, record-flat, part-at, put-lent}
 use Rattle.rules.specs.Token as Rules
 use Rattle.rules.specs.Token.{maxDacl}
-use Rattle.rules.specs.Table.{Slot, free, live, orElse, found, withSlots}
+use Rattle.rules.specs.Table.{free, live, orElse, found, withSlots}
 use Rattle.rules.specs.State as State
 use Rattle.rules.specs.State.{State, tokenSlots, noToken, isNumbered, withTokens, putToken, changeToken}
 use Rattle.rules.specs.Index.{foundIndex}

@@ -1,5 +1,5 @@
 // Tests by how often a number stands in a list. Numbers given are distinct where each stands among them once; and then all of another
-// list are among them where they stand in it, in all, as often as it is long. Handles' numbers are shorter, and more are compared at a time.
+// list are among them where they stand in it, in all, as often as it is long. Handles' numbers have 32 bits, so that more of them are compared at a time.
 ghost use mathlib.Core.Path.{_≡_};
 ghost use Prim.Native.Nat.{_≤_};
 ghost use lib.ListN.{length};

@@ -1,5 +1,4 @@
 -- A law for each end. Assumes nothing.
-use native.Mathlib.Omega.{arith}
 use borrow.Author.Needs.{needs}
 use Rattle.request.proofs.AdjustsGroups.{no-handle, adjusts}
 use Rattle.request.proofs.adjust_groups.adjust_groups.Statement.{statement}

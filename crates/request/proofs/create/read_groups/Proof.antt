@@ -4,7 +4,7 @@ use native.Mathlib.Omega.{arith}
 use mathlib.Core.Path.{_≡_, ap}
 use lib.ListN.{length}
 use Rattle.rules.specs.Memory.{tokenWords}
-use Rattle.request.proofs.Creating.{key-narrow, value-narrow, Entering, none-entered, all-read, one-missing, one-bad, below, place-in, one-entered}
+use Rattle.request.proofs.Creating.{key-narrow, value-narrow, Entering, none-entered, all-read, one-missing, one-bad, place-in, one-entered}
 use Rattle.request.proofs.create.read_groups.Statement.{statement}
 use Rattle.request.proofs.create.read_groups.Tie as tie
 
@@ -30,10 +30,10 @@ read-groups-spec =
     (λ c. omega arith)
     (λ c. search (needs, one-bad))
     (λ c κs. search needs)
-    (λ c. search (needs, below))
-    (λ c. search (needs, below))
+    (λ c. search needs)
+    (λ c. search needs)
     (λ c. search (needs, place-in))
-    (λ c. search (needs, below))
+    (λ c. search needs)
     (λ c. search needs)
     (λ c. search needs)
     (λ c. search (needs, one-entered))
