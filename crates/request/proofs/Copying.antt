@@ -1,41 +1,54 @@
 -- Requests 9 and 10: a copy of the token that a handle is on. Assumes nothing.
-use Prim.Native.Nat.{ℕ, _≤_}
+use Prim.Native.Nat.{ℕ, _+_, _*_, _-_, _<_}
 use native.Mathlib.Omega.{arith}
-use mathlib.Core.Path.{_≡_, sym, ap, _∙_}
-use mathlib.Core.Bool.{Bool, true, false, not, _&&_}
+use mathlib.Core.Path.{_≡_, refl, sym, ap, _∙_}
+use mathlib.Core.Bool.{Bool, true, false, not, _&&_, _||_}
 use mathlib.Core.List.{List, []}
 use lib.Dec.{eqb, leb}
-use borrow.Author.Tests.{eq-eqb, ne-eqb, leb-true, not-true, not-false}
+use lib.ListN.{length, take, drop, set, replicate, length-set}
+use borrow.Author.Tests.{eq-eqb, ne-eqb, not-true}
+use Rattle.table.specs.Lists.{pad}
+use Rattle.table.specs.Table.{record-at, part-at}
+use Rattle.rules.specs.Bits.{within}
 use Rattle.rules.specs.Mask as Mask
 use Rattle.rules.specs.Privileges.{onlyUsed}
-use Rattle.rules.specs.Refusal.{badField}
+use Rattle.rules.specs.Refusal.{badField, tableFull}
 use Rattle.rules.specs.Token as rules
+use Rattle.rules.specs.Token.{maxDacl, newToken, noLimits, noDefaults}
 use Rattle.rules.specs.Handle as rules-handle
-use Rattle.rules.specs.State.{State}
-use Rattle.rules.specs.Valid.{valid}
-use Rattle.rules.specs.Decision.{Decision, carriedOut, withHandle, canIssue}
-use Rattle.rules.specs.Duplicate.{copied, nobody, anonymousCopy, duplicated, validDuplicate, duplicate}
+use Rattle.rules.specs.State as state
+use Rattle.rules.specs.State.{State, tokenSlots}
+use Rattle.rules.specs.Valid.{valid, tokenValid}
+use Rattle.rules.specs.Memory.{tokenWords, mark, head, tokenRow, daclRow}
+use Rattle.rules.specs.Decision.{Decision, carriedOut, need_else_then_, withHandle, canIssue, issued}
+use Rattle.rules.specs.Duplicate.{retyped, copied, nobody, anonymousCopy, duplicated, validLevel, validDuplicate, duplicate}
 use Rattle.rules.proofs.Logic.{and-l, and-r}
 use Rattle.handle.specs.Meaning.{handleOf}
 use Rattle.handle.specs.declared.Handle.{Handle}
-use Rattle.privilege.specs.Meaning.{privilegesOf}
 use Rattle.privilege.specs.declared.privileges.Privileges.{Privileges}
-use Rattle.token.specs.Meaning.{tokenOf}
+use Rattle.token.specs.Meaning.{tokenOf, identityOf}
+use Rattle.token.specs.Row.{privilegesIn}
+use Rattle.token.specs.declared.Identity.{Identity}
 use Rattle.token.specs.declared.Token.{Token}
-use Rattle.state.specs.TokenCalls.{NextToken}
+use Rattle.state.specs.TokenCalls.{FoundAt, IdentityAt, NextToken}
 use Rattle.state.specs.ReleaseFacts.{PartsIn}
+use Rattle.state.proofs.InPlace.{lent, in-slot}
 use Rattle.request.specs.declared.answer.Answer.the-variants as answers
+use Rattle.request.specs.declared.located.Located.{Located}
 use Rattle.request.specs.declared.subject.Subject.{Subject}
 use Rattle.request.specs.declared.outcome.Outcome.{Outcome}
 use Rattle.request.specs.Carried.{Ends, Carried}
+use Rattle.request.specs.Located.{TokenLocated}
 use Rattle.request.specs.Subject.{SubjectGiven}
-use Rattle.request.specs.Issue.{issuedIf, IssuedIfRoom}
+use Rattle.request.specs.Issue.{issuedIf, IssueRoom, RowIssued}
 use Rattle.request.specs.Copies as copies
-use Rattle.request.specs.Copies.{duplicateOf, DuplicateIssued}
+use Rattle.request.specs.Copies.{RowCopied, Remade, DuplicateJudged, copiedAs, duplicatedAs, CopyIssued}
 use Rattle.request.proofs.Deciding.{fails, holds, refuses, carried-as}
-use Rattle.request.proofs.LookupLaws.{looked-up, handle-refuses}
+use Rattle.request.proofs.LookupLaws.{looked-up, goes-on}
+use Rattle.request.proofs.Locating.{not-located}
+use Rattle.request.proofs.RowIssuing.{ends-issuing}
 
--- ---- of any copy
+-- ---- of a copy by value
 
 -- on the handle that was found, and its token
 pub on-subject : {s n right : ℕ} {hs : List Handle} {ss ts ds : List ℕ} {x : Subject} (go : State → rules-handle.Handle → rules.Token → Decision)
@@ -56,47 +69,131 @@ pub copy-issued : {ok b : Bool} (room : State → Bool) (s mask : ℕ) (copy : �
 copy-issued {ok} room s mask copy u q f k e c =
     carried-as (λ σ v p. holds ok σ badField _ (ap not (sym q) ∙ f) ∙ ap (λ (u : rules.Token). carriedOut σ (issuedIf (room σ) s mask u σ)) (sym (e ∙ ap copy (k .next σ (p .stations))))) c
 
--- ---- request 9
+-- ---- of any copy
 
-pub anonymous : (n : ℕ) (t u : Token) {p : Privileges} → privilegesOf p ≡ onlyUsed (privilegesOf (t .privileges))
-    → tokenOf u ≡ rules.newToken n nobody (privilegesOf p) [] → tokenOf u ≡ anonymousCopy n (tokenOf t)
-unfolding anonymousCopy
-anonymous n t u e k = k ∙ ap (λ x. rules.newToken n nobody x []) e
+pub row-copied : (w i : ℕ) {xs r : List ℕ} → i < tokenSlots → r ≡ take (i * w + w - i * w) (drop (i * w) xs) → length r ≡ w → RowCopied w i xs r
+row-copied w i {xs} h e l = record { inside = h; row = e ∙ part-at w i xs; long = l }
 
-module _ (n kind level : ℕ) (t : rules.Token) {r : rules.Token} where
-  pub to-primary : kind ≡ 1 → r ≡ copied n 1 0 t → r ≡ duplicated n kind level t
-  unfolding duplicated
-  to-primary k e = e ∙ rw (eq-eqb kind 1 k)
+-- ws and bs are the rows of what f makes of the token in slot i
+pub issues-made : (f : ℕ → rules.Token → rules.Token) {n i s mask : ℕ} {ws bs : List ℕ} {hs : List Handle} {ss ts ds ss′ ts′ ds′ : List ℕ} {r : Outcome}
+    → i < tokenSlots → NextToken ss n
+    → ((t : rules.Token) → tokenValid t ≡ true → record-at tokenWords i ts ≡ tokenRow t → ws ≡ tokenRow (f n t))
+    → ((t : rules.Token) → record-at maxDacl i ds ≡ daclRow t → bs ≡ daclRow (f n t))
+    → RowIssued s mask ws bs hs ss ts ds ss′ ts′ ds′ r → CopyIssued f i s mask hs ss ts ds ss′ ts′ ds′ r
+issues-made f l k w b e = record {
+  carried = λ j at. ends-issuing (λ σ. f (σ .tokens .next) (state.tokenOf σ j)) (λ σ. σ) e (λ σ v p.
+      let t = state.tokenOf σ j in
+      let there = in-slot j at v (p .tokens) l in
+      record {
+        valid = v;
+        parts = p;
+        words = w t (there .isValid) (there .words) ∙ ap (λ (m : ℕ). tokenRow (f m t)) (k .next σ (p .stations));
+        bytes = b t (there .bytes) ∙ ap (λ (m : ℕ). daclRow (f m t)) (k .next σ (p .stations));
+        decided = refl;
+      });
+}
 
-  pub to-anonymous : (not (eqb kind 1) && eqb level 0) ≡ true → r ≡ anonymousCopy n t → r ≡ duplicated n kind level t
-  unfolding duplicated
-  to-anonymous b e = e ∙ rw (not-true (eqb kind 1) (and-l (not (eqb kind 1)) (eqb level 0) b), and-r (not (eqb kind 1)) (eqb level 0) b)
+-- a request on the handle that was found, and its token
+module _ {s n right : ℕ} {hs : List Handle} {ss ts ds : List ℕ} {x : Located} (g : TokenLocated s n right hs ts x) (z : x .refusal ≡ 0) where
+  pub on-located : (go : State → rules-handle.Handle → rules.Token → Decision) → {ss′ ts′ ds′ : List ℕ} {r : Outcome}
+      → ((h : State → rules-handle.Handle) → ((σ : State) → valid σ ≡ true → PartsIn σ hs ss ts ds → x .mask ≡ h σ .mask)
+      → Carried (λ σ. go σ (h σ) (state.tokenOf σ (x .token))) hs ss ts ds ss′ ts′ ds′ r)
+      → Carried (λ σ. withHandle σ s n right (go σ)) hs ss ts ds ss′ ts′ ds′ r
+  on-located go c = carried-as (λ σ v p.
+      goes-on σ s n right (go σ) (g .refusal σ v (p .handles) (p .tokens)) z
+      ∙ ap (λ (k : ℕ). carriedOut σ (go σ (state.handleOf σ s n) (state.tokenOf σ k))) (sym (g .token σ v (p .handles))))
+      (c (λ σ. state.handleOf σ s n) (λ σ v p. g .mask σ v (p .handles)))
 
-  pub to-impersonation : (kind ≡ 1 → ⊥) → (not (eqb kind 1) && eqb level 0) ≡ false → r ≡ copied n 2 level t → r ≡ duplicated n kind level t
-  unfolding duplicated
-  to-impersonation k b e = let f = ne-eqb kind 1 k in e ∙ rw (f, sym (ap (λ (x : Bool). not x && eqb level 0) f) ∙ b)
+-- ---- request 9: the copy
 
-module _ (kind level mask : ℕ) (h : Handle) (t : Token) {b : Bool} (q : b ≡ validDuplicate (handleOf h) (tokenOf t) kind level mask) where
-  pub level-small : not b ≡ false → level ≤ 3
-  unfolding validDuplicate
-  level-small f =
-      let ok : validDuplicate (handleOf h) (tokenOf t) kind level mask ≡ true = sym q ∙ not-false b f in
-      let small : leb level 3 ≡ true = search (and-l, and-r) in leb-true level 3 small
+pub relabelled : (n type level : ℕ) {ws : List ℕ} → length ws ≡ tokenWords → Remade (copied n type level) ws (set (set (set (set (set ws 0 n) 1 n) 4 type) 5 level) 6 1)
+unfolding copied retyped tokenRow head
+relabelled n type level l = record {
+  made = record { row = λ t e. ap (λ (l : List ℕ). set (set (set (set (set l 0 n) 1 n) 4 type) 5 level) 6 1) e };
+  long = simp length-set l;
+}
 
-  module _ (s : ℕ) {hs : List Handle} {ss ts ds : List ℕ} {r : Outcome} where
-    pub duplicate-refused : not b ≡ true → Ends (answers.Refused 5) r → DuplicateIssued h t kind level s mask hs ss ts ds ss ts ds r
-    duplicate-refused f e = record { carried = copy-refused (λ σ. canIssue σ) s mask (λ σ. duplicated (σ .tokens .next) kind level (tokenOf t)) q f e }
+abbrev anonymousRow : ℕ → ℕ → List ℕ
+anonymousRow n used = set (set (set (set (set (set (replicate tokenWords 0) 0 n) 1 n) 3 7) 4 2) 6 1) 16 used
 
-    pub duplicate-issued : (u : Token) {next : ℕ} {ss′ ts′ ds′ : List ℕ} → not b ≡ false → NextToken ss next → tokenOf u ≡ duplicated next kind level (tokenOf t)
-        → IssuedIfRoom s mask u hs ss ts ds ss′ ts′ ds′ r → DuplicateIssued h t kind level s mask hs ss ts ds ss′ ts′ ds′ r
-    duplicate-issued u f k e c = record { carried = copy-issued (λ σ. canIssue σ) s mask (λ j. duplicated j kind level (tokenOf t)) u q f k e (c .carried) }
+module _ {n i s mask : ℕ} {hs : List Handle} {ss ts ds ss′ ts′ ds′ : List ℕ} {r : Outcome} (k : NextToken ss n) where
+  pub issues-copy : (type level : ℕ) {ws ws′ bs : List ℕ} → RowCopied tokenWords i ts ws → Remade (copied n type level) ws ws′ → RowCopied maxDacl i ds bs
+      → RowIssued s mask ws′ bs hs ss ts ds ss′ ts′ ds′ r → CopyIssued (copiedAs type level) i s mask hs ss ts ds ss′ ts′ ds′ r
+  unfolding copiedAs copied daclRow
+  issues-copy type level w c b e = issues-made (copiedAs type level) (w .inside) k (λ t v q. c .made .row t (w .row ∙ q)) (λ t q. b .row ∙ q) e
 
-module _ (kind level mask : ℕ) {s n : ℕ} {hs : List Handle} {ss ts ds : List ℕ} {x : Subject} {r : Outcome} (g : SubjectGiven s n Mask.duplicate hs ts ds x) where
-  pub duplicate-unknown : (x .target .refusal ≡ 0 → ⊥) → Ends (answers.Refused (x .target .refusal)) r → Carried (λ σ. duplicate σ s n kind level mask) hs ss ts ds ss ts ds r
+  pub issues-anonymous : (p : Privileges) → i < tokenSlots → p ≡ privilegesIn (lent i ts)
+      → RowIssued s mask (anonymousRow n (p .used)) (replicate maxDacl 0) hs ss ts ds ss′ ts′ ds′ r → CopyIssued anonymousCopy i s mask hs ss ts ds ss′ ts′ ds′ r
+  unfolding anonymousCopy newToken noLimits noDefaults onlyUsed nobody tokenRow head daclRow mark pad
+  issues-anonymous p l ep e = issues-made anonymousCopy l k
+      (λ t v q. ap (anonymousRow n) (ap (λ (x : Privileges). x .used) ep ∙ ap (λ (w : List ℕ). privilegesIn w .used) (part-at tokenWords i ts ∙ q))) (λ t q. refl) e
+
+module _ (kind level : ℕ) {i s mask : ℕ} {hs : List Handle} {ss ts ds ss′ ts′ ds′ : List ℕ} {r : Outcome} where
+  same-copy : (f : ℕ → rules.Token → rules.Token) → ((m : ℕ) (t : rules.Token) → duplicatedAs kind level m t ≡ f m t)
+      → CopyIssued f i s mask hs ss ts ds ss′ ts′ ds′ r → CopyIssued (duplicatedAs kind level) i s mask hs ss ts ds ss′ ts′ ds′ r
+  same-copy f e c = record { carried = λ n at. carried-as (λ σ v p. ap (λ (t : rules.Token). carriedOut σ (issued s mask t σ)) (e (σ .tokens .next) (state.tokenOf σ n))) (c .carried n at) }
+
+  pub to-primary : kind ≡ 1 → CopyIssued (copiedAs 1 0) i s mask hs ss ts ds ss′ ts′ ds′ r → CopyIssued (duplicatedAs kind level) i s mask hs ss ts ds ss′ ts′ ds′ r
+  unfolding copiedAs duplicatedAs duplicated
+  to-primary k c = same-copy (copiedAs 1 0) (λ m t. rw (eq-eqb kind 1 k)) c
+
+  pub to-anonymous : (not (eqb kind 1) && eqb level 0) ≡ true → CopyIssued anonymousCopy i s mask hs ss ts ds ss′ ts′ ds′ r
+      → CopyIssued (duplicatedAs kind level) i s mask hs ss ts ds ss′ ts′ ds′ r
+  unfolding copiedAs duplicatedAs duplicated
+  to-anonymous b c = same-copy anonymousCopy
+      (λ m t. rw (not-true (eqb kind 1) (and-l (not (eqb kind 1)) (eqb level 0) b), and-r (not (eqb kind 1)) (eqb level 0) b)) c
+
+  pub to-impersonation : (kind ≡ 1 → ⊥) → (not (eqb kind 1) && eqb level 0) ≡ false → CopyIssued (copiedAs 2 level) i s mask hs ss ts ds ss′ ts′ ds′ r
+      → CopyIssued (duplicatedAs kind level) i s mask hs ss ts ds ss′ ts′ ds′ r
+  unfolding copiedAs duplicatedAs duplicated
+  to-impersonation k b c =
+      let f = ne-eqb kind 1 k in
+      same-copy (copiedAs 2 level) (λ m t. rw (f, sym (ap (λ (x : Bool). not x && eqb level 0) f) ∙ b)) c
+
+-- ---- request 9: the test
+
+pub judges : (held : ℕ) (i : Identity) (type level mask : ℕ) {v w : Bool} → v ≡ Mask.validMask mask → w ≡ within mask held
+    → DuplicateJudged held i type level mask ((eqb type 1 || eqb type 2) && leb level 3 && (not (eqb (i .kind) 2 && eqb type 2) || leb level (i .level)) && v && w)
+unfolding validDuplicate validLevel
+judges held i type level mask {v} {w} ev ew = record { judged = λ h t m e. by h t m (ap (λ (x : rules.Identity). x .type) e) (ap (λ (x : rules.Identity). x .level) e) }
+  where
+    by : (h : rules-handle.Handle) (t : rules.Token) → held ≡ h .mask → i .kind ≡ t .identity .type → i .level ≡ t .identity .level
+        → ((eqb type 1 || eqb type 2) && leb level 3 && (not (eqb (i .kind) 2 && eqb type 2) || leb level (i .level)) && v && w) ≡ validDuplicate h t type level mask
+    by h t m k l = cc
+
+-- ---- request 9: how it ends
+
+abbrev go : (kind level mask s : ℕ) → State → rules-handle.Handle → rules.Token → Decision
+go kind level mask s σ h t =
+    need validDuplicate h t kind level mask else badField then
+    need canIssue σ else tableFull then
+    issued s mask (duplicated (σ .tokens .next) kind level t) σ
+
+module _ (kind level mask : ℕ) {s n : ℕ} {hs : List Handle} {ss ts ds : List ℕ} {x : Located} (g : TokenLocated s n Mask.duplicate hs ts x) where
+  pub duplicate-unknown : {r : Outcome} → (x .refusal ≡ 0 → ⊥) → Ends (answers.Refused (x .refusal)) r → Carried (λ σ. duplicate σ s n kind level mask) hs ss ts ds ss ts ds r
   unfolding duplicate
-  duplicate-unknown f e = handle-refuses (g .target) (λ σ h t. duplicateOf h t kind level s mask σ) r e f
+  duplicate-unknown {r} f e = not-located g (go kind level mask s) r e f
 
-  pub duplicates : {ss′ ts′ ds′ : List ℕ} → x .target .refusal ≡ 0 → DuplicateIssued (x .target .handle) (x .token) kind level s mask hs ss ts ds ss′ ts′ ds′ r
-      → Carried (λ σ. duplicate σ s n kind level mask) hs ss ts ds ss′ ts′ ds′ r
-  unfolding duplicate
-  duplicates z c = carried-as (on-subject (λ σ h t. duplicateOf h t kind level s mask σ) g z) (c .carried)
+  module _ (z : x .refusal ≡ 0) (who : Identity) (is : IdentityAt (x .slot) ts who) {ok : Bool} (q : DuplicateJudged (x .mask) who kind level mask ok) where
+    -- the test, in the state
+    judged : (σ : State) (h : rules-handle.Handle) → x .mask ≡ h .mask → valid σ ≡ true → PartsIn σ hs ss ts ds → ok ≡ validDuplicate h (state.tokenOf σ (x .token)) kind level mask
+    judged σ h m v p = q .judged h (state.tokenOf σ (x .token)) m (is .given (x .token) (g .slot z) .identity σ v (p .tokens))
+
+    pub duplicate-bad : {r : Outcome} → not ok ≡ true → Ends (answers.Refused 5) r → Carried (λ σ. duplicate σ s n kind level mask) hs ss ts ds ss ts ds r
+    unfolding duplicate
+    duplicate-bad {r} f e = on-located g z (go kind level mask s) (λ h m. refuses 5 r e (omega arith)
+        (λ σ v p. fails (validDuplicate (h σ) (state.tokenOf σ (x .token)) kind level mask) σ 5 _ (ap not (sym (judged σ (h σ) (m σ v p) v p)) ∙ f)))
+
+    module _ (t : not ok ≡ false) {room : Bool} (i : IssueRoom hs ts ss room) where
+      pub duplicate-full : {r : Outcome} → not room ≡ true → Ends (answers.Refused 8) r → Carried (λ σ. duplicate σ s n kind level mask) hs ss ts ds ss ts ds r
+      unfolding duplicate
+      duplicate-full {r} f e = on-located g z (go kind level mask s) (λ h m. refuses 8 r e (omega arith) (λ σ v p.
+          holds (validDuplicate (h σ) (state.tokenOf σ (x .token)) kind level mask) σ badField _ (ap not (sym (judged σ (h σ) (m σ v p) v p)) ∙ t)
+          ∙ fails (canIssue σ) σ 8 _ (ap not (sym (i .room σ v p)) ∙ f)))
+
+      pub duplicates : {ss′ ts′ ds′ : List ℕ} {r : Outcome} → not room ≡ false → CopyIssued (duplicatedAs kind level) (x .slot) s mask hs ss ts ds ss′ ts′ ds′ r
+          → Carried (λ σ. duplicate σ s n kind level mask) hs ss ts ds ss′ ts′ ds′ r
+      unfolding duplicate duplicatedAs
+      duplicates f c = on-located g z (go kind level mask s) (λ h m. carried-as (λ σ v p.
+          holds (validDuplicate (h σ) (state.tokenOf σ (x .token)) kind level mask) σ badField _ (ap not (sym (judged σ (h σ) (m σ v p) v p)) ∙ t)
+          ∙ holds (canIssue σ) σ tableFull _ (ap not (sym (i .room σ v p)) ∙ f)) (c .carried (x .token) (g .slot z)))

@@ -1,17 +1,24 @@
--- Requests 9 and 10, of the handle that they name and its token. Assumes nothing.
-use Prim.Native.Nat.{ℕ}
+-- Requests 9 and 10: a copy of the token in a slot, judged and issued. Assumes nothing.
+use Prim.Native.Nat.{ℕ, _<_}
+use mathlib.Core.Path.{_≡_}
 use mathlib.Core.Bool.{Bool}
 use mathlib.Core.List.{List}
+use lib.ListN.{length}
+use Rattle.table.specs.Table.{record-at}
 use Rattle.rules.specs.Refusal.{badField}
 use Rattle.rules.specs.Token as rules
 use Rattle.rules.specs.Handle as rules-handle
-use Rattle.rules.specs.State.{State}
-use Rattle.rules.specs.Decision.{Decision, need_else_then_, canIssue}
-use Rattle.rules.specs.Duplicate.{validDuplicate, duplicated}
-use Rattle.handle.specs.Meaning.{handleOf}
+use Rattle.rules.specs.State as state
+use Rattle.rules.specs.State.{State, tokenSlots}
+use Rattle.rules.specs.Decision.{Decision, need_else_then_, issued}
+use Rattle.rules.specs.Memory.{tokenWords}
+use Rattle.rules.specs.Duplicate as duplicates
+use Rattle.rules.specs.Duplicate.{validDuplicate}
 use Rattle.handle.specs.declared.Handle.{Handle}
-use Rattle.token.specs.Meaning.{tokenOf}
-use Rattle.token.specs.declared.Token.{Token}
+use Rattle.token.specs.Meaning.{identityOf}
+use Rattle.token.specs.Row.{Becomes}
+use Rattle.token.specs.declared.Identity.{Identity}
+use Rattle.state.specs.TokenCalls.{FoundAt}
 use Rattle.request.specs.declared.outcome.Outcome.{Outcome}
 use Rattle.request.specs.Carried.{Carried}
 use Rattle.request.specs.Issue.{issuedIf}
@@ -20,8 +27,28 @@ use Rattle.request.specs.Issue.{issuedIf}
 abbrev pub copied : (ok room : Bool) → ℕ → ℕ → rules.Token → State → Decision
 copied ok room s mask t σ = need ok else badField then issuedIf room s mask t σ
 
-abbrev pub duplicateOf : rules-handle.Handle → rules.Token → (type level : ℕ) → ℕ → ℕ → State → Decision
-duplicateOf h t type level s mask σ = copied (validDuplicate h t type level mask) (canIssue σ) s mask (duplicated (σ .tokens .next) type level t) σ
+-- the row of a slot, copied
+pub record RowCopied (w slot : ℕ) (xs r : List ℕ) : Type 0 where
+  pub inside : slot < tokenSlots
+  pub row : r ≡ record-at w slot xs
+  pub long : length r ≡ w
 
-pub record DuplicateIssued (h : Handle) (t : Token) (type level s mask : ℕ) (hs : List Handle) (ss ts ds ss′ ts′ ds′ : List ℕ) (r : Outcome) : Type 0 where
-  pub carried : Carried (λ σ. duplicateOf (handleOf h) (tokenOf t) type level s mask σ) hs ss ts ds ss′ ts′ ds′ r
+-- the row of every token t becomes that of f t, and stays as long as it is
+pub record Remade (f : rules.Token → rules.Token) (ws ws′ : List ℕ) : Type 0 where
+  pub made : Becomes f ws ws′
+  pub long : length ws′ ≡ tokenWords
+
+-- by the handle's mask and who the token is
+pub record DuplicateJudged (held : ℕ) (i : Identity) (type level mask : ℕ) (r : Bool) : Type 0 where
+  pub judged : (h : rules-handle.Handle) (t : rules.Token) → held ≡ h .mask → identityOf i ≡ t .identity → r ≡ validDuplicate h t type level mask
+
+-- the copies, by the next number last but the token
+unfoldable pub copiedAs : ℕ → ℕ → ℕ → rules.Token → rules.Token
+copiedAs type level n t = duplicates.copied n type level t
+
+unfoldable pub duplicatedAs : ℕ → ℕ → ℕ → rules.Token → rules.Token
+duplicatedAs type level n t = duplicates.duplicated n type level t
+
+-- what f makes of the next number and the token in a slot is issued, whatever number the slot is of
+pub record CopyIssued (f : ℕ → rules.Token → rules.Token) (slot s mask : ℕ) (hs : List Handle) (ss ts ds ss′ ts′ ds′ : List ℕ) (r : Outcome) : Type 0 where
+  pub carried : (n : ℕ) → FoundAt n ts slot → Carried (λ σ. issued s mask (f (σ .tokens .next) (state.tokenOf σ n)) σ) hs ss ts ds ss′ ts′ ds′ r

@@ -1,24 +1,28 @@
 // Request 9: duplicate.
 ghost use mathlib.Core.Path.{_≡_};
-ghost use Prim.Native.Nat.{_≤_, _<_};
-ghost use Rattle.rules.specs.State.{stationCount};
+ghost use Prim.Native.Nat.{_<_};
+ghost use lib.ListN.{length};
+ghost use Rattle.rules.specs.State.{tokenSlots, stationCount};
+ghost use Rattle.rules.specs.Memory.{tokenWords};
 ghost use Rattle.rules.specs.Duplicate as rules;
-ghost use Rattle.handle.specs.Meaning.{handleOf};
-ghost use Rattle.token.specs.Meaning.{tokenOf, Sized};
 ghost use Rattle.state.specs.Parts.{Lent};
 ghost use Rattle.request.specs.Carried.{Carried};
-ghost use Rattle.request.specs.Copies.{DuplicateIssued};
-use crate::issue::issue_if_room;
-use crate::new_token::new_token;
+ghost use Rattle.request.specs.Issue.{NumbersLeft};
+ghost use Rattle.request.specs.Copies.{Remade, DuplicateJudged, copiedAs, duplicatedAs, CopyIssued};
+use crate::copies;
+use crate::issue::can_issue;
+use crate::issue::issue_row;
+use crate::located;
 use crate::outcome;
 use crate::outcome::Outcome;
-use crate::subject;
-use handle::Handle;
 use handle::Handles;
 use privilege::mask::Mask;
+use state::tokens::identity_at;
 use state::tokens::next_token;
 use token::Identity;
-use token::Token;
+use token::MAX_DACL;
+use token::row;
+use token::row::TOKEN_WORDS;
 
 const PRIMARY: u32 = 1;
 
@@ -26,89 +30,146 @@ const IMPERSONATION: u32 = 2;
 
 const ANONYMOUS: u32 = 7;
 
-fn valid_duplicate(h: Handle, t: Token, kind: u32, level: u32, mask: u32) -> bool
-    ensures { λ r. ⌜ r ≡ rules.validDuplicate (handleOf h) (tokenOf t) kind level mask ⌝ }
+// By a handle of mask `held`, of a token that is `source`.
+fn valid_duplicate(held: u32, source: Identity, kind: u32, level: u32, mask: u32) -> bool
+    ensures { λ r. ⌜ DuplicateJudged held source kind level mask r ⌝ }
 {
-    let source = t.identity;
     let asked = Mask(mask);
     let both = (source.kind as u32 == IMPERSONATION) & (kind == IMPERSONATION);
     ((kind == PRIMARY) | (kind == IMPERSONATION))
         & (level <= 3)
         & (!both | (level <= source.level as u32))
         & asked.valid()
-        & asked.within(Mask(h.mask))
+        & asked.within(Mask(held))
 }
 
-// ---- the copy
+// ---- the copy of the token in a slot, where there is room for it
 
-fn copied(n: u64, kind: u8, level: u8, t: Token) -> Token
-    requires { ⌜ Sized t ⌝ }
-    ensures { λ r. ⌜ (tokenOf r ≡ rules.copied n kind level (tokenOf t)) × Sized r ⌝ }
+// Another number, type and level.
+fn relabel(words: &mut [u64; TOKEN_WORDS], n: u64, kind: u32, level: u32)
+    requires { ⌜ length (now words) ≡ tokenWords ⌝ }
+    ensures { λ _. ⌜ Remade (rules.copied n kind level) (now (words .entry)) (now (words .exit)) ⌝ }
 {
-    let mut next = t;
-    next.number = n;
-    next.modified = n;
-    next.elevation = 1;
-    next.identity.kind = kind;
-    next.identity.level = level;
-    next
+    words[0] = n;
+    words[1] = n;
+    words[4] = kind as u64;
+    words[5] = level as u64;
+    words[6] = 1;
 }
 
-// Nothing is kept but the used privileges.
-fn anonymous_copy(n: u64, t: Token) -> Token
-    ensures { λ r. ⌜ (tokenOf r ≡ rules.anonymousCopy n (tokenOf t)) × Sized r ⌝ }
-{
-    let nobody = Identity {
-        user: ANONYMOUS,
-        session: 0,
-        kind: IMPERSONATION as u8,
-        level: 0,
-        integrity: 0,
-    };
-    let p = t.privileges;
-    let groups = t.groups;
-    new_token(n, nobody, p.only_used(), groups, 0)
-}
-
-// Only the type and level asked for make an anonymous copy; to primary, the level becomes 0.
-fn duplicated(n: u64, kind: u32, level: u32, t: Token) -> Token
-    requires { ⌜ Sized t × (level ≤ 3) ⌝ }
-    ensures { λ r. ⌜ (tokenOf r ≡ rules.duplicated n kind level (tokenOf t)) × Sized r ⌝ }
-{
-    let anonymous = (kind != PRIMARY) & (level == 0);
-    if anonymous {
-        return anonymous_copy(n, t);
-    }
-    if kind == PRIMARY {
-        return copied(n, PRIMARY as u8, 0, t);
-    }
-    copied(n, IMPERSONATION as u8, level as u8, t)
-}
-
-// ---- the request
-
-// On a handle and its token.
-fn issue_duplicate(
+fn issue_copy(
     station: u32,
-    source: Handle,
-    t: Token,
+    mask: u32,
+    slot: usize,
     kind: u32,
     level: u32,
-    mask: u32,
     handles: Handles,
     tokens: &mut [u64],
     dacls: &mut [u8],
     stations: &mut [u64],
 ) -> Outcome
-    requires { ⌜ Lent (now tokens) (now dacls) (now stations) × Sized t ⌝ }
-    ensures { λ r. ⌜ DuplicateIssued source t kind level station mask (handles .items) (now (stations .entry)) (now (tokens .entry)) (now (dacls .entry)) (now (stations .exit)) (now (tokens .exit)) (now (dacls .exit)) r ⌝ }
+    requires { ⌜ Lent (now tokens) (now dacls) (now stations) × (slot < tokenSlots) × NumbersLeft (now stations) ⌝ }
+    ensures { λ r. ⌜ CopyIssued (copiedAs kind level) slot station mask (handles .items) (now (stations .entry)) (now (tokens .entry)) (now (dacls .entry)) (now (stations .exit)) (now (tokens .exit)) (now (dacls .exit)) r ⌝ }
 {
-    if !valid_duplicate(source, t, kind, level, mask) {
-        return outcome::refused(5);
-    }
-    let copy = duplicated(next_token(stations), kind, level, t);
-    issue_if_room(station, mask, copy, handles, tokens, dacls, stations)
+    let n = next_token(stations);
+    let mut copy = copies::words_at(slot, tokens);
+    relabel(&mut copy, n, kind, level);
+    let dacl = copies::dacl_at(slot, dacls);
+    issue_row(
+        station,
+        mask,
+        &copy,
+        &dacl,
+        handles,
+        tokens,
+        dacls,
+        stations,
+    )
 }
+
+// Nothing is kept but the used privileges.
+fn issue_anonymous(
+    station: u32,
+    mask: u32,
+    slot: usize,
+    handles: Handles,
+    tokens: &mut [u64],
+    dacls: &mut [u8],
+    stations: &mut [u64],
+) -> Outcome
+    requires { ⌜ Lent (now tokens) (now dacls) (now stations) × (slot < tokenSlots) × NumbersLeft (now stations) ⌝ }
+    ensures { λ r. ⌜ CopyIssued rules.anonymousCopy slot station mask (handles .items) (now (stations .entry)) (now (tokens .entry)) (now (dacls .entry)) (now (stations .exit)) (now (tokens .exit)) (now (dacls .exit)) r ⌝ }
+{
+    let at = slot * TOKEN_WORDS;
+    let end = at + TOKEN_WORDS;
+    let n = next_token(stations);
+    let p = row::privileges_in(&tokens[at..end]);
+    let mut copy = [0u64; TOKEN_WORDS];
+    copy[0] = n;
+    copy[1] = n;
+    copy[3] = ANONYMOUS as u64;
+    copy[4] = IMPERSONATION as u64;
+    copy[6] = 1;
+    copy[16] = p.used;
+    let dacl = [0u8; MAX_DACL];
+    issue_row(
+        station,
+        mask,
+        &copy,
+        &dacl,
+        handles,
+        tokens,
+        dacls,
+        stations,
+    )
+}
+
+// Only the type and level asked for make an anonymous copy; to primary, the level becomes 0.
+fn issue_duplicate(
+    station: u32,
+    mask: u32,
+    slot: usize,
+    kind: u32,
+    level: u32,
+    handles: Handles,
+    tokens: &mut [u64],
+    dacls: &mut [u8],
+    stations: &mut [u64],
+) -> Outcome
+    requires { ⌜ Lent (now tokens) (now dacls) (now stations) × (slot < tokenSlots) × NumbersLeft (now stations) ⌝ }
+    ensures { λ r. ⌜ CopyIssued (duplicatedAs kind level) slot station mask (handles .items) (now (stations .entry)) (now (tokens .entry)) (now (dacls .entry)) (now (stations .exit)) (now (tokens .exit)) (now (dacls .exit)) r ⌝ }
+{
+    let anonymous = (kind != PRIMARY) & (level == 0);
+    if anonymous {
+        return issue_anonymous(station, mask, slot, handles, tokens, dacls, stations);
+    }
+    if kind == PRIMARY {
+        return issue_copy(
+            station,
+            mask,
+            slot,
+            PRIMARY,
+            0,
+            handles,
+            tokens,
+            dacls,
+            stations,
+        );
+    }
+    issue_copy(
+        station,
+        mask,
+        slot,
+        IMPERSONATION,
+        level,
+        handles,
+        tokens,
+        dacls,
+        stations,
+    )
+}
+
+// ---- the request
 
 pub fn duplicate(
     station: u32,
@@ -124,17 +185,23 @@ pub fn duplicate(
     requires { ⌜ Lent (now tokens) (now dacls) (now stations) × (station < stationCount) ⌝ }
     ensures { λ r. ⌜ Carried (λ σ. rules.duplicate σ station number kind level mask) (handles .items) (now (stations .entry)) (now (tokens .entry)) (now (dacls .entry)) (now (stations .exit)) (now (tokens .exit)) (now (dacls .exit)) r ⌝ }
 {
-    let x = subject::find(station, number, Mask::DUPLICATE, handles, tokens, dacls);
-    if x.target.refusal != 0 {
-        return outcome::refused(x.target.refusal);
+    let x = located::locate(station, number, Mask::DUPLICATE, handles, tokens);
+    if x.refusal != 0 {
+        return outcome::refused(x.refusal);
+    }
+    let source = identity_at(x.slot, tokens);
+    if !valid_duplicate(x.mask, source, kind, level, mask) {
+        return outcome::refused(5);
+    }
+    if !can_issue(handles, tokens, stations) {
+        return outcome::refused(8);
     }
     issue_duplicate(
         station,
-        x.target.handle,
-        x.token,
+        mask,
+        x.slot,
         kind,
         level,
-        mask,
         handles,
         tokens,
         dacls,

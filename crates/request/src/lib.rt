@@ -6,6 +6,7 @@ pub mod answer;
 pub mod attributes;
 pub mod class;
 pub mod close;
+pub mod copies;
 pub mod create;
 pub mod create_token;
 pub mod dacl;

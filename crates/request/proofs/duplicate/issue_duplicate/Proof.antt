@@ -1,6 +1,6 @@
--- By the test of the copy. Assumes nothing.
+-- By the type and level asked for. Assumes nothing.
 use borrow.Author.Needs.{needs}
-use Rattle.request.proofs.Copying.{level-small, duplicate-refused, duplicate-issued}
+use Rattle.request.proofs.Copying.{to-primary, to-anonymous, to-impersonation}
 use Rattle.request.proofs.duplicate.issue_duplicate.Statement.{statement}
 use Rattle.request.proofs.duplicate.issue_duplicate.Tie as tie
 
@@ -9,12 +9,17 @@ issue-duplicate-spec =
     tie.close
     (tie.spec
     (λ c κs. search needs)
-    (λ c κs. search needs)
-    (λ c. search (needs, duplicate-refused))
-    (λ c κs. search needs)
-    (λ c κs. search (needs, level-small))
+    (λ c. search needs)
+    (λ c. search needs)
+    (λ c. search needs)
+    (λ c. search (needs, to-anonymous))
     (λ c κs. search needs)
     (λ c. search needs)
     (λ c. search needs)
     (λ c. search needs)
-    (λ c. search (needs, duplicate-issued)))
+    (λ c. search (needs, to-primary))
+    (λ c κs. search needs)
+    (λ c. search needs)
+    (λ c. search needs)
+    (λ c. search needs)
+    (λ c. search (needs, to-impersonation)))
