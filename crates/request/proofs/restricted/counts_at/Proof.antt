@@ -1,0 +1,19 @@
+-- Two words, if they are in range. Assumes nothing.
+use borrow.Author.Needs.{needs}
+use Rattle.request.proofs.Restricts.{counts, no-counts}
+use Rattle.request.proofs.restricted.counts_at.Statement.{statement}
+use Rattle.request.proofs.restricted.counts_at.Tie as tie
+
+pub counts-at-spec : {M : Type 1} → statement M
+counts-at-spec =
+    tie.close
+    (tie.spec
+    (λ c. search needs)
+    (λ c. search needs)
+    (λ c. search needs)
+    (λ c. search needs)
+    (λ c. search needs)
+    (λ c. search needs)
+    (λ c. search needs)
+    (λ c. search (needs, counts))
+    (λ c. search (needs, no-counts)))
