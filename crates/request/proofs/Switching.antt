@@ -24,8 +24,7 @@ use Rattle.rules.specs.AdjustGroups.{isReset, validEntry, maySwitch, applied, r
 use Rattle.rules.specs.Request.{times, entry}
 use Rattle.rules.proofs.Logic.{and-l, and-r, length-changeAt}
 use Rattle.token.specs.declared.Group as Code
-use Rattle.token.specs.declared.Token.{Token}
-use Rattle.token.specs.Meaning.{groupOf, Sized}
+use Rattle.token.specs.Meaning.{groupOf}
 use Rattle.token.specs.Row.{groupIn, wordOf}
 use Rattle.request.specs.declared.groups.Progress as Pass
 use Rattle.request.specs.declared.entry.Pair.{Pair}

@@ -10,7 +10,6 @@ use Rattle.rules.specs.Memory.{tokenRow, daclRow}
 use Rattle.rules.specs.Valid.{valid}
 use Rattle.rules.specs.Decision.{need_else_then_, canIssue}
 use Rattle.handle.specs.declared.Handle.{Handle}
-use Rattle.token.specs.declared.Token.{Token}
 use Rattle.state.specs.Parts.{StationsIn}
 use Rattle.state.specs.StationFacts.{nextHandle}
 use Rattle.state.specs.TokenCalls.{nextIn}
