@@ -1,12 +1,13 @@
 -- The calls over the lent handle list, from the promises of the calls that have it by value. Assumes nothing.
 use Prim.Native.Nat.{ℕ}
-use mathlib.Core.Path.{_≡_, refl, sym, subst}
+use mathlib.Core.Path.{_≡_, refl, sym, subst, _∙_}
 use mathlib.Core.List.{List}
-use lib.ListN.{length}
+use lib.ListN.{length, set}
 use mir.Val.{Val}
 use denote.Ref.{RefT}
 use denote.Slice.{sliceVal}
 use Rattle.rules.specs.Calls.{startOn, feedOn}
+use Rattle.handle.specs.Meaning.{none}
 use Rattle.handle.specs.declared.Handle.{Handle}
 use Rattle.handle.specs.Loaded.{loaded}
 use Rattle.valid.specs.Meaning.{memoryOf}
@@ -31,3 +32,9 @@ pub fed-at : (hs : List Handle) {zs items : List Handle} {station : ℕ} {chunk 
     → Feeds (feedOn (memoryOf ts ds hs ss ps) station chunk (length out)) (memoryOf ts′ ds′ zs ss′ ps′) out out′ (r .fed)
 fed-at hs {station = station} {chunk} {ts} {ds} {ss} {ps} {out} {ts′} {ds′} {ss′} {ps′} {out′} {r} e l z =
     subst (λ (zs : List Handle). Feeds (feedOn (memoryOf ts ds hs ss ps) station chunk (length out)) (memoryOf ts′ ds′ zs ss′ ps′) out out′ (r .fed)) (sym z) (e .fed hs refl (sym l))
+
+-- zs: the list after the slot was freed
+pub cleared-at : (hs : List Handle) {zs items : List Handle} {station : ℕ} {chunk ts ds ss ps out ts′ ds′ ss′ ps′ out′ : List ℕ} {r : Turn}
+    → FeedsWith station chunk (length hs) items ts ds ss ps out ts′ ds′ ss′ ps′ out′ r → items ≡ loaded hs → r .change .handle .number ≡ 0 → zs ≡ set hs (r .change .slot) none
+    → Feeds (feedOn (memoryOf ts ds hs ss ps) station chunk (length out)) (memoryOf ts′ ds′ zs ss′ ps′) out out′ (r .fed)
+cleared-at hs e l n z = fed-at hs e l (z ∙ sym (e .clears hs refl (sym l) n))

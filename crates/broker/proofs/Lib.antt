@@ -6,5 +6,6 @@ pub mod StreamsKept
 pub mod PendingRows
 pub mod Lent
 pub mod Accepting
+pub mod Freeing
 pub mod Feeding
 pub mod WholeRuns

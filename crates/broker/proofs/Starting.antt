@@ -1,14 +1,16 @@
 -- The start's memory, and what start returns. Assumes nothing.
-use Prim.Native.Nat.{ℕ, zero, suc, _+_, _*_}
+use Prim.Native.Nat.{ℕ, zero, suc, _+_, _*_, _<_}
 use native.Mathlib.Omega.{arith}
 use native.Mathlib.Nat.{suc-mul, add-comm}
 use mathlib.Core.Path.{_≡_, refl, sym, ap, ap₂, _∙_}
 use mathlib.Core.Bool.{Bool, true, false, not}
 use mathlib.Core.List.{List, [], _∷_, _++_, map, append-nil}
-use lib.ListN.{length, replicate, replicate-append-replicate, drop-of-length-le, length-replicate}
+use lib.ListN.{length, take, drop, replicate, replicate-append-replicate, drop-of-length-le, length-replicate}
 use Rattle.table.specs.Lists.{pad}
-use Rattle.table.specs.Table.{flat, put-record, put-flat}
-use Rattle.rules.specs.Token.{Token, maxDacl, startToken}
+use Rattle.table.specs.Table.{flat, record-at, put-record, record-flat, put-flat}
+use Rattle.rules.specs.Privileges as privileges
+use Rattle.rules.specs.Privileges.{existing, granted}
+use Rattle.rules.specs.Token.{Token, maxDacl, system, primaryOf, noDefaults, newToken, startToken}
 use Rattle.rules.specs.Table.{Slot, free, live, placed}
 use Rattle.rules.specs.Handle.{noHandle}
 use Rattle.rules.specs.Station.{startStation}
@@ -16,7 +18,11 @@ use Rattle.rules.specs.State.{start, tokenSlots, handleSlots, stationCount}
 use Rattle.rules.specs.Memory.{tokenWords, pendingBytes, mark, tokenRow, daclRow, slotRow, slotDacl, slotHandle, stationRow, pendingRow, sized}
 use Rattle.rules.specs.Calls.{refusedOn, startOn}
 use Rattle.rules.specs.Refusal.{invalidMemory}
-use Rattle.rules.proofs.Rows.{length-slotRow, length-slotDacl}
+use Rattle.rules.proofs.Rows.{length-slotRow}
+use Rattle.privilege.specs.Meaning.{privilegesOf}
+use Rattle.privilege.specs.declared.privileges.Privileges.{Privileges}
+use Rattle.token.specs.NewRow.{Headed}
+use Rattle.token.proofs.NewRow.{no-groups}
 use Rattle.handle.specs.Meaning.{none, handleOf}
 use Rattle.handle.specs.declared.Handle.{Handle}
 use Rattle.valid.specs.Meaning.{memoryOf, Lent}
@@ -38,13 +44,23 @@ flat-zeros f w a e (suc n) =
 no-tokens : List (Slot Token)
 no-tokens = replicate tokenSlots free
 
--- a row is stored in the first slot of zeros
-stored-first : (f : Slot Token → List ℕ) (w : ℕ) → ((p : Slot Token) → length (f p) ≡ w) → f free ≡ replicate w 0
-    → {xs : List ℕ} → xs ≡ replicate (tokenSlots * w) 0 → put-record w 0 (f (live startToken)) xs ≡ flat f (start .tokens .slots)
-unfolding start placed no-tokens
-stored-first f w l e h =
-    ap (put-record w 0 (f (live startToken))) (h ∙ sym (flat-zeros f w free e tokenSlots))
-    ∙ put-flat f w l 0 (live startToken) no-tokens (omega (arith, length-replicate {A = Slot Token} tokenSlots free))
+module _ {zs : List ℕ} (h : zs ≡ replicate (tokenSlots * tokenWords) 0) where
+  rows-free : zs ≡ flat slotRow no-tokens
+  unfolding slotRow no-tokens
+  rows-free = h ∙ sym (flat-zeros slotRow tokenWords free refl tokenSlots)
+
+  one-there : 0 < length no-tokens
+  unfolding no-tokens
+  one-there = omega (arith, length-replicate {A = Slot Token} tokenSlots free)
+
+  -- the first row, and the rows with token 1's stored in its place
+  first-row : take tokenWords zs ≡ replicate tokenWords 0
+  unfolding record-at slotRow no-tokens
+  first-row = ap (record-at tokenWords 0) rows-free ∙ record-flat slotRow tokenWords length-slotRow 0 no-tokens free one-there
+
+  stored-first : put-record tokenWords 0 (slotRow (live startToken)) zs ≡ flat slotRow (start .tokens .slots)
+  unfolding start placed no-tokens
+  stored-first = ap (put-record tokenWords 0 (slotRow (live startToken))) rows-free ∙ put-flat slotRow tokenWords length-slotRow 0 (live startToken) no-tokens one-there
 
 -- ---- the memory
 
@@ -67,13 +83,23 @@ first-handles : map handleOf (replicate handleSlots none) ≡ map slotHandle (st
 unfolding start slotHandle noHandle
 first-handles = refl
 
-pub tokens-begun : (t : Token) {zs bs ts ds : List ℕ} → t ≡ startToken → zs ≡ replicate (tokenSlots * tokenWords) 0 → bs ≡ replicate (tokenSlots * maxDacl) 0
-    → ts ≡ put-record tokenWords 0 (tokenRow t) zs → ds ≡ put-record maxDacl 0 (daclRow t) bs → FirstTokens ts ds
-unfolding slotRow slotDacl
-tokens-begun t {zs} {bs} e hz hb ht hd = record {
+-- token 1 has no DACL
+first-dacls : flat slotDacl (start .tokens .slots) ≡ replicate (tokenSlots * maxDacl) 0
+unfolding start placed flat slotDacl daclRow startToken newToken noDefaults pad
+first-dacls = flat-zeros slotDacl maxDacl free refl tokenSlots
+
+-- and no groups: its row is a head and zeros
+pub tokens-begun : (p : Privileges) {zs bs ws : List ℕ} → zs ≡ replicate (tokenSlots * tokenWords) 0 → bs ≡ replicate (tokenSlots * maxDacl) 0
+    → privilegesOf p ≡ granted existing existing → Headed 1 (primaryOf system 999 16384) (privilegesOf p) 0 (take tokenWords zs) ws
+    → FirstTokens (ws ++ drop tokenWords zs) bs
+unfolding put-record slotRow startToken
+tokens-begun p {zs} {bs} {ws} hz hb e h = record {
   tokens = record {
-    words = ht ∙ ap (λ u. put-record tokenWords 0 (tokenRow u) zs) e ∙ stored-first slotRow tokenWords length-slotRow refl hz;
-    bytes = hd ∙ ap (λ u. put-record maxDacl 0 (daclRow u) bs) e ∙ stored-first slotDacl maxDacl length-slotDacl refl hb;
+    words =
+        ap (λ (r : List ℕ). put-record tokenWords 0 r zs)
+        (h .row [] (first-row hz ∙ no-groups) refl ∙ ap (λ (q : privileges.Privileges). tokenRow (newToken 1 (primaryOf system 999 16384) q [])) e)
+        ∙ stored-first hz;
+    bytes = hb ∙ sym first-dacls;
   };
 }
 

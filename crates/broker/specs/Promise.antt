@@ -2,7 +2,7 @@
 use Prim.Native.Nat.{ℕ, _≤_}
 use mathlib.Core.Path.{_≡_}
 use mathlib.Core.List.{List, _++_}
-use lib.ListN.{length, drop, replicate}
+use lib.ListN.{length, drop, set, replicate}
 use Rattle.rules.specs.Memory.{Memory}
 use Rattle.rules.specs.Calls.{Done, startOn, feedOn, reconnectOn, buffer}
 use Rattle.handle.specs.Meaning.{none}
@@ -41,6 +41,8 @@ pub record StartsWith (count : ℕ) (ts ds ss ps ts′ ds′ ss′ ps′ : List 
 pub record FeedsWith (station : ℕ) (chunk : List ℕ) (count : ℕ) (items : List Handle) (ts ds ss ps out ts′ ds′ ss′ ps′ out′ : List ℕ) (r : Turn) : Type 0 where
   pub fed : (hs : List Handle) → length hs ≡ count → loaded hs ≡ items
       → Feeds (feedOn (memoryOf ts ds hs ss ps) station chunk (length out)) (memoryOf ts′ ds′ (changed hs (r .change)) ss′ ps′) out out′ (r .fed)
+  -- a handle of number 0 frees its slot
+  pub clears : (hs : List Handle) → length hs ≡ count → loaded hs ≡ items → r .change .handle .number ≡ 0 → changed hs (r .change) ≡ set hs (r .change .slot) none
 
 pub record ReconnectsWith (station count : ℕ) (items : List Handle) (ts ds ss ps ss′ ps′ : List ℕ) (r : ℕ) : Type 0 where
   pub reconnected : (hs : List Handle) → length hs ≡ count → loaded hs ≡ items

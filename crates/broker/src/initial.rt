@@ -2,10 +2,9 @@
 ghost use mathlib.Core.Path.{_≡_};
 ghost use Prim.Native.Nat.{_*_};
 ghost use lib.ListN.{length};
-ghost use Rattle.rules.specs.Token.{maxDacl, startToken};
+ghost use Rattle.rules.specs.Token.{maxDacl};
 ghost use Rattle.rules.specs.State.{tokenSlots};
 ghost use Rattle.rules.specs.Memory.{tokenWords};
-ghost use Rattle.token.specs.Meaning.{tokenOf, Sized};
 ghost use Rattle.state.specs.StationFacts.{stationsSize};
 ghost use Rattle.valid.specs.Meaning.{Lent};
 ghost use Rattle.broker.specs.Initial.{FirstTokens, FirstStations, Begun};
@@ -13,21 +12,18 @@ use crate::memory::DACLS;
 use crate::memory::PENDING;
 use crate::memory::TOKENS;
 use privilege::privileges::Privileges;
-use request::new_token::new_token;
-use token::Group;
 use token::Identity;
-use token::MAX_GROUPS;
-use token::Token;
-use token::slots;
+use token::row;
+use token::row::TOKEN_WORDS;
 use token::words;
 
-// Privileges 2 to 36.
-const EXISTING: u64 = 0x1FFFFFFFFC;
-
-// SYSTEM's, with every privilege present, enabled and default.
-fn first_token() -> Token
-    ensures { λ r. ⌜ (tokenOf r ≡ startToken) × Sized r ⌝ }
+// Token 1 in the first slot: SYSTEM's, with every privilege present, enabled and default. The other slots are free.
+fn write_tokens(tokens: &mut [u64], dacls: &mut [u8])
+    requires { ⌜ (length (now tokens) ≡ tokenSlots * tokenWords) × (length (now dacls) ≡ tokenSlots * maxDacl) ⌝ }
+    ensures { λ _. ⌜ FirstTokens (now (tokens .exit)) (now (dacls .exit)) ⌝ }
 {
+    words::zero_words(TOKENS, tokens);
+    words::zero_bytes(DACLS, dacls);
     let identity = Identity {
         user: 18,
         session: 999,
@@ -35,27 +31,8 @@ fn first_token() -> Token
         level: 0,
         integrity: 16384,
     };
-    let privileges = Privileges {
-        present: EXISTING,
-        enabled: EXISTING,
-        by_default: EXISTING,
-        used: 0,
-    };
-    let groups = [Group {
-        sid: 0,
-        attributes: 0,
-    }; MAX_GROUPS];
-    new_token(1, identity, privileges, groups, 0)
-}
-
-// Token 1 in the first slot; the others are free.
-fn write_tokens(tokens: &mut [u64], dacls: &mut [u8])
-    requires { ⌜ (length (now tokens) ≡ tokenSlots * tokenWords) × (length (now dacls) ≡ tokenSlots * maxDacl) ⌝ }
-    ensures { λ _. ⌜ FirstTokens (now (tokens .exit)) (now (dacls .exit)) ⌝ }
-{
-    words::zero_words(TOKENS, tokens);
-    words::zero_bytes(DACLS, dacls);
-    slots::store_at(first_token(), tokens, dacls, 0);
+    let privileges = Privileges::granted(Privileges::EXISTING, Privileges::EXISTING);
+    row::set_head(&mut tokens[0..TOKEN_WORDS], 1, identity, privileges, 0);
 }
 
 // The next numbers are 2 and 1; token 1 is primary at every station, whose stream is empty and not broken.

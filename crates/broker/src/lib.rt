@@ -68,7 +68,11 @@ pub extern "C" fn obriska_feed(
         stations,
         pending,
     );
-    list::place(handles, turn.change.slot, turn.change.handle);
+    if turn.change.handle.number == 0 {
+        list::clear(handles, turn.change.slot);
+    } else {
+        list::place(handles, turn.change.slot, turn.change.handle);
+    }
     turn.fed
 }
 

@@ -1,7 +1,7 @@
 // The privileges of a token: four words, privilege n at bit n.
 ghost use mathlib.Core.Path.{_≡_};
 ghost use Prim.Native.Nat.{_<_};
-ghost use Rattle.rules.specs.Privileges.{isEnabled, enable, disable, remove, reset, markUsed, onlyUsed, granted};
+ghost use Rattle.rules.specs.Privileges.{isEnabled, enable, disable, remove, reset, markUsed, granted};
 ghost use Rattle.rules.specs.AdjustPrivileges.{validEntry, applied};
 ghost use Rattle.privilege.specs.Meaning.{privilegesOf, entryOf};
 use crate::words;
@@ -87,18 +87,6 @@ impl Privileges {
     {
         self.used = words::with(self.used, w);
         self
-    }
-
-    // None, but what was used.
-    pub fn only_used(self) -> Privileges
-        ensures { λ r. ⌜ privilegesOf r ≡ onlyUsed (privilegesOf self) ⌝ }
-    {
-        Privileges {
-            present: 0,
-            enabled: 0,
-            by_default: 0,
-            used: self.used,
-        }
     }
 
     // Present ones, of which some are enabled by default and so enabled.

@@ -1,135 +1,30 @@
 -- The bytes of each answer, and that its frame fits. Assumes nothing.
-use Prim.Native.Nat.{ℕ, zero, suc, _+_, _-_, _^_, _≤_, _<_}
+use Prim.Native.Nat.{ℕ, zero, suc, _+_, _*_, _-_, _^_, _≤_, _<_, min}
 use native.Mathlib.Omega.{arith}
-use mathlib.Core.Path.{_≡_, sym, ap, ap₂, _∙_}
-use mathlib.Core.Bool.{true}
-use mathlib.Core.List.{List, [], _∷_, _++_, map, append-nil}
-use lib.Seq.{length-take-le}
-use lib.ListN.{length, take, drop, getD, replicate, length-append, List·getD-map}
+use mathlib.Core.Path.{_≡_, refl, sym, ap, ap₂, _∙_}
+use mathlib.Core.Bool.{true, not, _&&_}
+use mathlib.Core.List.{List, [], _∷_, _++_, append-nil}
+use lib.Dec.{leb}
+use lib.Seq.{getD-take, getD-drop}
+use lib.ListN.{length, take, drop, getD, replicate, length-append}
+use Rattle.table.specs.Table.{record-at, part-at}
 use Rattle.rules.specs.Number.{encode, encodeIn, encodeAll}
 use Rattle.rules.specs.Frame.{frame, maxAnswer}
-use Rattle.rules.specs.Token as Rules
+use Rattle.rules.specs.Token.{maxDacl}
 use Rattle.rules.specs.State.{tokenSlots}
+use Rattle.rules.specs.Memory.{tokenWords, tokenAt}
 use Rattle.rules.specs.Valid.{tokenValid}
 use Rattle.rules.specs.AdjustGroups.{reportWords}
-use Rattle.rules.specs.Query.{words, classes, classBytes}
+use Rattle.rules.specs.Query.{classBytes}
 use Rattle.rules.proofs.Facts.{token-facts}
-use Rattle.rules.proofs.Numbers.{encode-one, encode-some}
+use Rattle.rules.proofs.Numbers.{encode-one}
 use Rattle.rules.proofs.Answers.{word, class-fits, frame-fits}
 use Rattle.number.specs.Answer.{answered}
-use Rattle.token.specs.Meaning.{tokenOf, Sized}
-use Rattle.token.specs.declared.Token.{Token}
-use Rattle.request.specs.Body.{maxNumbers, bytes, only, bodies, bodyOf, Holds, Listed}
-use Rattle.request.specs.Answer.{tokenIn, answerOf, Fit, WroteFrame}
-use Rattle.request.specs.declared.class.Fields.{Fields}
+use Rattle.request.specs.Body.{RowOne}
+use Rattle.request.specs.Answer.{tokenIn, answerOf, Fit, Room, WroteFrame}
 use Rattle.request.specs.declared.answer.Answer.{Answer}
 use Rattle.request.specs.declared.answer.Answer.the-variants as answer
-
--- ---- a class's bytes
-
-as-bodies : (t : Rules.Token) → classes t ≡ map bytes (bodies t)
-unfolding classes bodies encodeAll words
-as-bodies t = simp append-nil
-
-class-body : (t : Rules.Token) (class : ℕ) → classBytes t class ≡ bytes (bodyOf t class)
-unfolding classBytes bodyOf encodeAll
-class-body t class =
-    ap (λ (l : List (List ℕ)). getD ([] ∷ l) class []) (as-bodies t) ∙ List·getD-map bytes (only [] ∷ bodies t) class (only [])
-
--- the part of a list from its start
-start : (n : ℕ) (xs : List ℕ) → take (n - 0) (drop 0 xs) ≡ take n xs
-start n xs = ap (λ (k : ℕ). take k xs) {x = n - 0} {y = n} (omega arith)
-
--- ---- what a writer of numbers and plain bytes leaves
-
--- fs and ps are the bytes of a body whose frame fits
-module _ (body fs ps o : List ℕ) (e : encodeAll fs ++ ps ≡ body) (fits : length (frame body) ≤ maxAnswer) (room : maxAnswer ≤ length o) where
-  enough : length (answered fs ps) ≤ length o
-  enough = omega (arith, ap (λ (l : List ℕ). length (frame l)) e)
-
-  framed : (o′ : List ℕ) (r : ℕ) → r ≡ length (answered fs ps) → o′ ≡ answered fs ps ++ drop (length (answered fs ps)) o → WroteFrame body o o′ r
-  framed o′ r n w = record {
-    size = n ∙ ap (λ (l : List ℕ). length (frame l)) e;
-    bytes = w ∙ ap (λ (l : List ℕ). frame l ++ drop (length (frame l)) o) e;
-  }
-
--- ---- a status, a value and zeros
-
-zeros : (k n : ℕ) → length (encodeAll (take k (replicate n 0))) ≤ k
-unfolding encodeAll encode encodeIn
-zeros zero n = omega arith
-zeros (suc k) zero = omega arith
-zeros (suc k) (suc n) = let l = zeros k n in omega arith
-
-short : (count a b : ℕ) → count ≤ reportWords + 1 → a < 2 ^ 64 → b < 2 ^ 64 → length (frame (encodeAll (take count (a ∷ b ∷ replicate (maxNumbers - 2) 0)))) ≤ maxAnswer
-unfolding encodeAll
-short zero a b h ha hb = frame-fits [] (omega arith)
-short (suc zero) a b h ha hb = frame-fits (encode a ++ []) (simp length-append (omega (arith, word a ha)))
-short (suc (suc k)) a b h ha hb =
-    frame-fits (encode a ++ (encode b ++ encodeAll (take k (replicate (maxNumbers - 2) 0))))
-    (simp length-append (omega (arith, word a ha, word b hb, zeros k (maxNumbers - 2))))
-
-module _ (count a b : ℕ) (f : Fields) (h : Holds (take count (a ∷ b ∷ replicate (maxNumbers - 2) 0)) 0 f) (o : List ℕ) (few : count ≤ reportWords + 1) (ha : a < 2 ^ 64) (hb : b < 2 ^ 64) (room : maxAnswer ≤ length o) where
-  abbrev ns : List ℕ
-  ns = take count (a ∷ b ∷ replicate (maxNumbers - 2) 0)
-
-  abbrev fs : List ℕ
-  fs = take (f .count - 0) (drop 0 (f .fields))
-
-  same : encodeAll fs ++ [] ≡ encodeAll ns
-  same = append-nil (encodeAll fs) ∙ ap encodeAll (start (f .count) (f .fields) ∙ h .front)
-
-  pub put-room : length (answered fs []) ≤ length o
-  put-room = enough (encodeAll ns) fs [] o same (short count a b few ha hb) room
-
-  pub put-framed : (o′ : List ℕ) (r : ℕ) → r ≡ length (answered fs []) → o′ ≡ answered fs [] ++ drop (length (answered fs [])) o → WroteFrame (encodeAll ns) o o′ r
-  put-framed = framed (encodeAll ns) fs [] o same (short count a b few ha hb) room
-
--- ---- a class
-
-module _ (t : Token) (class : ℕ) (f : Fields) (h : Listed (bodyOf (tokenOf t) class) (t .dacl) f) where
-  class-bytes : encodeAll (take (f .count) (f .fields)) ++ take (f .plain) (t .dacl) ≡ 0 ∷ classBytes (tokenOf t) class
-  unfolding encodeAll encode encodeIn
-  class-bytes =
-      ap₂ (λ (ns ps : List ℕ). encodeAll ns ++ ps) (h .front) (h .after) ∙ ap (λ (l : List ℕ). 0 ∷ l) (sym (class-body (tokenOf t) class))
-
-  module _ (o : List ℕ) (valid : tokenValid (tokenOf t) ≡ true) (number : t .number < 2 ^ 64) (room : maxAnswer ≤ length o) where
-    abbrev cs : List ℕ
-    cs = take (f .count - 0) (drop 0 (f .fields))
-
-    abbrev ps : List ℕ
-    ps = take (f .plain - 0) (drop 0 (t .dacl))
-
-    same-class : encodeAll cs ++ ps ≡ 0 ∷ classBytes (tokenOf t) class
-    same-class = ap₂ (λ (ns ps : List ℕ). encodeAll ns ++ ps) (start (f .count) (f .fields)) (start (f .plain) (t .dacl)) ∙ class-bytes
-
-    class-short : length (frame (0 ∷ classBytes (tokenOf t) class)) ≤ maxAnswer
-    class-short = frame-fits (0 ∷ classBytes (tokenOf t) class) (omega (arith, class-fits (tokenOf t) number (token-facts (tokenOf t) valid) class))
-
-    pub class-room : length (answered cs ps) ≤ length o
-    class-room = enough (0 ∷ classBytes (tokenOf t) class) cs ps o same-class class-short room
-
-    pub class-framed : (o′ : List ℕ) (r : ℕ) → r ≡ length (answered cs ps) → o′ ≡ answered cs ps ++ drop (length (answered cs ps)) o
-        → WroteFrame (0 ∷ classBytes (tokenOf t) class) o o′ r
-    class-framed = framed (0 ∷ classBytes (tokenOf t) class) cs ps o same-class class-short room
-
-  module _ (z : Sized t) (m : ℕ) (e : m ≡ length (encodeAll (take (f .count - 0) (drop 0 (f .fields))))) where
-    all-counted : m ≡ length (encodeAll (take (f .count) (f .fields)))
-    all-counted = e ∙ ap (λ (ns : List ℕ). length (encodeAll ns)) (start (f .count) (f .fields))
-
-    counted : m + f .plain ≡ suc (length (classBytes (tokenOf t) class))
-    counted =
-        let l = length-take-le (f .plain) (t .dacl) (omega arith) in
-        omega (arith, all-counted, simp length-append at (ap length class-bytes))
-
-    pub status-counted : 1 ≤ m
-    unfolding encodeAll
-    status-counted = omega (arith, all-counted, ap (λ (ns : List ℕ). length (encodeAll ns)) (h .front), length-append (encode 0) (encodeAll (bodyOf (tokenOf t) class .numbers)), encode-some 0)
-
-    pub class-counted : m - 1 + f .plain ≡ length (classBytes (tokenOf t) class)
-    class-counted = omega (arith, counted, status-counted)
-
--- ---- each answer
+use Rattle.request.proofs.ClassBodies.{no-class, dacl-bytes}
 
 -- a status is one byte
 first-byte : (n : ℕ) (ns : List ℕ) → n < 128 → encodeAll (n ∷ ns) ≡ n ∷ encodeAll ns
@@ -140,14 +35,147 @@ with-value : (n v : ℕ) → n < 128 → encodeAll (n ∷ v ∷ []) ≡ n ∷ en
 unfolding encodeAll
 with-value n v h = first-byte n (v ∷ []) h ∙ ap (λ (l : List ℕ). n ∷ l) (append-nil (encode v))
 
+-- the part of a list from its start
+start : (n : ℕ) (xs : List ℕ) → take (n - 0) (drop 0 xs) ≡ take n xs
+start n xs = ap (λ (k : ℕ). take k xs) {x = n - 0} {y = n} (omega arith)
+
+wrote-same : {xs ys o o′ : List ℕ} {r : ℕ} → xs ≡ ys → WroteFrame xs o o′ r → WroteFrame ys o o′ r
+wrote-same {o = o} e w = record {
+  size = w .size ∙ ap (λ (l : List ℕ). length (frame l)) e;
+  bytes = w .bytes ∙ ap (λ (l : List ℕ). frame l ++ drop (length (frame l)) o) e;
+}
+
+-- ---- what a writer of numbers and plain bytes leaves
+
+-- fs and ps are the bytes of a body whose frame fits
+module _ (body fs ps o : List ℕ) (e : encodeAll fs ++ ps ≡ body) (fits : Room body o) where
+  enough : length (answered fs ps) ≤ length o
+  enough = omega (arith, ap (λ (l : List ℕ). length (frame l)) e)
+
+  framed : (o′ : List ℕ) (r : ℕ) → r ≡ length (answered fs ps) → o′ ≡ answered fs ps ++ drop (length (answered fs ps)) o → WroteFrame body o o′ r
+  framed o′ r n w = record {
+    size = n ∙ ap (λ (l : List ℕ). length (frame l)) e;
+    bytes = w ∙ ap (λ (l : List ℕ). frame l ++ drop (length (frame l)) o) e;
+  }
+
+-- numbers alone: a whole array, or its start
+module _ (ns o : List ℕ) (fits : Room (encodeAll ns) o) where
+  pub whole-room : length (answered ns []) ≤ length o
+  whole-room = enough (encodeAll ns) ns [] o (append-nil (encodeAll ns)) fits
+
+  pub whole-framed : (o′ : List ℕ) (r : ℕ) → r ≡ length (answered ns []) → o′ ≡ answered ns [] ++ drop (length (answered ns [])) o → WroteFrame (encodeAll ns) o o′ r
+  whole-framed = framed (encodeAll ns) ns [] o (append-nil (encodeAll ns)) fits
+
+module _ (n : ℕ) (xs ns o : List ℕ) (e : take n xs ≡ ns) (fits : Room (encodeAll ns) o) where
+  abbrev fs : List ℕ
+  fs = take (n - 0) (drop 0 xs)
+
+  same : encodeAll fs ++ [] ≡ encodeAll ns
+  same = append-nil (encodeAll fs) ∙ ap encodeAll (start n xs ∙ e)
+
+  pub numbers-room : length (answered fs []) ≤ length o
+  numbers-room = enough (encodeAll ns) fs [] o same fits
+
+  pub numbers-framed : (o′ : List ℕ) (r : ℕ) → r ≡ length (answered fs []) → o′ ≡ answered fs [] ++ drop (length (answered fs [])) o → WroteFrame (encodeAll ns) o o′ r
+  numbers-framed = framed (encodeAll ns) fs [] o same fits
+
+-- ---- a status and a value
+
+short : (count a b : ℕ) → count ≤ 2 → a < 2 ^ 64 → b < 2 ^ 64 → length (frame (encodeAll (take count (a ∷ b ∷ [])))) ≤ maxAnswer
+unfolding encodeAll
+short zero a b h ha hb = frame-fits [] (omega arith)
+short (suc zero) a b h ha hb = frame-fits (encode a ++ []) (simp length-append (omega (arith, word a ha)))
+short (suc (suc zero)) a b h ha hb = frame-fits (encode a ++ (encode b ++ [])) (simp length-append (omega (arith, word a ha, word b hb)))
+short (suc (suc (suc k))) a b h ha hb = absurd (omega arith)
+
+module _ (count a b : ℕ) (o : List ℕ) (few : count ≤ 2) (ha : a < 2 ^ 64) (hb : b < 2 ^ 64) (room : maxAnswer ≤ length o) where
+  fits-two : length (frame (encodeAll (take count (a ∷ b ∷ [])))) ≤ length o
+  fits-two = let l = short count a b few ha hb in omega arith
+
+  pub put-room : length (answered (take (count - 0) (a ∷ b ∷ [])) []) ≤ length o
+  put-room = numbers-room count (a ∷ b ∷ []) (take count (a ∷ b ∷ [])) o refl fits-two
+
+  pub put-framed : (o′ : List ℕ) (r : ℕ) → r ≡ length (answered (take (count - 0) (a ∷ b ∷ [])) [])
+      → o′ ≡ answered (take (count - 0) (a ∷ b ∷ [])) [] ++ drop (length (answered (take (count - 0) (a ∷ b ∷ [])) [])) o
+      → WroteFrame (encodeAll (take count (a ∷ b ∷ []))) o o′ r
+  put-framed = numbers-framed count (a ∷ b ∷ []) (take count (a ∷ b ∷ [])) o refl fits-two
+
+-- ---- the report
+
+zeros : (n : ℕ) → length (encodeAll (replicate n 0)) ≡ n
+unfolding encodeAll encode encodeIn
+zeros zero = refl
+zeros (suc n) = ap suc (zeros n)
+
+pub report-fits : (w : ℕ) (o : List ℕ) → w < 2 ^ 64 → maxAnswer ≤ length o → Room (encodeAll (0 ∷ w ∷ replicate (reportWords - 1) 0)) o
+unfolding encodeAll
+report-fits w o hw room =
+    let l = frame-fits (encode 0 ++ (encode w ++ encodeAll (replicate (reportWords - 1) 0)))
+    (simp length-append (omega (arith, word 0 (omega arith), word w hw, zeros (reportWords - 1)))) in
+    omega arith
+
+-- ---- a class of a row
+
+module _ (ws bs o : List ℕ) (class k : ℕ) (ns : List ℕ) (e : class ≡ k) (b : classBytes (tokenAt ws bs) k ≡ encodeAll ns) where
+  as-class : encodeAll (0 ∷ ns) ≡ 0 ∷ classBytes (tokenAt ws bs) class
+  as-class = first-byte 0 ns (omega arith) ∙ ap (λ (l : List ℕ). 0 ∷ l) (sym (ap (classBytes (tokenAt ws bs)) e ∙ b))
+
+  pub class-fits-in : Room (0 ∷ classBytes (tokenAt ws bs) class) o → Room (encodeAll (0 ∷ ns)) o
+  class-fits-in h = omega (arith, ap (λ (l : List ℕ). length (frame l)) as-class)
+
+  pub class-wrote : {o′ : List ℕ} {r : ℕ} → WroteFrame (encodeAll (0 ∷ ns)) o o′ r → WroteFrame (0 ∷ classBytes (tokenAt ws bs) class) o o′ r
+  class-wrote w = wrote-same as-class w
+
+module _ (ws bs o : List ℕ) (class : ℕ) where
+  pub one-wrote : {m : ℕ} {o′ : List ℕ} {r : ℕ} → RowOne ws class m → WroteFrame (encodeAll (0 ∷ m ∷ [])) o o′ r
+      → WroteFrame (0 ∷ classBytes (tokenAt ws bs) class) o o′ r
+  one-wrote {m} h w = wrote-same (with-value 0 m (omega arith) ∙ ap (λ (l : List ℕ). 0 ∷ l) (sym (h .bytes bs))) w
+
+  pub none-wrote : {o′ : List ℕ} {r : ℕ} → not (leb 1 class && leb class 13) ≡ true → WroteFrame (encodeAll (0 ∷ [])) o o′ r
+      → WroteFrame (0 ∷ classBytes (tokenAt ws bs) class) o o′ r
+  unfolding encodeAll
+  none-wrote u w = wrote-same (first-byte 0 [] (omega arith) ∙ ap (λ (l : List ℕ). 0 ∷ l) (sym (no-class ws bs class u))) w
+
+  pub dacl-fits-in : class ≡ 6 → Room (0 ∷ classBytes (tokenAt ws bs) class) o → Room (0 ∷ classBytes (tokenAt ws bs) 6) o
+  dacl-fits-in e h = rw e at h
+
+  pub dacl-wrote : {o′ : List ℕ} {r : ℕ} → class ≡ 6 → WroteFrame (0 ∷ classBytes (tokenAt ws bs) 6) o o′ r
+      → WroteFrame (0 ∷ classBytes (tokenAt ws bs) class) o o′ r
+  dacl-wrote e w = wrote-same (ap (λ (k : ℕ). 0 ∷ classBytes (tokenAt ws bs) k) (sym e)) w
+
+-- the DACL: its count, and then its bytes
+module _ (ws bs o : List ℕ) (n : ℕ) (l : length bs ≡ maxDacl) (c : n ≡ min (getD ws 19 0) maxDacl) (fits : Room (0 ∷ classBytes (tokenAt ws bs) 6) o) where
+  abbrev ps : List ℕ
+  ps = take (n - 0) (drop 0 bs)
+
+  same-dacl : encodeAll (0 ∷ n ∷ []) ++ ps ≡ 0 ∷ classBytes (tokenAt ws bs) 6
+  same-dacl =
+      ap₂ _++_ (with-value 0 n (omega arith)) (start n bs) ∙ ap (λ (l : List ℕ). 0 ∷ l) (dacl-bytes ws bs n l c)
+
+  pub dacl-room : length (answered (0 ∷ n ∷ []) ps) ≤ length o
+  dacl-room = enough (0 ∷ classBytes (tokenAt ws bs) 6) (0 ∷ n ∷ []) ps o same-dacl fits
+
+  pub dacl-framed : (o′ : List ℕ) (r : ℕ) → r ≡ length (answered (0 ∷ n ∷ []) ps) → o′ ≡ answered (0 ∷ n ∷ []) ps ++ drop (length (answered (0 ∷ n ∷ []) ps)) o
+      → WroteFrame (0 ∷ classBytes (tokenAt ws bs) 6) o o′ r
+  dacl-framed = framed (0 ∷ classBytes (tokenAt ws bs) 6) (0 ∷ n ∷ []) ps o same-dacl fits
+
+-- the row in a slot, of words that are below 2^64
+module _ (ts ds o : List ℕ) (slot class : ℕ) (below : (i : ℕ) → getD ts i 0 < 2 ^ 64) where
+  pub class-room : tokenValid (tokenIn ts ds slot) ≡ true → maxAnswer ≤ length o
+      → Room (0 ∷ classBytes (tokenAt (take (slot * tokenWords + tokenWords - slot * tokenWords) (drop (slot * tokenWords) ts)) (take (slot * maxDacl + maxDacl - slot * maxDacl) (drop (slot * maxDacl) ds))) class) o
+  unfolding tokenAt record-at
+  class-room v room =
+      let t = tokenIn ts ds slot in
+      let number : t .number < 2 ^ 64 =
+      rw (getD-take tokenWords (drop (slot * tokenWords) ts) 0 0 (omega arith) ∙ getD-drop (slot * tokenWords) ts 0 0) (below (slot * tokenWords + 0)) in
+      let l = frame-fits (0 ∷ classBytes t class) (omega (arith, class-fits t number (token-facts t v) class)) in
+      rw (part-at tokenWords slot ts, part-at maxDacl slot ds) (omega arith)
+
+-- ---- each answer
+
 module _ (ws bs : List ℕ) (a : Answer) (o o′ : List ℕ) (r : ℕ) where
   meant : (x : Answer) (xs : List ℕ) → a ≡ x → WroteFrame xs o o′ r → xs ≡ answerOf ws bs x → WroteFrame (answerOf ws bs a) o o′ r
-  meant x xs e w b =
-      let same = b ∙ ap (answerOf ws bs) (sym e) in
-      record {
-        size = w .size ∙ ap (λ (l : List ℕ). length (frame l)) same;
-        bytes = w .bytes ∙ ap (λ (l : List ℕ). frame l ++ drop (length (frame l)) o) same;
-      }
+  meant x xs e w b = wrote-same (b ∙ ap (answerOf ws bs) (sym e)) w
 
   pub refused : (n : ℕ) → a ≡ answer.Refused n → Fit ws bs a → WroteFrame (encodeAll (n ∷ [])) o o′ r → WroteFrame (answerOf ws bs a) o o′ r
   unfolding encodeAll
@@ -166,13 +194,12 @@ module _ (ws bs : List ℕ) (a : Answer) (o o′ : List ℕ) (r : ℕ) where
   pub report : (w : ℕ) → a ≡ answer.Report w → WroteFrame (encodeAll (0 ∷ w ∷ replicate (reportWords - 1) 0)) o o′ r → WroteFrame (answerOf ws bs a) o o′ r
   report v e w = meant (answer.Report v) (encodeAll (0 ∷ v ∷ replicate (reportWords - 1) 0)) e w (first-byte 0 (v ∷ replicate (reportWords - 1) 0) (omega arith))
 
-  module _ (slot class : ℕ) (e : a ≡ answer.Class slot class) where
-    pub of-class : (t : Rules.Token) → t ≡ tokenIn ws bs slot → WroteFrame (0 ∷ classBytes t class) o o′ r → WroteFrame (answerOf ws bs a) o o′ r
-    of-class t q w = meant (answer.Class slot class) (0 ∷ classBytes t class) e w (ap (λ (x : Rules.Token). 0 ∷ classBytes x class) q)
+  pub of-class : (slot class : ℕ) → a ≡ answer.Class slot class → WroteFrame (0 ∷ classBytes (tokenIn ws bs slot) class) o o′ r → WroteFrame (answerOf ws bs a) o o′ r
+  of-class slot class e w = meant (answer.Class slot class) (0 ∷ classBytes (tokenIn ws bs slot) class) e w refl
 
 module _ (ws bs : List ℕ) (a : Answer) (slot class : ℕ) (e : a ≡ answer.Class slot class) (fit : Fit ws bs a) where
   pub slot-fits : slot < tokenSlots
   slot-fits = (rw e at fit) .0
 
-  pub token-fits : (t : Rules.Token) → t ≡ tokenIn ws bs slot → tokenValid t ≡ true
-  token-fits t q = ap tokenValid q ∙ (rw e at fit) .1
+  pub token-fits : tokenValid (tokenIn ws bs slot) ≡ true
+  token-fits = (rw e at fit) .1

@@ -1,15 +1,19 @@
--- Bytes that are read one by one are a part of the list. Assumes nothing.
-use Prim.Native.Nat.{ℕ, zero, suc, _+_, _≤_, _<_}
-use native.Mathlib.Numerals.{add-one}
+-- Bytes of a body that are written as a DACL. Assumes nothing.
+use Prim.Native.Nat.{ℕ, zero, suc, _+_, _-_, _≤_}
+use native.Mathlib.Nat.{add-sub-cancel-left}
 use native.Mathlib.Omega.{arith}
-use mathlib.Core.Path.{_≡_, refl, sym, ap, ap₂, _∙_}
-use mathlib.Core.List.{List, [], _∷_, _++_}
-use lib.ListN.{length, take, drop, getD, set, length-drop}
-use lib.Seq.{getD-drop, take-suc, take-suc-set}
+use mathlib.Core.Path.{_≡_, refl, sym, ap, _∙_, subst}
+use mathlib.Core.List.{List, [], _∷_, _++_, append-nil}
+use lib.ListN.{length, take, drop, set, replicate, length-drop, drop-of-length-le}
+use lib.Seq.{take-at, drop-at}
+use Rattle.table.specs.Lists.{pad, pad-fits}
 use Rattle.rules.specs.Number.{Read, got, bad}
 use Rattle.rules.specs.Request.{follow, give, times, byte}
-use Rattle.rules.specs.Token.{maxDacl}
+use Rattle.rules.specs.Token.{maxDacl, withDefaults}
+use Rattle.rules.specs.Memory.{head, tokenRow, daclRow}
+use Rattle.request.specs.Bytes.{DaclWritten}
 use Rattle.request.specs.Layout.{valuesAt, There}
+use Rattle.request.proofs.Pairs.{Long, times-long}
 
 -- as many bytes as there are, or not so many
 abbrev Part : ℕ → List ℕ → Read (List ℕ) → Type 0
@@ -38,15 +42,31 @@ module _ (s : List ℕ) (at size : ℕ) (h : There byte s at size []) where
   pub bytes-there : at ≤ length s → at + size ≤ length s
   bytes-there l = omega (arith, part .1, length-drop at s)
 
--- ---- a loop that copies size bytes: the first i are copied
+  -- as many bytes as there are
+  pub there-long : length (valuesAt byte s at size) ≡ size
+  there-long = subst (Long byte size) h (times-long byte size (drop at s))
 
-module _ (s out : List ℕ) (at size i : ℕ) (e : take i out ≡ take i (drop at s)) where
-  pub copied-more : i < size → at + size ≤ length s → length out ≡ maxDacl → size ≤ maxDacl → take (i + 1) (set out i (getD s (at + i) 0)) ≡ take (i + 1) (drop at s)
-  copied-more h k l m =
-      rw (add-one i)
-      (take-suc-set out i (getD s (at + i) 0) (omega arith)
-      ∙ ap₂ (λ (xs : List ℕ) (v : ℕ). xs ++ (v ∷ [])) e (sym (getD-drop at s i 0))
-      ∙ sym (take-suc (drop at s) i 0 (omega (arith, length-drop at s))))
+  pub bytes-written : {ws bs : List ℕ} → bs ≡ pad maxDacl (take (at + size - at) (drop at s)) → DaclWritten (valuesAt byte s at size) ws (set ws 19 size) bs
+  unfolding tokenRow head daclRow withDefaults
+  bytes-written {ws} e = record {
+    row = record { row = λ t k. ap (set ws 19) (sym there-long) ∙ ap (λ (l : List ℕ). set l 19 (length (valuesAt byte s at size))) k };
+    dacl = λ t. e ∙ ap (λ (n : ℕ). pad maxDacl (take n (drop at s))) (add-sub-cancel-left at size) ∙ ap (pad maxDacl) (sym (part .0));
+  }
 
-  pub copied-all : i ≤ size → size ≤ i → There byte s at size [] → take size out ≡ valuesAt byte s at size
-  copied-all h k f = let j : size ≡ i = omega arith in ap (λ (n : ℕ). take n out) j ∙ e ∙ ap (λ (n : ℕ). take n (drop at s)) (sym j) ∙ sym (part s at size f .0)
+-- ---- a row written in two parts: the bytes, and then zeros
+
+abbrev then-from : ℕ → ℕ → List ℕ → List ℕ → List ℕ
+then-from n k zs out = take n out ++ (zs ++ drop (k - n) (drop n out))
+
+pub two-parts : {xs ys zs : List ℕ} (out : List ℕ) → length out ≡ maxDacl → length xs ≤ maxDacl → ys ≡ xs → zs ≡ replicate (maxDacl - length xs) 0
+    → then-from (length xs) maxDacl zs (take 0 out ++ (ys ++ drop (length xs - 0) (drop 0 out))) ≡ pad maxDacl xs
+two-parts {xs} {ys} {zs} out l h e z =
+    let n = length xs in
+    let rest : List ℕ = drop (n - 0) out in
+    ap (λ (b : List ℕ). then-from n maxDacl zs (b ++ rest)) e
+    ∙ ap (λ (b : List ℕ). then-from n maxDacl b (xs ++ rest)) z
+    ∙ ap (λ (b : List ℕ). b ++ (replicate (maxDacl - n) 0 ++ drop (maxDacl - n) (drop n (xs ++ rest)))) (take-at xs rest n refl)
+    ∙ ap (λ (b : List ℕ). xs ++ (replicate (maxDacl - n) 0 ++ drop (maxDacl - n) b)) (drop-at xs rest n refl)
+    ∙ ap (λ (b : List ℕ). xs ++ (replicate (maxDacl - n) 0 ++ b)) (drop-of-length-le rest {i = maxDacl - n} (simp length-drop (omega arith)))
+    ∙ ap (λ (b : List ℕ). xs ++ b) (append-nil (replicate (maxDacl - n) 0))
+    ∙ sym (pad-fits maxDacl xs h)

@@ -1,160 +1,73 @@
--- Numbers that are stored one after the other: a class's. Assumes nothing.
-use Prim.Native.Nat.{ℕ, zero, suc, _+_, _-_, _*_, _≤_, _<_, zero-le}
-use native.Mathlib.Nat.{le-of-suc-le-suc, not-suc-le-zero}
-use native.Mathlib.Numerals.{add-one}
+-- The classes of a row: each number is the token's. Assumes nothing.
+use Prim.Native.Nat.{ℕ, zero, suc, _+_, _-_, _%_, _≤_, _<_, min}
 use native.Mathlib.Omega.{arith}
-use mathlib.Core.Path.{_≡_, refl, sym, ap, _∙_}
+use mathlib.Core.Path.{_≡_, refl, sym, ap, ap₂, _∙_}
+use mathlib.Core.Bool.{true, false, not, _&&_}
 use mathlib.Core.List.{List, [], _∷_, _++_, map}
-use lib.ListN.{length, take, getD, set, replicate, length-set, length-map, List·getD-eq-default}
-use lib.Seq.{take-suc, take-suc-set, take-all, length-take-le}
-use Rattle.table.specs.Lists.{named, named-take}
-use Rattle.rules.specs.Group.{noGroup}
-use Rattle.rules.specs.Group as Rules
-use Rattle.rules.specs.Token.{sidAt, maxGroups, maxRestricting}
-use Rattle.rules.specs.Query.{pairs}
-use Rattle.token.specs.Meaning.{groupOf, tokenOf, Sized}
-use Rattle.token.specs.declared.Group.{Group}
-use Rattle.token.specs.declared.Token.{Token}
-use Rattle.request.specs.Body.{maxNumbers, Body, only, bodies, bodyOf, Holds, Listed}
-use Rattle.request.specs.declared.class.Fields.{Fields}
-use Rattle.request.proofs.Switching.{in-groups}
+use lib.Dec.{leb}
+use lib.ListN.{length, take, drop, getD, length-append, length-drop, length-map, List·getD-map, List·getD-eq-default}
+use lib.Seq.{take-take, getD-take, getD-drop, length-take-le}
+use borrow.Author.Tests.{leb-true, leb-false, le-leb, not-true, not-false}
+use Rattle.table.specs.Lists.{take-least, named-take}
+use Rattle.rules.specs.Number.{encode, encodeAll}
+use Rattle.rules.specs.Group.{Group, noGroup}
+use Rattle.rules.specs.Token.{sidAt, maxGroups, maxDacl}
+use Rattle.rules.specs.Query.{words, classes, classBytes}
+use Rattle.rules.specs.Memory.{word32, headWords, tokenWords, unpack, identityAt, privilegesAt, groupsAt, defaultsAt, tokenAt}
+use Rattle.rules.proofs.Logic.{and-l, and-r}
+use Rattle.request.specs.Body.{privilegeWords, IsOne, RowSid, RowOne, RowCounted}
 
--- five numbers and then zeros
-pub five : (count : ℕ) (first : List ℕ) → length first ≡ 5 → count ≤ maxNumbers
-    → Holds (take count (first ++ replicate (maxNumbers - 5) 0)) 0 (record { count = count; fields = named 5 0 first ++ replicate (maxNumbers - 5) 0; plain = 0 })
-five count first l h = record {
-  long = refl;
-  within = h;
-  front = ap (λ (xs : List ℕ). take count (xs ++ replicate (maxNumbers - 5) 0)) (named-take 5 0 first (omega arith) ∙ take-all 5 first (omega arith));
-  after = refl;
-}
+-- ---- the groups that the row's count leaves
 
--- ---- loops: a list is written from the front
+module _ (ws : List ℕ) (n : ℕ) (l : length ws ≡ tokenWords) (e : n ≡ min (getD ws 17 0) maxGroups) where
+  pub groups-cut : groupsAt ws ≡ map unpack (take n (drop headWords ws))
+  unfolding groupsAt
+  groups-cut =
+      let gs = take maxGroups (drop headWords ws) in
+      let long : length gs ≡ maxGroups = length-take-le maxGroups (drop headWords ws) (simp length-drop (omega arith)) in
+      ap (map unpack) (sym (take-least (getD ws 17 0) maxGroups gs long) ∙ ap (λ (k : ℕ). take k gs) (sym e) ∙ take-take n maxGroups (drop headWords ws) (omega arith))
 
--- its first k elements are xs
-record Written (k : ℕ) (xs out : List ℕ) : Type 0 where
-  long : length out ≡ maxNumbers
-  front : take k out ≡ xs
+  pub groups-counted : length (groupsAt ws) ≡ n
+  groups-counted =
+      ap length groups-cut ∙ length-map (take n (drop headWords ws)) unpack ∙ length-take-le n (drop headWords ws) (simp length-drop (omega arith))
 
-next : {k : ℕ} {xs out : List ℕ} (v : ℕ) → Written k xs out → k < maxNumbers → Written (suc k) (xs ++ (v ∷ [])) (set out k v)
-next {k} {xs} {out} v w h = record {
-  long = length-set out k v ∙ w .long;
-  front = take-suc-set out k v (omega arith) ∙ ap (λ (l : List ℕ). l ++ (v ∷ [])) (w .front);
-}
+-- ---- the DACL that the row's count leaves
 
--- the success, the count n and i restricting SIDs
-pub record Sids (n : ℕ) (sids out : List ℕ) (i : ℕ) : Type 0 where
-  pub within : i ≤ n
-  pub room : n ≤ maxRestricting
-  pub source : length sids ≡ maxRestricting
-  written : Written (i + 2) (0 ∷ n ∷ take i sids) out
-
-pub no-sids : (n : ℕ) (sids : List ℕ) → n ≤ maxRestricting → length sids ≡ maxRestricting → Sids n sids (0 ∷ n ∷ replicate 128 0) 0
-no-sids n sids h l = record { within = zero-le; room = h; source = l; written = record { long = refl; front = refl } }
-
-module _ (n : ℕ) (sids out : List ℕ) (i : ℕ) (s : Sids n sids out i) where
-  pub more-sids : i < n → Sids n sids (set out (i + 2) (getD sids i 0)) (i + 1)
-  more-sids h =
-      let w = next (getD sids i 0) (s .written) (omega arith) in
-      record {
-        within = omega arith;
-        room = s .room;
-        source = s .source;
-        written = record {
-          long = w .long;
-          front =
-              ap (λ (j : ℕ). take j (set out (i + 2) (getD sids i 0))) {x = i + 1 + 2} {y = suc (i + 2)} (omega arith)
-              ∙ w .front
-              ∙ ap (λ (xs : List ℕ). 0 ∷ n ∷ xs) (sym (ap (λ (j : ℕ). take j sids) (add-one i) ∙ take-suc sids i 0 (omega arith)));
-        };
-      }
-
-  pub all-sids : n ≤ i → Holds (0 ∷ length (take n sids) ∷ take n sids) 0 (record { count = n + 2; fields = out; plain = 0 })
-  all-sids h = record {
-    long = s .written .long;
-    within = omega arith;
-    front =
-        ap (λ (j : ℕ). take (j + 2) out) {x = n} {y = i} (omega arith)
-        ∙ s .written .front
-        ∙ ap (λ (j : ℕ). 0 ∷ n ∷ take j sids) {x = i} {y = n} (omega arith)
-        ∙ ap (λ (j : ℕ). 0 ∷ j ∷ take n sids) (sym (length-take-le n sids (omega arith)));
-    after = refl;
-  }
-
--- the success, the count n and i groups
-pub record Groups (n : ℕ) (gs : List Group) (out : List ℕ) (i : ℕ) : Type 0 where
-  pub within : i ≤ n
-  pub room : n ≤ maxGroups
-  pub source : length gs ≡ maxGroups
-  written : Written (2 * i + 2) (0 ∷ n ∷ pairs (map groupOf (take i gs))) out
-
-pub no-groups : (n : ℕ) (gs : List Group) → n ≤ maxGroups → length gs ≡ maxGroups → Groups n gs (0 ∷ n ∷ replicate 128 0) 0
-unfolding pairs
-no-groups n gs h l = record { within = zero-le; room = h; source = l; written = record { long = refl; front = refl } }
-
-pairs-next : (gs : List Group) (i : ℕ) (z : Group) → i < length gs
-    → pairs (map groupOf (take (suc i) gs)) ≡ (pairs (map groupOf (take i gs)) ++ (getD gs i z .sid ∷ [])) ++ (getD gs i z .attributes ∷ [])
-unfolding pairs
-pairs-next [] i z h = absurd (not-suc-le-zero h)
-pairs-next (g ∷ gs) zero z h = refl
-pairs-next (g ∷ gs) (suc i) z h = ap (λ (xs : List ℕ). g .sid ∷ g .attributes ∷ xs) (pairs-next gs i z (le-of-suc-le-suc h))
-
-module _ (n : ℕ) (gs : List Group) (out : List ℕ) (i : ℕ) (s : Groups n gs out i) where
-  pub more-groups : (z : Group) → i < n → Groups n gs (set (set out (2 * i + 2) (getD gs i z .sid)) (2 * i + 3) (getD gs i z .attributes)) (i + 1)
-  more-groups z h =
-      let g = getD gs i z in
-      let w = next (g .attributes) (next (g .sid) (s .written) (omega arith)) (omega arith) in
-      let there = ap (λ (j : ℕ). set (set out (2 * i + 2) (g .sid)) j (g .attributes)) {x = 2 * i + 3} {y = suc (2 * i + 2)} (omega arith) in
-      record {
-        within = omega arith;
-        room = s .room;
-        source = s .source;
-        written = record {
-          long = ap length there ∙ w .long;
-          front =
-              ap (take (2 * (i + 1) + 2)) there
-              ∙ ap (λ (j : ℕ). take j (set (set out (2 * i + 2) (g .sid)) (suc (2 * i + 2)) (g .attributes))) {x = 2 * (i + 1) + 2} {y = suc (suc (2 * i + 2))} (omega arith)
-              ∙ w .front
-              ∙ ap (λ (xs : List ℕ). 0 ∷ n ∷ xs) (sym (ap (λ (j : ℕ). pairs (map groupOf (take j gs))) (add-one i) ∙ pairs-next gs i z (omega arith)));
-        };
-      }
-
-  pub all-groups : n ≤ i
-      → Holds (0 ∷ length (map groupOf (take n gs)) ∷ pairs (map groupOf (take n gs))) 0 (record { count = 2 * n + 2; fields = out; plain = 0 })
-  all-groups h = record {
-    long = s .written .long;
-    within = omega arith;
-    front =
-        ap (λ (j : ℕ). take (2 * j + 2) out) {x = n} {y = i} (omega arith)
-        ∙ s .written .front
-        ∙ ap (λ (j : ℕ). 0 ∷ n ∷ pairs (map groupOf (take j gs))) {x = i} {y = n} (omega arith)
-        ∙ ap (λ (j : ℕ). 0 ∷ j ∷ pairs (map groupOf (take n gs))) (sym (length-map (take n gs) groupOf ∙ length-take-le n gs (omega arith)));
-    after = refl;
-  }
+pub dacl-bytes : (ws bs : List ℕ) (n : ℕ) → length bs ≡ maxDacl → n ≡ min (getD ws 19 0) maxDacl
+    → encode n ++ take n bs ≡ classBytes (tokenAt ws bs) 6
+unfolding classBytes classes tokenAt defaultsAt
+dacl-bytes ws bs n l c =
+    let cut : take n bs ≡ take (getD ws 19 0) bs = ap (λ (k : ℕ). take k bs) c ∙ take-least (getD ws 19 0) maxDacl bs l in
+    let long : length (take (getD ws 19 0) bs) ≡ n = ap length (sym cut) ∙ length-take-le n bs (omega arith) in
+    ap₂ (λ (k : ℕ) (xs : List ℕ). encode k ++ xs) (sym long) cut
 
 -- ---- the SID of an index
 
-module _ (t : Token) (index : ℕ) (s : Sized t) where
-  pub user-sid : index ≡ 0 → t .identity .user ≡ sidAt (tokenOf t) index
-  unfolding sidAt
-  user-sid e = ap (sidAt (tokenOf t)) (sym e)
+module _ (ws : List ℕ) (index : ℕ) where
+  pub user-sid : index ≡ 0 → RowSid ws index (getD ws 3 0 % word32)
+  unfolding sidAt tokenAt identityAt
+  user-sid e = record { sid = λ bs. ap (sidAt (tokenAt ws bs)) (sym e) }
 
   -- past the user
-  later : 0 < index → getD (map groupOf (take (t .«group_count») (t .groups))) (index - 1) noGroup .sid ≡ sidAt (tokenOf t) index
-  unfolding sidAt
-  later h = ap (sidAt (tokenOf t)) {x = suc (index - 1)} {y = index} (omega arith)
+  later : 0 < index → {r : ℕ} → r ≡ getD (groupsAt ws) (index - 1) noGroup .sid → RowSid ws index r
+  unfolding sidAt tokenAt
+  later h e = record { sid = λ bs. e ∙ ap (sidAt (tokenAt ws bs)) {x = suc (index - 1)} {y = index} (omega arith) }
 
-  pub no-sid : t .«group_count» < index → 0 ≡ sidAt (tokenOf t) index
-  unfolding noGroup
-  no-sid h =
-      let l = length-map (take (t .«group_count») (t .groups)) groupOf in
-      let k = length-take-le (t .«group_count») (t .groups) (omega arith) in
-      sym (ap (λ (g : Rules.Group). g .sid) (List·getD-eq-default (map groupOf (take (t .«group_count») (t .groups))) noGroup (omega arith)))
-      ∙ later (omega arith)
+  module _ (n : ℕ) (l : length ws ≡ tokenWords) (e : n ≡ min (getD ws 17 0) maxGroups) where
+    pub no-sid : n < index → RowSid ws index 0
+    unfolding noGroup
+    no-sid h =
+        later (omega arith)
+        (sym (ap (λ (g : Group). g .sid) (List·getD-eq-default (groupsAt ws) noGroup (omega (arith, groups-counted ws n l e)))))
 
-  pub group-sid : (z : Group) → (index ≡ 0 → ⊥) → index ≤ t .«group_count» → getD (t .groups) (index - 1) z .sid ≡ sidAt (tokenOf t) index
-  group-sid z u h =
-      ap (λ (g : Rules.Group). g .sid) (sym (in-groups (t .«group_count») (index - 1) (t .groups) z (omega arith) (omega arith))) ∙ later (omega arith)
+    pub group-sid : (index ≡ 0 → ⊥) → index ≤ n → RowSid ws index (getD ws (19 + index) 0 % word32)
+    unfolding unpack noGroup
+    group-sid u h =
+        later (omega arith)
+        (ap (λ (k : ℕ). getD ws k 0 % word32) {x = 19 + index} {y = headWords + (index - 1)} (omega arith)
+        ∙ ap (λ (w : ℕ). w % word32) (sym (getD-take n (drop headWords ws) (index - 1) 0 (omega arith) ∙ getD-drop headWords ws (index - 1) 0))
+        ∙ ap (λ (g : Group). g .sid) (sym (List·getD-map unpack (take n (drop headWords ws)) (index - 1) 0))
+        ∙ ap (λ (gs : List Group). getD gs (index - 1) noGroup .sid) (sym (groups-cut ws n l e)))
 
 -- ---- the classes
 
@@ -167,40 +80,70 @@ pub above : (n k : ℕ) → Apart n k → 1 ≤ k → n < k
 above zero k a h = h
 above (suc n) k a h = let l = above n k (a .0) h in let u = a .1 in omega arith
 
-module _ (t : Token) (class : ℕ) (r : Fields) where
-  -- numbers alone
-  pub listed : (k : ℕ) (ns : List ℕ) → class ≡ k → Holds (0 ∷ ns) 0 r → bodyOf (tokenOf t) k ≡ only ns → Listed (bodyOf (tokenOf t) class) (t .dacl) r
-  listed k ns e h b =
-      let same = ap (bodyOf (tokenOf t)) e ∙ b in
-      record {
-        long = h .long;
-        within = h .within;
-        front = h .front ∙ ap (λ (x : Body). 0 ∷ x .numbers) (sym same);
-        inside = omega arith;
-        after = ap (λ (n : ℕ). take n (t .dacl)) (h .after) ∙ ap (λ (x : Body). x .plain) (sym same);
-      }
+-- k is none of the classes of one number but 13
+abbrev pub NotOne : ℕ → Type 0
+NotOne k = (k ≡ 1 → ⊥) × (k ≡ 4 → ⊥) × (k ≡ 5 → ⊥) × (k ≡ 7 → ⊥) × (k ≡ 8 → ⊥) × (k ≡ 11 → ⊥) × (k ≡ 12 → ⊥)
+
+last-one : (k : ℕ) → IsOne k → NotOne k → k ≡ 13
+last-one k n (a, b, c, d, e, f, g) =
+    let u : Apart 12 k = ((((((((((((tt, a), n .not-groups), n .not-privileges), b), c), n .not-dacl), d), e), n .not-statistics), n .not-sids), f), g) in
+    let l = above 12 k u (n .low) in
+    let h = n .high in
+    omega arith
+
+module _ {ws : List ℕ} {class r : ℕ} where
+  pub one : (k : ℕ) → class ≡ k → ((bs : List ℕ) → classBytes (tokenAt ws bs) k ≡ encode r) → RowOne ws class r
+  one k e b = record { bytes = λ bs. ap (classBytes (tokenAt ws bs)) e ∙ b bs }
 
   -- a SID that was looked up
-  pub listed-sid : (k m n : ℕ) → class ≡ k → Holds (0 ∷ m ∷ []) 0 r → m ≡ n → bodyOf (tokenOf t) k ≡ only (n ∷ []) → Listed (bodyOf (tokenOf t) class) (t .dacl) r
-  listed-sid k m n e h q b = listed k (m ∷ []) e h (b ∙ ap (λ (j : ℕ). only (j ∷ [])) (sym q))
+  pub one-sid : (k index : ℕ) → class ≡ k → RowSid ws index r → ((bs : List ℕ) → classBytes (tokenAt ws bs) k ≡ encode (sidAt (tokenAt ws bs) index))
+      → RowOne ws class r
+  one-sid k index e q b = one k e (λ bs. b bs ∙ ap encode (sym (q .sid bs)))
 
-  pub listed-none : Holds (0 ∷ []) 0 r → Apart 13 class → Listed (bodyOf (tokenOf t) class) (t .dacl) r
-  unfolding bodyOf bodies
-  listed-none h u = listed class [] refl h (none class u)
-    where
-      none : (k : ℕ) → Apart 13 k → bodyOf (tokenOf t) k ≡ only []
-      none zero u = refl
-      none (suc k) u = List·getD-eq-default (only [] ∷ bodies (tokenOf t)) (only []) (above 13 (suc k) u (omega arith))
+  pub one-last : IsOne class → NotOne class → ((bs : List ℕ) → classBytes (tokenAt ws bs) 13 ≡ encode r) → RowOne ws class r
+  one-last n u b = one 13 (last-one class n u) b
 
-  pub listed-dacl : Sized t → class ≡ 6 → Holds (0 ∷ t .«dacl_count» ∷ []) (t .«dacl_count») r → Listed (bodyOf (tokenOf t) class) (t .dacl) r
-  unfolding bodyOf bodies
-  listed-dacl s e h = record {
-    long = h .long;
-    within = h .within;
-    front =
-        h .front
-        ∙ ap (λ (n : ℕ). 0 ∷ n ∷ []) (sym (length-take-le (t .«dacl_count») (t .dacl) (omega arith)))
-        ∙ ap (λ (k : ℕ). 0 ∷ bodyOf (tokenOf t) k .numbers) (sym e);
-    inside = omega arith;
-    after = ap (λ (n : ℕ). take n (t .dacl)) (h .after) ∙ ap (λ (k : ℕ). bodyOf (tokenOf t) k .plain) (sym e);
-  }
+-- ---- how long a class is
+
+module _ {ws : List ℕ} {class r : ℕ} where
+  pub counted-numbers : (k : ℕ) (ns : List ℕ) → class ≡ k → ((bs : List ℕ) → classBytes (tokenAt ws bs) k ≡ encodeAll ns) → r ≡ length (encodeAll ns)
+      → RowCounted ws class r
+  counted-numbers k ns e b h = record { counted = λ bs l. h ∙ ap length (sym (ap (classBytes (tokenAt ws bs)) e ∙ b bs)) }
+
+  pub counted-privileges : length ws ≡ tokenWords → class ≡ 3 → r ≡ length (encodeAll (take (17 - 13) (drop 13 ws))) → RowCounted ws class r
+  unfolding classBytes classes tokenAt privilegesAt words
+  counted-privileges l e h =
+      counted-numbers 3 (privilegeWords ws) e (λ bs. refl)
+      (h ∙ ap (λ (ns : List ℕ). length (encodeAll ns)) (sym (named-take 4 13 ws (omega arith))))
+
+  pub counted-same : class ≡ 6 → RowCounted ws 6 r → RowCounted ws class r
+  counted-same e c = record { counted = λ bs l. c .counted bs l ∙ ap (λ (k : ℕ). length (classBytes (tokenAt ws bs) k)) (sym e) }
+
+  pub counted-one : {m : ℕ} → RowOne ws class m → r ≡ length (encode m) → RowCounted ws class r
+  counted-one o h = record { counted = λ bs l. h ∙ ap length (sym (o .bytes bs)) }
+
+pub counted-dacl : {ws : List ℕ} {n m : ℕ} → n ≡ min (getD ws 19 0) maxDacl → m ≡ length (encode n) → RowCounted ws 6 (m + n)
+counted-dacl {ws} {n} c e = record {
+  counted = λ bs l.
+      let k : length (take n bs) ≡ n = length-take-le n bs (omega arith) in
+      ap (λ (j : ℕ). j + n) e
+      ∙ ap (λ (j : ℕ). length (encode n) + j) (sym k)
+      ∙ sym (length-append (encode n) (take n bs))
+      ∙ ap length (dacl-bytes ws bs n l c);
+}
+
+-- ---- which classes there are
+
+module _ (class : ℕ) where
+  pub known-low : not (leb 1 class && leb class 13) ≡ false → 1 ≤ class
+  known-low h = leb-true 1 class (and-l (leb 1 class) (leb class 13) (not-false (leb 1 class && leb class 13) h))
+
+  pub known-high : not (leb 1 class && leb class 13) ≡ false → class ≤ 13
+  known-high h = leb-true class 13 (and-r (leb 1 class) (leb class 13) (not-false (leb 1 class && leb class 13) h))
+
+pub no-class : (ws bs : List ℕ) (class : ℕ) → not (leb 1 class && leb class 13) ≡ true → classBytes (tokenAt ws bs) class ≡ []
+unfolding classBytes classes
+no-class ws bs zero h = refl
+no-class ws bs (suc k) h =
+    List·getD-eq-default ([] ∷ classes (tokenAt ws bs)) []
+    (leb-false (suc k) 13 (not-true (leb (suc k) 13) (rw (le-leb 1 (suc k) (omega arith)) at h)))

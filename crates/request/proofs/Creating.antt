@@ -1,15 +1,14 @@
 -- The groups of a new token: one pair more, and all pairs as the rule has them. Assumes nothing.
 use Prim.Native.Nat.{ℕ, suc, _+_, _-_, _^_, _≤_, _<_}
 use native.Mathlib.Nat.{zero-add}
-use native.Mathlib.Numerals.{add-one}
 use native.Mathlib.Omega.{arith}
 use mathlib.Core.Path.{_≡_, refl, sym, ap, ap₂, subst, _∙_}
 use mathlib.Core.Bool.{Bool, true, false, not, _&&_, _||_, and-false}
-use mathlib.Core.List.{List, [], _∷_, _++_, map, map-append, append-nil}
+use mathlib.Core.List.{List, [], _∷_, _++_, map, append-nil}
 use lib.Dec.{leb, ltb}
-use lib.ListN.{length, take, drop, set, length-set, length-map, length-append}
-use lib.Seq.{take-suc-set, length-take-le, append-snoc}
-use borrow.Author.Tests.{le-leb, lt-leb, ltb-true, ltb-false}
+use lib.ListN.{length, drop, set, replicate, length-set, length-append}
+use lib.Seq.{append-snoc}
+use borrow.Author.Tests.{le-leb, lt-leb, ltb-true, ltb-false, not-false, not-true}
 use Rattle.rules.specs.Basic.{if_then_else_, all, implies, bothOrNeither}
 use Rattle.rules.specs.Bits.{has, within}
 use Rattle.rules.specs.Number.{Read, got, bad}
@@ -17,17 +16,20 @@ use Rattle.rules.specs.Entry.{Entry}
 use Rattle.rules.specs.Group as rules
 use Rattle.rules.specs.Group.{isFixed, isOnByDefault, isDenyOnly, switched}
 use Rattle.rules.specs.Token.{maxGroups}
+use Rattle.rules.specs.Memory.{headWords, tokenWords, pack}
 use Rattle.rules.specs.Request.{follow, _>>=_, give, times, u32, entry, group}
 use Rattle.rules.specs.Create.{givable, validPair, entered}
-use Rattle.rules.proofs.Logic.{and-l, and-r}
-use Rattle.token.specs.declared.Group.{Group}
+use Rattle.rules.proofs.Logic.{and-l}
+use Rattle.token.specs.declared.Group as Code
 use Rattle.token.specs.Meaning.{groupOf}
+use Rattle.token.specs.Row.{wordOf}
+use Rattle.token.specs.NewRow.{headless}
+use Rattle.token.proofs.NewRow.{length-headless, no-groups, one-group}
 use Rattle.request.specs.declared.entry.Pair.{Pair}
 use Rattle.request.specs.declared.entry.Pair.the-variants as pair
-use Rattle.request.specs.declared.create.Groups.{Groups}
 use Rattle.request.specs.Layout.{whole}
 use Rattle.request.specs.Entries.{entryOf, Bounds, PairAt, foldAll, folded}
-use Rattle.request.specs.Creating.{Room, soFar, step, GroupsRead}
+use Rattle.request.specs.Creating.{GroupsRead}
 use Rattle.request.proofs.Pairs.{is-none, is-pair}
 use Rattle.request.proofs.Folding.{fold-end, fold-lost, fold-next}
 
@@ -54,7 +56,7 @@ pair-valid user g w low high on fixed deny ew el eh eo ef ed =
     (ap₂ (λ (x y : Bool). x && y) (ap₂ (λ (x y : Bool). x && y) ew (both low high ∙ ap₂ bothOrNeither el eh)) (if-so fixed on ∙ ap₂ implies ef eo))
     (if-so deny (not on) ∙ ap₂ implies ed (ap not eo))
 
--- ---- one pair more
+-- ---- the group that is entered
 
 module _ (g q : rules.Group) (on : Bool) (e : on ≡ isOnByDefault g) where
   pub entered-on : on ≡ true → q ≡ switched true g → q ≡ entered g
@@ -65,50 +67,22 @@ module _ (g q : rules.Group) (on : Bool) (e : on ≡ isOnByDefault g) where
   unfolding entered
   entered-off h = rw (sym e, h)
 
-pub below : (o v : Bool) (n : ℕ) → (o && ltb n maxGroups && v) ≡ true → n < maxGroups
-below o v n t = ltb-true n maxGroups (and-r o (ltb n maxGroups) (and-l (o && ltb n maxGroups) v t))
-
--- v is the test of the pair, x the group that is entered
-module _ (user : ℕ) (g : Group) (r : Groups) (v : Bool) (k : Room r) (e : v ≡ validPair user (groupOf g)) where
-  abbrev before : List rules.Group
-  before = map groupOf (take (r .count) (r .groups))
-
-  long-before : length before ≡ r .count
-  long-before = length-map (take (r .count) (r .groups)) groupOf ∙ length-take-le (r .count) (r .groups) (omega (arith, k))
-
-  module _ (t : (r .ok && ltb (r .count) maxGroups && v) ≡ true) (x : Group) (f : groupOf x ≡ entered (groupOf g)) where
-    pub one-more : whole (r .ok) (map groupOf (take (r .count + 1) (set (r .groups) (r .count) x))) ≡ step user (groupOf g) (soFar r)
-    unfolding step follow
-    one-more =
-        let o = and-l (r .ok) (ltb (r .count) maxGroups) (and-l (r .ok && ltb (r .count) maxGroups) v t) in
-        let test : (ltb (length before) maxGroups && validPair user (groupOf g)) ≡ true =
-        ap₂ (λ (n : ℕ) (b : Bool). ltb n maxGroups && b) long-before (sym e)
-        ∙ ap₂ _&&_ (and-r (r .ok) (ltb (r .count) maxGroups) (and-l (r .ok && ltb (r .count) maxGroups) v t)) (and-r (r .ok && ltb (r .count) maxGroups) v t) in
-        let out : map groupOf (take (r .count + 1) (set (r .groups) (r .count) x)) ≡ before ++ (entered (groupOf g) ∷ []) =
-        ap (λ (n : ℕ). map groupOf (take n (set (r .groups) (r .count) x))) (add-one (r .count))
-        ∙ ap (map groupOf) (take-suc-set (r .groups) (r .count) x (omega (arith, below (r .ok) v (r .count) t, k)))
-        ∙ map-append groupOf (take (r .count) (r .groups)) (x ∷ [])
-        ∙ ap (λ (y : rules.Group). before ++ (y ∷ [])) f in
-        rw (o, out, test)
-
-    pub room-more : Room (record { ok = r .ok; groups = set (r .groups) (r .count) x; count = r .count + 1 })
-    room-more = record { long = length-set (r .groups) (r .count) x ∙ k .long; room = omega (arith, below (r .ok) v (r .count) t) }
-
-  pub one-bad : (r .ok && ltb (r .count) maxGroups && v) ≡ false → bad ≡ step user (groupOf g) (soFar r)
-  unfolding step follow
-  one-bad t = by (r .ok) (ap₂ (λ (n : ℕ) (b : Bool). r .ok && ltb n maxGroups && b) long-before (sym e) ∙ t)
-    where
-      by : (o : Bool) → (o && ltb (length before) maxGroups && validPair user (groupOf g)) ≡ false → bad ≡ step user (groupOf g) (whole o before)
-      by true q = rw q
-      by false q = refl
-
 -- ---- the rule
+
+-- the groups so far, until a pair is bad
+unfoldable pub step : ℕ → rules.Group → Read (List rules.Group) → Read (List rules.Group)
+step user g x = follow x λ gs later. if ltb (length gs) maxGroups && validPair user g then got (gs ++ (entered g ∷ [])) later else bad
 
 module _ (user : ℕ) where
   stays : (gs : List rules.Group) → foldAll (step user) gs bad ≡ bad
   unfolding foldAll step follow
   stays [] = refl
   stays (g ∷ gs) = stays gs
+
+  folded-stays : (x : Read (List rules.Group)) → folded (step user) bad bad x ≡ bad
+  unfolding folded
+  folded-stays (got gs later) = stays gs
+  folded-stays bad = refl
 
   abbrev AllEntered : List rules.Group → Type 0
   AllEntered gs =
@@ -177,37 +151,93 @@ module _ {A : Type 0} (x y : A) where
   whole-same true false e h = cc
   whole-same false b e h = cc
 
+-- ---- the loop's state: the groups that are entered, and that what is left gives what all give
+
 module _ (user : ℕ) (s : List ℕ) (at count : ℕ) where
-  abbrev pub result : Read (List rules.Group)
+  abbrev result : Read (List rules.Group)
   result = folded (step user) bad (got [] []) (times count group (drop at s))
 
-  read-as : (r : Groups) → soFar r ≡ result → Room r → GroupsRead user s at count r
+  pub record Entering (ws : List ℕ) (n from left : ℕ) : Type 0 where
+    pub groups : List rules.Group
+    pub row : ws ≡ headless groups
+    pub long : length ws ≡ tokenWords
+    pub counted : length groups ≡ n
+    pub room : n ≤ maxGroups
+    pub rest : folded (step user) bad (got groups []) (times left group (drop from s)) ≡ result
+
+  pub none-entered : {ws : List ℕ} → ws ≡ replicate tokenWords 0 → Entering ws 0 at count
+  none-entered e = record { groups = []; row = e ∙ no-groups; long = ap length e; counted = refl; room = omega arith; rest = refl }
+
+  read-as : {ws : List ℕ} {n : ℕ} (ok : Bool) (xs : List rules.Group) → ws ≡ headless xs → length xs ≡ n → whole ok xs ≡ result
+      → GroupsRead user s at count ws (record { ok = ok; count = n })
   unfolding folded
-  read-as r e k = record {
-    valid = λ gs later t. whole-ok (map groupOf (take (r .count) (r .groups))) (map entered gs) (r .ok) (leb (length gs) maxGroups && all (validPair user) gs) (out gs later t);
-    given = λ gs later t o. whole-same (map groupOf (take (r .count) (r .groups))) (map entered gs) (r .ok) (leb (length gs) maxGroups && all (validPair user) gs) (out gs later t) o;
-    sized = k;
+  read-as ok xs row counted e = record {
+    long = ap length row ∙ length-headless xs;
+    valid = λ gs later t. whole-ok xs (map entered gs) ok (leb (length gs) maxGroups && all (validPair user) gs) (out gs later t);
+    given = λ gs later t o. row ∙ ap headless (same gs later t o);
+    counted = λ gs later t o. ap length (sym (same gs later t o)) ∙ counted;
   }
     where
       out : (gs : List rules.Group) (later : List ℕ) → times count group (drop at s) ≡ got gs later
-          → soFar r ≡ whole (leb (length gs) maxGroups && all (validPair user) gs) (map entered gs)
+          → whole ok xs ≡ whole (leb (length gs) maxGroups && all (validPair user) gs) (map entered gs)
       out gs later t =
           e ∙ ap (folded (step user) bad (got [] [])) t ∙ all-entered user gs [] (omega arith)
           ∙ ap (λ (n : ℕ). whole (leb n maxGroups && all (validPair user) gs) (map entered gs)) (zero-add (length gs))
 
-  module _ (r : Groups) (from left : ℕ) (inv : folded (step user) bad (soFar r) (times left group (drop from s)) ≡ result) (k : Room r) where
-    pub groups-end : left ≤ 0 → GroupsRead user s at count r
-    groups-end h = read-as r (fold-end group (step user) bad s from left (soFar r) result inv h) k
+      same : (gs : List rules.Group) (later : List ℕ) → times count group (drop at s) ≡ got gs later → ok ≡ true → xs ≡ map entered gs
+      same gs later t o = whole-same xs (map entered gs) ok (leb (length gs) maxGroups && all (validPair user) gs) (out gs later t) o
+
+  module _ {ws : List ℕ} {n from left : ℕ} (i : Entering ws n from left) where
+    pub all-read : left ≤ 0 → GroupsRead user s at count ws (record { ok = true; count = n })
+    all-read h = read-as true (i .groups) (i .row) (i .counted) (fold-end group (step user) bad s from left (got (i .groups) []) result (i .rest) h)
 
     module _ (h : 0 < left) (p : Pair) (f : PairAt s from p) where
-      pub groups-lost : p ≡ pair.Bad → GroupsRead user s at count (record { ok = false; groups = r .groups; count = r .count })
-      groups-lost g =
-          read-as (record { ok = false; groups = r .groups; count = r .count })
-          (fold-lost group (step user) bad s from left (soFar r) result inv h (ap asGroup (is-none s from p f g) ∙ group-read (drop from s)))
-          (record { long = k .long; room = k .room })
+      pub one-missing : p ≡ pair.Bad → GroupsRead user s at count ws (record { ok = false; count = n })
+      one-missing g =
+          read-as false (i .groups) (i .row) (i .counted)
+          (fold-lost group (step user) bad s from left (got (i .groups) []) result (i .rest) h (ap asGroup (is-none s from p f g) ∙ group-read (drop from s)))
 
-      pub groups-next : (i v q : ℕ) → p ≡ pair.Got i v q → (r′ : Groups) → soFar r′ ≡ step user (record { sid = i; attributes = v }) (soFar r)
-          → folded (step user) bad (soFar r′) (times (left - 1) group (drop q s)) ≡ result
-      groups-next i v q g r′ e =
-          fold-next group (step user) bad s from left (soFar r) result inv h (record { sid = i; attributes = v }) q
-          (ap asGroup (is-pair s from p f i v q g) ∙ group-read (drop from s)) (soFar r′) e
+      -- v is the test of the pair
+      module _ (k a q : ℕ) (g : p ≡ pair.Got k a q) (v : Bool) (e : v ≡ validPair user (record { sid = k; attributes = a })) where
+        abbrev one : rules.Group
+        one = record { sid = k; attributes = a }
+
+        -- what a step gives is what is left to go on from
+        stepped : (y : Read (List rules.Group)) → y ≡ step user one (got (i .groups) []) → folded (step user) bad y (times (left - 1) group (drop q s)) ≡ result
+        stepped y b =
+            fold-next group (step user) bad s from left (got (i .groups) []) result (i .rest) h one q
+            (ap asGroup (is-pair s from p f k a q g) ∙ group-read (drop from s)) y b
+
+        test : (ltb (length (i .groups)) maxGroups && validPair user one) ≡ (ltb n maxGroups && v)
+        test = ap₂ (λ (m : ℕ) (w : Bool). ltb m maxGroups && w) (i .counted) (sym e)
+
+        pub one-bad : not (ltb n maxGroups && v) ≡ true → GroupsRead user s at count ws (record { ok = false; count = n })
+        unfolding step follow
+        one-bad t =
+            read-as false (i .groups) (i .row) (i .counted)
+            (sym (folded-stays user (times (left - 1) group (drop q s))) ∙ stepped bad (rw (test, not-true (ltb n maxGroups && v) t)))
+
+        module _ (t : not (ltb n maxGroups && v) ≡ false) where
+          below : n < maxGroups
+          below = ltb-true n maxGroups (and-l (ltb n maxGroups) v (not-false (ltb n maxGroups && v) t))
+
+          pub place-in : headWords + n < length ws
+          place-in = omega (arith, below, i .long)
+
+          pub one-entered : {w : ℕ} → w ≡ pack (entered one) → Entering (set ws (headWords + n) w) (n + 1) q (left - 1)
+          unfolding step follow
+          one-entered {w} o = record {
+            groups = i .groups ++ (entered one ∷ []);
+            row =
+                ap (λ (l : List ℕ). set l (headWords + n) w) (i .row)
+                ∙ one-group (i .groups) (entered one) (omega (arith, below, i .counted)) (ap (λ (m : ℕ). headWords + m) (sym (i .counted))) o;
+            long = length-set ws (headWords + n) w ∙ i .long;
+            counted = length-append (i .groups) (entered one ∷ []) ∙ ap (λ (m : ℕ). m + 1) (i .counted);
+            room = omega (arith, below);
+            rest = stepped (got (i .groups ++ (entered one ∷ [])) []) (rw (test, not-false (ltb n maxGroups && v) t));
+          }
+
+-- the word of a group that is entered
+pub entered-packed : (g e : Code.Group) {w : ℕ} → groupOf e ≡ entered (groupOf g) → w ≡ wordOf e → w ≡ pack (entered (groupOf g))
+unfolding pack
+entered-packed g e q r = r ∙ ap pack q

@@ -1,5 +1,5 @@
 -- A new token and a handle on it: the parts after both, and the request that ends so. Assumes nothing.
-use Prim.Native.Nat.{ℕ, _+_, _<_}
+use Prim.Native.Nat.{ℕ, _+_}
 use native.Mathlib.Omega.{arith}
 use mathlib.Core.Path.{_≡_, sym, ap, ap₂, _∙_, subst}
 use mathlib.Core.Bool.{Bool, true, false, not, _&&_}
@@ -14,7 +14,7 @@ use Rattle.rules.proofs.Logic.{and-l, and-r}
 use Rattle.handle.specs.declared.Handle.{Handle}
 use Rattle.token.specs.Meaning.{tokenOf}
 use Rattle.token.specs.declared.Token.{Token}
-use Rattle.state.specs.Parts.{StationsIn, HandlesIn}
+use Rattle.state.specs.Parts.{HandlesIn}
 use Rattle.state.specs.Formed.{Formed}
 use Rattle.state.specs.HandleFacts.{changed, HandleRoom, HandleAdded}
 use Rattle.state.specs.TokenCalls.{CanAdd, TokenAdded}

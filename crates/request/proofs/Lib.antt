@@ -1,4 +1,5 @@
 pub mod ClassBodies
+pub mod ClassLists
 pub mod Answers
 pub mod Deciding
 pub mod InstallLaws
@@ -22,7 +23,6 @@ pub mod Creating
 pub mod RestrictedRows
 pub mod Restricting
 pub mod Bytes
-pub mod Changing
 pub mod AdjustsPrivileges
 pub mod AdjustsGroups
 pub mod Defaulting

@@ -1,13 +1,13 @@
 -- Request 4: how it ends. Assumes nothing.
-use Prim.Native.Nat.{ℕ, zero, suc, _≤_, _<_}
+use Prim.Native.Nat.{ℕ, zero, suc, _+_, _*_, _-_, _≤_, _<_}
 use native.Mathlib.Omega.{arith}
 use mathlib.Core.Path.{_≡_, refl, sym, ap, _∙_}
 use mathlib.Core.Bool.{true, false, not, _&&_}
 use mathlib.Core.List.{List, [], _∷_, map}
 use lib.Dec.{eqb, leb}
-use lib.ListN.{length, getD}
+use lib.ListN.{length, take, drop, getD}
 use borrow.Author.Tests.{not-true, not-false, le-leb, lt-leb}
-use Rattle.table.specs.Table.{record-at}
+use Rattle.table.specs.Table.{record-at, part-at, record-flat}
 use Rattle.table.specs.Rows.{rows-at}
 use Rattle.rules.specs.Mask as mask
 use Rattle.rules.specs.Refusal.{refusal, capacityBelow}
@@ -16,7 +16,7 @@ use Rattle.rules.specs.Token.{maxDacl}
 use Rattle.rules.specs.Table.{Slot, free, live, isLive, orElse, found, lives}
 use Rattle.rules.specs.Growth.{Mem}
 use Rattle.rules.specs.Index.{foundIndex}
-use Rattle.rules.specs.Memory.{tokenWords, slotAt}
+use Rattle.rules.specs.Memory.{tokenWords, slotDacl, slotAt, tokenAt}
 use Rattle.rules.specs.Valid.{valid}
 use Rattle.rules.specs.State as state
 use Rattle.rules.specs.State.{State, tokenSlots, noToken, numberOf, isNumbered}
@@ -27,11 +27,10 @@ use Rattle.rules.proofs.Facts.{valid-facts, facts-token}
 use Rattle.rules.proofs.Index.{found-at}
 use Rattle.rules.proofs.Tables.{found-some}
 use Rattle.rules.proofs.Steps.{is-live}
+use Rattle.rules.proofs.Rows.{length-slotDacl}
 use Rattle.handle.specs.declared.Handle.{Handle}
-use Rattle.token.specs.Meaning.{tokenOf}
-use Rattle.token.specs.declared.Token.{Token}
 use Rattle.state.specs.Parts.{TokensIn}
-use Rattle.state.specs.TokenCalls.{FoundAt, TokenLoaded}
+use Rattle.state.specs.TokenCalls.{FoundAt}
 use Rattle.state.specs.ReleaseFacts.{PartsIn}
 use Rattle.state.proofs.Slots.{live-or}
 use Rattle.state.proofs.TokenLooks.{slots-read, slots-long}
@@ -39,6 +38,7 @@ use Rattle.request.specs.declared.lookup.Target.{Target}
 use Rattle.request.specs.declared.outcome.Outcome.{Outcome}
 use Rattle.request.specs.declared.answer.Answer.{Answer}
 use Rattle.request.specs.declared.answer.Answer.the-variants as answers
+use Rattle.request.specs.Body.{RowCounted}
 use Rattle.request.specs.Answer.{tokenIn, answerOf}
 use Rattle.request.specs.Carried.{Ends, Carried}
 use Rattle.request.specs.Lookup.{LookedUp}
@@ -81,29 +81,46 @@ slot-of σ n i ts ds v k at m = go (found-some numberOf n (σ .tokens .slots) m)
 
 -- ---- a class of the token
 
-module _ (n class capacity : ℕ) {ts ds : List ℕ} where
-  pub class-unknown : not (leb 1 class && leb class 13) ≡ true → ClassAnswered n class capacity ts ds (answers.Refused 5)
+module _ (n class capacity : ℕ) {ts : List ℕ} where
+  pub class-unknown : not (leb 1 class && leb class 13) ≡ true → ClassAnswered n class capacity ts (answers.Refused 5)
   unfolding carriedOut refusal
-  class-unknown h = record { answer = λ σ v i m. rw (not-true (leb 1 class && leb class 13) h); fit = λ σ v i m. omega arith }
+  class-unknown h = record { answer = λ σ v ds i m. rw (not-true (leb 1 class && leb class 13) h); fit = λ σ v ds i m. omega arith }
 
-  module _ {t : Token} {slot size : ℕ} (h : not (leb 1 class && leb class 13) ≡ false) (at : FoundAt n ts slot) (g : TokenLoaded slot ts ds t)
-      (e : size ≡ length (classBytes (tokenOf t) class)) where
-    size-is : (σ : State) → valid σ ≡ true → TokensIn σ ts ds → size ≡ length (classBytes (state.tokenOf σ n) class)
-    size-is σ v i = e ∙ ap (λ (x : Rules.Token). length (classBytes x class)) (g .given n at .token σ v i)
+  -- a live token is in a slot
+  pub class-missing : {slot : ℕ} → FoundAt n ts slot → tokenSlots ≤ slot → ClassAnswered n class capacity ts (answers.Refused 5)
+  class-missing {slot} at l = record {
+    answer = λ σ v ds i m. absurd (let s = slot-of σ n slot ts ds v i at m .inside in omega arith);
+    fit = λ σ v ds i m. omega arith;
+  }
 
-    pub class-above : capacity < size → ClassAnswered n class capacity ts ds (answers.TooSmall size)
+  module _ {slot size : ℕ} (h : not (leb 1 class && leb class 13) ≡ false) (at : FoundAt n ts slot)
+      (c : RowCounted (take (slot * tokenWords + tokenWords - slot * tokenWords) (drop (slot * tokenWords) ts)) class size) where
+    size-is : (σ : State) (v : valid σ ≡ true) (ds : List ℕ) (i : TokensIn σ ts ds) → Mem n (map numberOf (lives (σ .tokens .slots)))
+        → size ≡ length (classBytes (state.tokenOf σ n) class)
+    size-is σ v ds i m =
+        let s = slot-of σ n slot ts ds v i at m in
+        let ps = σ .tokens .slots in
+        let in-dacls : slot < length ps = let l = slots-long σ v in let k = s .inside in omega arith in
+        let long : length (record-at maxDacl slot ds) ≡ maxDacl =
+        ap length (ap (record-at maxDacl slot) (i .bytes) ∙ record-flat slotDacl maxDacl length-slotDacl slot ps free in-dacls)
+        ∙ length-slotDacl (getD ps slot free) in
+        c .counted (record-at maxDacl slot ds) long
+        ∙ ap (λ (ws : List ℕ). length (classBytes (tokenAt ws (record-at maxDacl slot ds)) class)) (part-at tokenWords slot ts)
+        ∙ ap (λ (x : Rules.Token). length (classBytes x class)) (s .token)
+
+    pub class-above : capacity < size → ClassAnswered n class capacity ts (answers.TooSmall size)
     unfolding carriedOut capacityBelow
     class-above l = record {
-      answer = λ σ v i m. rw (not-false (leb 1 class && leb class 13) h, sym (size-is σ v i), lt-leb size capacity l);
-      fit = λ σ v i m. tt;
+      answer = λ σ v ds i m. rw (not-false (leb 1 class && leb class 13) h, sym (size-is σ v ds i m), lt-leb size capacity l);
+      fit = λ σ v ds i m. tt;
     }
 
-    pub class-given : size ≤ capacity → ClassAnswered n class capacity ts ds (answers.Class slot class)
+    pub class-given : size ≤ capacity → ClassAnswered n class capacity ts (answers.Class slot class)
     unfolding carriedOut
     class-given l = record {
-      answer = λ σ v i m.
-          rw (not-false (leb 1 class && leb class 13) h, sym (size-is σ v i), le-leb size capacity l, slot-of σ n slot ts ds v i at m .token);
-      fit = λ σ v i m.
+      answer = λ σ v ds i m.
+          rw (not-false (leb 1 class && leb class 13) h, sym (size-is σ v ds i m), le-leb size capacity l, slot-of σ n slot ts ds v i at m .token);
+      fit = λ σ v ds i m.
           let s = slot-of σ n slot ts ds v i at m in
           (s .inside, rw (s .token) (facts-token (state.tokenOf σ n) (valid-facts σ v .loose .eachToken (state.tokenOf σ n) (is-live σ n m .was))));
     }
@@ -116,7 +133,7 @@ module _ {s n : ℕ} (class capacity : ℕ) {hs : List Handle} {ss ts ds : List 
   unfolding query
   query-refused {r} f e = handle-refuses l (λ σ h x. classDecision class capacity σ x) r e f
 
-  module _ {a : Answer} (found : t .refusal ≡ 0) (c : ClassAnswered (t .handle .token) class capacity ts ds a) where
+  module _ {a : Answer} (found : t .refusal ≡ 0) (c : ClassAnswered (t .handle .token) class capacity ts a) where
     is-there : (σ : State) → valid σ ≡ true → PartsIn σ hs ss ts ds → Mem (t .handle .token) (map numberOf (lives (σ .tokens .slots)))
     unfolding numberOf
     is-there σ v p =
@@ -128,7 +145,7 @@ module _ {s n : ℕ} (class capacity : ℕ) {hs : List Handle} {ss ts ds : List 
     unfolding query
     decided σ v p =
         looked-up l σ v (p .handles) (λ h x. classDecision class capacity σ x) found
-        ∙ c .answer σ v (p .tokens) (is-there σ v p)
+        ∙ c .answer σ v ds (p .tokens) (is-there σ v p)
 
     pub query-answered : {r : Outcome} → Ends a r → Carried (λ σ. query σ s n class capacity) hs ss ts ds ss ts ds r
-    query-answered {r} e = ends-with a r e (λ σ v p. c .fit σ v (p .tokens) (is-there σ v p)) (λ σ v p. rw (decided σ v p) p) (λ σ v p. rw (decided σ v p))
+    query-answered {r} e = ends-with a r e (λ σ v p. c .fit σ v ds (p .tokens) (is-there σ v p)) (λ σ v p. rw (decided σ v p) p) (λ σ v p. rw (decided σ v p))

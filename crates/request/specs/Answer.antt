@@ -1,5 +1,5 @@
 -- What an answer says: its body's bytes, document 01's number first, and which answers there are. Assumes nothing.
-use Prim.Native.Nat.{ℕ, _-_, _<_}
+use Prim.Native.Nat.{ℕ, _-_, _≤_, _<_}
 use mathlib.Core.Path.{_≡_}
 use mathlib.Core.Bool.{true}
 use mathlib.Core.List.{List, [], _∷_, _++_}
@@ -36,6 +36,10 @@ Fit words dacls answer.Done = Unit {0}
 Fit words dacls (answer.Value v) = Unit {0}
 Fit words dacls (answer.Report w) = Unit {0}
 Fit words dacls (answer.Class slot class) = (slot < tokenSlots) × (tokenValid (tokenIn words dacls slot) ≡ true)
+
+-- a body's frame fits the buffer
+abbrev pub Room : List ℕ → List ℕ → Type 0
+Room body o = length (frame body) ≤ length o
 
 -- a body's frame stands at the start of the buffer, and the bytes after it are as they were
 pub record WroteFrame (body before after : List ℕ) (r : ℕ) : Type 0 where

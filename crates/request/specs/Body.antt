@@ -1,61 +1,59 @@
--- An answer's body as numbers and plain bytes, of each class of a query, and what the code's fields hold of it. Assumes nothing.
+-- What a query answers of a token's row, class by class. Assumes nothing.
 use Prim.Native.Nat.{ℕ, _≤_}
 use mathlib.Core.Path.{_≡_}
-use mathlib.Core.List.{List, [], _∷_, _++_}
-use lib.ListN.{length, take, getD}
-use Rattle.rules.specs.Number.{encodeAll}
-use Rattle.rules.specs.Token.{Token, sidAt, maxDacl}
-use Rattle.rules.specs.Query.{pairs, words}
-use Rattle.request.specs.declared.class.Fields.{Fields}
+use mathlib.Core.List.{List, [], _∷_}
+use lib.ListN.{length, getD}
+use Rattle.rules.specs.Number.{encode}
+use Rattle.rules.specs.Token.{sidAt, maxDacl}
+use Rattle.rules.specs.Query.{pairs, classBytes}
+use Rattle.rules.specs.Memory.{low8, groupsAt, limitsAt, tokenAt}
+
+-- ---- the classes of several numbers
 
 -- the status, a count and 64 pairs
 abbrev pub maxNumbers : ℕ
 maxNumbers = 130
 
--- numbers, and then bytes
-pub record Body : Type 0 where
-  pub numbers : List ℕ
-  pub plain : List ℕ
+-- the status, a count and 16 SIDs
+abbrev pub maxSids : ℕ
+maxSids = 18
 
-abbrev pub bytes : Body → List ℕ
-bytes b = encodeAll b.numbers ++ b.plain
+-- class 2
+abbrev pub groupNumbers : List ℕ → List ℕ
+groupNumbers ws = length (groupsAt ws) ∷ pairs (groupsAt ws)
 
-abbrev pub only : List ℕ → Body
-only ns = record { numbers = ns; plain = [] }
+-- class 3
+abbrev pub privilegeWords : List ℕ → List ℕ
+privilegeWords ws = getD ws 13 0 ∷ getD ws 14 0 ∷ getD ws 15 0 ∷ getD ws 16 0 ∷ []
 
--- what follows the status, for class 1 on
-unfoldable pub bodies : Token → List Body
-bodies t =
-    only (t .identity .user ∷ [])
-    ∷ only (length t.groups ∷ pairs t.groups)
-    ∷ only (words t.privileges)
-    ∷ only (sidAt t (t .defaults .owner) ∷ [])
-    ∷ only (sidAt t (t .defaults .primaryGroup) ∷ [])
-    ∷ record { numbers = length (t .defaults .dacl) ∷ []; plain = t .defaults .dacl }
-    ∷ only (t .identity .type ∷ [])
-    ∷ only (t .identity .level ∷ [])
-    ∷ only (t.number ∷ t .identity .session ∷ t.modified ∷ t .identity .type ∷ [])
-    ∷ only (length (t .limits .restricting) ∷ t .limits .restricting)
-    ∷ only (t.scope ∷ [])
-    ∷ only (t.elevation ∷ [])
-    ∷ only (t .identity .integrity ∷ [])
-    ∷ []
+-- class 9
+abbrev pub statistics : List ℕ → List ℕ
+statistics ws = getD ws 0 0 ∷ getD ws 2 0 ∷ getD ws 1 0 ∷ low8 (getD ws 4 0) ∷ []
 
-unfoldable pub bodyOf : Token → ℕ → Body
-bodyOf t class = getD (only [] ∷ bodies t) class (only [])
+-- class 10
+abbrev pub sidNumbers : List ℕ → List ℕ
+sidNumbers ws = length (limitsAt ws .restricting) ∷ limitsAt ws .restricting
 
--- ---- the code's fields
+-- ---- the classes of one number
 
-pub record Holds (numbers : List ℕ) (plain : ℕ) (r : Fields) : Type 0 where
-  pub long : length (r .fields) ≡ maxNumbers
-  pub within : r .count ≤ maxNumbers
-  pub front : take (r .count) (r .fields) ≡ numbers
-  pub after : r .plain ≡ plain
+pub record IsOne (class : ℕ) : Type 0 where
+  pub low : 1 ≤ class
+  pub high : class ≤ 13
+  pub not-groups : class ≡ 2 → ⊥
+  pub not-privileges : class ≡ 3 → ⊥
+  pub not-dacl : class ≡ 6 → ⊥
+  pub not-statistics : class ≡ 9 → ⊥
+  pub not-sids : class ≡ 10 → ⊥
 
--- a success with this body, whose plain bytes are the DACL's
-pub record Listed (b : Body) (dacl : List ℕ) (r : Fields) : Type 0 where
-  pub long : length (r .fields) ≡ maxNumbers
-  pub within : r .count ≤ maxNumbers
-  pub front : take (r .count) (r .fields) ≡ 0 ∷ b .numbers
-  pub inside : r .plain ≤ maxDacl
-  pub after : take (r .plain) dacl ≡ b .plain
+-- r is the class's number, whatever the DACL
+pub record RowOne (ws : List ℕ) (class r : ℕ) : Type 0 where
+  pub bytes : (bs : List ℕ) → classBytes (tokenAt ws bs) class ≡ encode r
+
+-- r is the SID that an index names
+pub record RowSid (ws : List ℕ) (index r : ℕ) : Type 0 where
+  pub sid : (bs : List ℕ) → r ≡ sidAt (tokenAt ws bs) index
+
+-- ---- how long a class is
+
+pub record RowCounted (ws : List ℕ) (class r : ℕ) : Type 0 where
+  pub counted : (bs : List ℕ) → length bs ≡ maxDacl → r ≡ length (classBytes (tokenAt ws bs) class)

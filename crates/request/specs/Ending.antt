@@ -7,7 +7,7 @@ use Rattle.rules.specs.Token.{Token}
 use Rattle.rules.specs.Valid.{tokenValid}
 use Rattle.rules.specs.State.{State, putToken}
 use Rattle.rules.specs.Decision.{Served}
-use Rattle.rules.specs.Memory.{tokenRow}
+use Rattle.rules.specs.Memory.{tokenRow, daclRow}
 use Rattle.request.specs.Answer.{answerOf, Fit}
 use Rattle.request.specs.declared.answer.Answer.{Answer}
 
@@ -34,3 +34,8 @@ pub record RowEnds (x : Token → Ending) (ws ws′ : List ℕ) (a : Answer) : T
   pub row : (t : Token) → tokenValid t ≡ true → ws ≡ tokenRow t → ws′ ≡ tokenRow (tokenAfter t (x t))
   pub answer : (t : Token) → tokenValid t ≡ true → ws ≡ tokenRow t → (ts ds : List ℕ) → answerOf ts ds a ≡ answered (x t)
   pub fit : (ts ds : List ℕ) → Fit ts ds a
+
+-- the same of its DACL's row
+pub record RowsEnd (x : Token → Ending) (ws bs ws′ bs′ : List ℕ) (a : Answer) : Type 0 where
+  pub ends : RowEnds x ws ws′ a
+  pub dacl : (t : Token) → tokenValid t ≡ true → ws ≡ tokenRow t → bs ≡ daclRow t → bs′ ≡ daclRow (tokenAfter t (x t))

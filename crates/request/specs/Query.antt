@@ -25,8 +25,8 @@ classDecision class capacity σ t =
     need leb (length (classBytes t class)) capacity else capacityBelow (length (classBytes t class)) then
     success σ (classBytes t class)
 
--- where the number is a live token's
-pub record ClassAnswered (n class capacity : ℕ) (ts ds : List ℕ) (a : Answer) : Type 0 where
-  pub answer : (σ : State) → valid σ ≡ true → TokensIn σ ts ds → Mem n (map numberOf (lives (σ .tokens .slots)))
+-- where the number is a live token's, whatever the DACLs
+pub record ClassAnswered (n class capacity : ℕ) (ts : List ℕ) (a : Answer) : Type 0 where
+  pub answer : (σ : State) → valid σ ≡ true → (ds : List ℕ) → TokensIn σ ts ds → Mem n (map numberOf (lives (σ .tokens .slots)))
       → carriedOut σ (classDecision class capacity σ (state.tokenOf σ n)) ≡ record { state = σ; answer = answerOf ts ds a }
-  pub fit : (σ : State) → valid σ ≡ true → TokensIn σ ts ds → Mem n (map numberOf (lives (σ .tokens .slots))) → Fit ts ds a
+  pub fit : (σ : State) → valid σ ≡ true → (ds : List ℕ) → TokensIn σ ts ds → Mem n (map numberOf (lives (σ .tokens .slots))) → Fit ts ds a

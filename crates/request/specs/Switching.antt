@@ -1,51 +1,72 @@
--- What request 6's entries do to a token's groups. Assumes nothing.
-use mathlib.Core.Bool.{Bool, true, _&&_, _||_}
+-- What request 6's entries do to the words of a token's groups. Assumes nothing.
+use Prim.Native.Nat.{ℕ}
+use mathlib.Core.Path.{_≡_}
+use mathlib.Core.Bool.{Bool, _&&_, _||_}
 use mathlib.Core.List.{List, map}
-use lib.Dec.{eqb}
-use lib.ListN.{take}
+use lib.ListN.{getD}
 use Rattle.rules.specs.Basic.{if_then_else_, all}
-use Rattle.rules.specs.Number.{Read, got, bad}
-use Rattle.rules.specs.Entry.{Entry, validEntries}
-use Rattle.rules.specs.Group.{Group}
-use Rattle.rules.specs.Token as rules
-use Rattle.rules.specs.Refusal.{Refusal, refusal, badField, protectedGroup}
-use Rattle.rules.specs.AdjustGroups.{isReset, validEntry, unprotected, applied, adjusted}
-use Rattle.token.specs.declared.Token.{Token}
-use Rattle.token.specs.Meaning.{groupOf, tokenOf}
+use Rattle.rules.specs.Number.{got, encodeAll}
+use Rattle.rules.specs.Entry.{Entry, validEntries, applyAll}
+use Rattle.rules.specs.Request.{times, entry}
+use Rattle.rules.specs.Group.{Group, noGroup}
+use Rattle.rules.specs.Token.{Token}
+use Rattle.rules.specs.Memory.{pack, unpack}
+use Rattle.rules.specs.AdjustGroups.{isReset, validEntry, maySwitch, applied, adjusted, onBits, onWords, reportWords, adjustedToken}
 use Rattle.request.specs.Entries as entries
+use Rattle.request.specs.Ending.{Ending, refused, becomes, RowEnds}
+use Rattle.request.specs.declared.answer.Answer.{Answer}
 use Rattle.request.specs.declared.groups.Switched.{Switched}
 use Rattle.request.specs.declared.groups.Progress.{Progress}
 
--- the token after the entries, or a refusal
-pub data Outcome : Type 0 where
-  done : rules.Token → Outcome
-  refused : Refusal → Outcome
+-- ---- words
 
-unfoldable pub judged : rules.Token → Read (List Entry) → Outcome
-judged t (got es bytes) =
-    if isReset es || validEntries (validEntry t.groups) es then
-    (if isReset es || all (unprotected t) es then done (rules.withGroups (adjusted es t.groups) t) else refused protectedGroup)
-    else refused badField
-judged t bad = refused badField
+-- a change of a group, in its word
+abbrev pub onWord : (Group → Group) → ℕ → ℕ
+onWord f w = pack (f (unpack w))
 
-abbrev pub outcomeOf : Switched → Outcome
-outcomeOf r = if eqb (r .refusal) 0 then done (tokenOf (r .token)) else refused (refusal (r .refusal))
+abbrev pub groupsIn : List ℕ → List Group
+groupsIn gw = map unpack gw
 
--- ---- a pass over the entries
+-- ---- a pass that judges the entries
 
--- the groups so far, and whether no entry asked for what is protected
-pub record Made : Type 0 where
-  pub groups : List Group
-  pub free : Bool
+-- an entry asks for nothing that is protected
+unfoldable pub mayEntry : ℕ → List Group → Entry → Bool
+mayEntry user gs e = maySwitch user e.value (getD gs e.key noGroup)
 
-abbrev pub begun : rules.Token → Made
-begun t = record { groups = t.groups; free = true }
+abbrev pub judging : ℕ → List Group → Entry → Bool → Bool
+judging user gs e free = free && mayEntry user gs e
 
-unfoldable pub made : rules.Token → Entry → Made → Made
-made t e m = record { groups = applied e m.groups; free = m.free && unprotected t e }
+abbrev pub progressOf : Progress → entries.Progress Bool
+progressOf g = if g .ok then entries.going (g .free) (g .named) else entries.stopped
 
-abbrev pub madeOf : Token → Progress → Made
-madeOf t g = record { groups = map groupOf (take (t .«group_count») (g .groups)); free = g .free }
+-- ---- all entries: a bad one goes before a protected one
 
-abbrev pub progressOf : Token → Progress → entries.Progress Made
-progressOf t g = if g .ok then entries.going (madeOf t g) (g .named) else entries.stopped
+abbrev pub isGood : List Group → List Entry → Bool
+isGood gs es = isReset es || validEntries (validEntry gs) es
+
+abbrev pub isFree : ℕ → List Group → List Entry → Bool
+isFree user gs es = isReset es || all (mayEntry user gs) es
+
+abbrev pub pick : {A : Type 0} → (good free : Bool) → A → A → A → A
+pick good free bad protected done = if good then (if free then done else protected) else bad
+
+abbrev pub judged : {A : Type 0} → ℕ → List Group → List Entry → A → A → A → A
+judged user gs es = pick (isGood gs es) (isFree user gs es)
+
+-- the entries are made, once they are judged
+pub record EntriesMade (n : ℕ) (bytes gw gw′ : List ℕ) : Type 0 where
+  pub made : (es : List Entry) (later : List ℕ) → times n entry bytes ≡ got es later → gw′ ≡ map pack (applyAll applied es (groupsIn gw))
+
+pub record GroupsSwitched (user n : ℕ) (bytes gw gw′ : List ℕ) (r : Switched) : Type 0 where
+  pub previous : r .previous ≡ onBits (groupsIn gw)
+  pub refusal : (es : List Entry) (later : List ℕ) → times n entry bytes ≡ got es later → r .refusal ≡ judged user (groupsIn gw) es 5 6 0
+  pub words : (es : List Entry) (later : List ℕ) → times n entry bytes ≡ got es later → gw′ ≡ judged user (groupsIn gw) es gw gw (map pack (adjusted es (groupsIn gw)))
+
+-- ---- the token
+
+abbrev pub ending : List Entry → Token → Ending
+ending es t =
+    judged (t .identity .user) t.groups es (refused 5) (refused 6) (becomes (adjustedToken es t) (encodeAll (onWords reportWords t.groups)))
+
+pub record RowSwitched (n : ℕ) (bytes ws ws′ : List ℕ) (a : Answer) : Type 0 where
+  pub ends : (es : List Entry) (later : List ℕ) → times n entry bytes ≡ got es later → RowEnds (ending es) ws ws′ a

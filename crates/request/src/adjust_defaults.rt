@@ -6,13 +6,14 @@ ghost use Rattle.rules.specs.Request.{byte};
 ghost use Rattle.state.specs.Parts.{Lent};
 ghost use Rattle.request.specs.Layout.{valuesAt, There};
 ghost use Rattle.request.specs.Defaults.{DefaultsCarried};
-use crate::answer::Answer;
 use crate::defaults;
+use crate::located::locate;
 use crate::outcome;
 use crate::outcome::Outcome;
-use crate::subject;
 use handle::Handles;
 use privilege::mask::Mask;
+use token::MAX_DACL;
+use token::row::TOKEN_WORDS;
 
 // The size bytes that stand at the end of a body are the DACL.
 pub fn adjust_defaults(
@@ -32,20 +33,24 @@ pub fn adjust_defaults(
     requires { ⌜ Lent (now tokens) (now dacls) (now stations) × (at ≤ length (now s)) × There byte (now s) at size [] ⌝ }
     ensures { λ r. ⌜ DefaultsCarried station number owner group flag (valuesAt byte (now (s .entry)) at size) (handles .items) (now (stations .entry)) (now (tokens .entry)) (now (dacls .entry)) (now (stations .entry)) (now (tokens .exit)) (now (dacls .exit)) r ⌝ }
 {
-    let x = subject::find(
-        station,
-        number,
-        Mask::ADJUST_DEFAULT,
-        handles,
-        tokens,
-        dacls,
+    let x = locate(station, number, Mask::ADJUST_DEFAULT, handles, tokens);
+    if x.refusal != 0 {
+        return outcome::refused(x.refusal);
+    }
+    let slot = x.slot;
+    let row = slot * TOKEN_WORDS;
+    let row_end = row + TOKEN_WORDS;
+    let dacl = slot * MAX_DACL;
+    let dacl_end = dacl + MAX_DACL;
+    let answer = defaults::adjust(
+        owner,
+        group,
+        flag,
+        size,
+        s,
+        at,
+        &mut tokens[row..row_end],
+        &mut dacls[dacl..dacl_end],
     );
-    if x.target.refusal != 0 {
-        return outcome::refused(x.target.refusal);
-    }
-    let adjusted = defaults::adjust(x.token, owner, group, flag, size, s, at);
-    if !adjusted.ok {
-        return outcome::refused(5);
-    }
-    subject::finish(adjusted.token, Answer::Done, tokens, dacls)
+    outcome::ends(answer)
 }

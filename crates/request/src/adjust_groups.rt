@@ -1,15 +1,37 @@
 // Request 6: groups.
+ghost use mathlib.Core.Path.{_≡_};
+ghost use lib.ListN.{length, drop};
+ghost use Rattle.rules.specs.Memory.{tokenWords};
 ghost use Rattle.rules.specs.AdjustGroups.{adjust};
 ghost use Rattle.state.specs.Parts.{Lent};
 ghost use Rattle.request.specs.Adjusts.{EntriesCarried};
+ghost use Rattle.request.specs.Switching.{RowSwitched};
 use crate::answer::Answer;
-use crate::group_list;
 use crate::groups;
+use crate::located;
 use crate::outcome;
 use crate::outcome::Outcome;
-use crate::subject;
 use handle::Handles;
 use privilege::mask::Mask;
+use token::MAX_GROUPS;
+use token::row;
+use token::row::HEAD_WORDS;
+use token::row::TOKEN_WORDS;
+
+// In the token's row.
+fn adjust_row(s: &[u8], at: usize, count: u64, words: &mut [u64]) -> Answer
+    requires { ⌜ length (now words) ≡ tokenWords ⌝ }
+    ensures { λ r. ⌜ RowSwitched count (drop at (now (s .entry))) (now (words .entry)) (now (words .exit)) r ⌝ }
+{
+    let identity = row::identity_in(words);
+    let end = HEAD_WORDS + row::count_in(words, 17, MAX_GROUPS);
+    let x = groups::adjust(identity.user, s, at, count, &mut words[HEAD_WORDS..end]);
+    if x.refusal != 0 {
+        return Answer::Refused(x.refusal);
+    }
+    row::step_modified(words);
+    Answer::Report(x.previous)
+}
 
 // The count entries that stand at a place of a body.
 pub fn adjust_groups(
@@ -20,20 +42,19 @@ pub fn adjust_groups(
     count: u64,
     handles: Handles,
     tokens: &mut [u64],
-    dacls: &mut [u8],
+    dacls: &[u8],
     stations: &[u64],
 ) -> Outcome
     requires { ⌜ Lent (now tokens) (now dacls) (now stations) ⌝ }
-    ensures { λ r. ⌜ EntriesCarried adjust station number (now (s .entry)) at count (handles .items) (now (stations .entry)) (now (tokens .entry)) (now (dacls .entry)) (now (stations .entry)) (now (tokens .exit)) (now (dacls .exit)) r ⌝ }
+    ensures { λ r. ⌜ EntriesCarried adjust station number (now (s .entry)) at count (handles .items) (now (stations .entry)) (now (tokens .entry)) (now (dacls .entry)) (now (stations .entry)) (now (tokens .exit)) (now (dacls .entry)) r ⌝ }
 {
-    let x = subject::find(station, number, Mask::ADJUST_GROUPS, handles, tokens, dacls);
-    if x.target.refusal != 0 {
-        return outcome::refused(x.target.refusal);
+    let x = located::locate(station, number, Mask::ADJUST_GROUPS, handles, tokens);
+    if x.refusal != 0 {
+        return outcome::refused(x.refusal);
     }
-    let switched = groups::adjust(x.token, s, at, count);
-    if switched.refusal != 0 {
-        return outcome::refused(switched.refusal);
-    }
-    let previous = group_list::enabled_word(x.token);
-    subject::finish(switched.token, Answer::Report(previous), tokens, dacls)
+    let slot = x.slot;
+    let from = slot * TOKEN_WORDS;
+    let end = from + TOKEN_WORDS;
+    let a = adjust_row(s, at, count, &mut tokens[from..end]);
+    outcome::ends(a)
 }

@@ -1,26 +1,36 @@
 // What a request answers, and the frame that it is written as.
 ghost use mathlib.Core.Path.{_≡_};
 ghost use mathlib.Core.Bool.{true};
-ghost use mathlib.Core.List.{_∷_};
-ghost use Prim.Native.Nat.{_+_, _*_, _-_, _≤_};
+ghost use mathlib.Core.List.{[], _∷_};
+ghost use Prim.Native.Nat.{_*_, _-_, _≤_, _<_};
 ghost use lib.ListN.{length, take, replicate};
 ghost use Rattle.rules.specs.Number.{encodeAll};
 ghost use Rattle.rules.specs.Frame.{maxAnswer};
 ghost use Rattle.rules.specs.Token.{maxDacl};
 ghost use Rattle.rules.specs.State.{tokenSlots};
-ghost use Rattle.rules.specs.Memory.{tokenWords};
+ghost use Rattle.rules.specs.Memory.{tokenWords, tokenAt};
 ghost use Rattle.rules.specs.Valid.{tokenValid};
 ghost use Rattle.rules.specs.AdjustGroups.{reportWords};
 ghost use Rattle.rules.specs.Query.{classBytes};
-ghost use Rattle.token.specs.Meaning.{tokenOf, Sized};
-ghost use Rattle.request.specs.Body.{maxNumbers};
-ghost use Rattle.request.specs.Answer.{answerOf, Fit, WroteFrame};
+ghost use Rattle.request.specs.Body.{groupNumbers, sidNumbers, privilegeWords, statistics};
+ghost use Rattle.request.specs.Answer.{tokenIn, answerOf, Fit, Room, WroteFrame};
 use crate::class;
-use token::Token;
-use token::slots;
+use token::MAX_DACL;
+use token::MAX_GROUPS;
+use token::MAX_RESTRICTING;
+use token::row;
+use token::row::GROUPS_END;
+use token::row::HEAD_WORDS;
+use token::row::TOKEN_WORDS;
 
 // The status and request 6's sixteen words.
 const REPORT: usize = 17;
+
+// The status, a count and 64 pairs.
+const MAX_NUMBERS: usize = 130;
+
+// The status, a count and 16 SIDs.
+const MAX_SIDS: usize = 18;
 
 pub enum Answer {
     // A refusal by its number.
@@ -37,28 +47,118 @@ pub enum Answer {
     Class { slot: usize, class: u64 },
 }
 
-// The frame of count numbers: a status, a value and then zeros.
+// The frame of a status and a value, or of a status alone.
 fn put(count: usize, status: u64, value: u64, out: &mut [u8]) -> usize
-    requires { ⌜ (count ≤ reportWords + 1) × (maxAnswer ≤ length (now out)) ⌝ }
-    ensures { λ r. ⌜ WroteFrame (encodeAll (take count (status ∷ value ∷ replicate (maxNumbers - 2) 0))) (now (out .entry)) (now (out .exit)) r ⌝ }
+    requires { ⌜ (count ≤ 2) × (maxAnswer ≤ length (now out)) ⌝ }
+    ensures { λ r. ⌜ WroteFrame (encodeAll (take count (status ∷ value ∷ []))) (now (out .entry)) (now (out .exit)) r ⌝ }
 {
-    let f = class::few(count, [status, value, 0, 0, 0]);
-    let n = f.count;
-    let fields = f.fields;
+    let fields = [status, value];
     let none = [0u8; 1];
-    number::answer(&fields[0..n], &none[0..0], out)
+    number::answer(&fields[0..count], &none[0..0], out)
 }
 
-fn put_class(t: Token, class: u64, out: &mut [u8]) -> usize
-    requires { ⌜ Sized t × (tokenValid (tokenOf t) ≡ true) × (maxAnswer ≤ length (now out)) ⌝ }
-    ensures { λ r. ⌜ WroteFrame (0 ∷ classBytes (tokenOf t) class) (now (out .entry)) (now (out .exit)) r ⌝ }
+fn put_report(word: u64, out: &mut [u8]) -> usize
+    requires { ⌜ maxAnswer ≤ length (now out) ⌝ }
+    ensures { λ r. ⌜ WroteFrame (encodeAll (0 ∷ word ∷ replicate (reportWords - 1) 0)) (now (out .entry)) (now (out .exit)) r ⌝ }
 {
-    let f = class::contents(t, class);
-    let count = f.count;
-    let fields = f.fields;
-    let plain = f.plain;
-    let dacl = t.dacl;
-    number::answer(&fields[0..count], &dacl[0..plain], out)
+    let mut fields = [0u64; REPORT];
+    fields[1] = word;
+    let none = [0u8; 1];
+    number::answer(&fields, &none[0..0], out)
+}
+
+// ---- a class of a row
+
+fn put_privileges(words: &[u64], out: &mut [u8]) -> usize
+    requires { ⌜ (length (now words) ≡ tokenWords) × Room (encodeAll (0 ∷ privilegeWords (now words))) (now out) ⌝ }
+    ensures { λ r. ⌜ WroteFrame (encodeAll (0 ∷ privilegeWords (now (words .entry)))) (now (out .entry)) (now (out .exit)) r ⌝ }
+{
+    let fields = [0, words[13], words[14], words[15], words[16]];
+    let none = [0u8; 1];
+    number::answer(&fields, &none[0..0], out)
+}
+
+fn put_statistics(words: &[u64], out: &mut [u8]) -> usize
+    requires { ⌜ (length (now words) ≡ tokenWords) × Room (encodeAll (0 ∷ statistics (now words))) (now out) ⌝ }
+    ensures { λ r. ⌜ WroteFrame (encodeAll (0 ∷ statistics (now (words .entry)))) (now (out .entry)) (now (out .exit)) r ⌝ }
+{
+    let fields = [0, words[0], words[2], words[1], words[4] % 256];
+    let none = [0u8; 1];
+    number::answer(&fields, &none[0..0], out)
+}
+
+fn put_dacl(words: &[u64], dacl: &[u8], out: &mut [u8]) -> usize
+    requires { ⌜ (length (now words) ≡ tokenWords) × (length (now dacl) ≡ maxDacl) × Room (0 ∷ classBytes (tokenAt (now words) (now dacl)) 6) (now out) ⌝ }
+    ensures { λ r. ⌜ WroteFrame (0 ∷ classBytes (tokenAt (now (words .entry)) (now (dacl .entry))) 6) (now (out .entry)) (now (out .exit)) r ⌝ }
+{
+    let n = row::count_in(words, 19, MAX_DACL);
+    let fields = [0, n as u64];
+    number::answer(&fields, &dacl[0..n], out)
+}
+
+fn put_groups(words: &[u64], out: &mut [u8]) -> usize
+    requires { ⌜ (length (now words) ≡ tokenWords) × Room (encodeAll (0 ∷ groupNumbers (now words))) (now out) ⌝ }
+    ensures { λ r. ⌜ WroteFrame (encodeAll (0 ∷ groupNumbers (now (words .entry)))) (now (out .entry)) (now (out .exit)) r ⌝ }
+{
+    let n = row::count_in(words, 17, MAX_GROUPS);
+    let mut fields = [0u64; MAX_NUMBERS];
+    fields[1] = n as u64;
+    let mut i: usize = 0;
+    while i < n {
+        let w = words[HEAD_WORDS + i];
+        fields[2 * i + 2] = w % 4294967296;
+        fields[2 * i + 3] = w / 4294967296;
+        i += 1;
+    }
+    let end = 2 * n + 2;
+    let none = [0u8; 1];
+    number::answer(&fields[0..end], &none[0..0], out)
+}
+
+fn put_sids(words: &[u64], out: &mut [u8]) -> usize
+    requires { ⌜ (length (now words) ≡ tokenWords) × Room (encodeAll (0 ∷ sidNumbers (now words))) (now out) ⌝ }
+    ensures { λ r. ⌜ WroteFrame (encodeAll (0 ∷ sidNumbers (now (words .entry)))) (now (out .entry)) (now (out .exit)) r ⌝ }
+{
+    let n = row::count_in(words, 18, MAX_RESTRICTING);
+    let mut fields = [0u64; MAX_SIDS];
+    fields[1] = n as u64;
+    let mut i: usize = 0;
+    while i < n {
+        fields[i + 2] = words[GROUPS_END + i] % 4294967296;
+        i += 1;
+    }
+    let end = n + 2;
+    let none = [0u8; 1];
+    number::answer(&fields[0..end], &none[0..0], out)
+}
+
+fn put_class(words: &[u64], dacl: &[u8], class: u64, out: &mut [u8]) -> usize
+    requires { ⌜ (length (now words) ≡ tokenWords) × (length (now dacl) ≡ maxDacl) × (maxAnswer ≤ length (now out)) × Room (0 ∷ classBytes (tokenAt (now words) (now dacl)) class) (now out) ⌝ }
+    ensures { λ r. ⌜ WroteFrame (0 ∷ classBytes (tokenAt (now (words .entry)) (now (dacl .entry))) class) (now (out .entry)) (now (out .exit)) r ⌝ }
+{
+    let known = (1 <= class) & (class <= 13);
+    if !known {
+        return put(1, 0, 0, out);
+    }
+    match class {
+        2 => put_groups(words, out),
+        3 => put_privileges(words, out),
+        6 => put_dacl(words, dacl, out),
+        9 => put_statistics(words, out),
+        10 => put_sids(words, out),
+        _ => put(2, 0, class::one(words, class), out),
+    }
+}
+
+fn put_class_at(slot: usize, class: u64, tokens: &[u64], dacls: &[u8], out: &mut [u8]) -> usize
+    requires { ⌜ (length (now tokens) ≡ tokenSlots * tokenWords) × (length (now dacls) ≡ tokenSlots * maxDacl) × (maxAnswer ≤ length (now out)) × (slot < tokenSlots) × (tokenValid (tokenIn (now tokens) (now dacls) slot) ≡ true) ⌝ }
+    ensures { λ r. ⌜ WroteFrame (0 ∷ classBytes (tokenIn (now (tokens .entry)) (now (dacls .entry)) slot) class) (now (out .entry)) (now (out .exit)) r ⌝ }
+{
+    let at = slot * TOKEN_WORDS;
+    let end = at + TOKEN_WORDS;
+    let from = slot * MAX_DACL;
+    let till = from + MAX_DACL;
+    put_class(&tokens[at..end], &dacls[from..till], class, out)
 }
 
 // Writes an answer at the start of out, and leaves the bytes after it.
@@ -71,7 +171,7 @@ pub fn write(a: Answer, tokens: &[u64], dacls: &[u8], out: &mut [u8]) -> usize
         Answer::TooSmall(size) => put(2, 9, size, out),
         Answer::Done => put(1, 0, 0, out),
         Answer::Value(v) => put(2, 0, v, out),
-        Answer::Report(w) => put(REPORT, 0, w, out),
-        Answer::Class { slot, class } => put_class(slots::load_at(tokens, dacls, slot), class, out),
+        Answer::Report(w) => put_report(w, out),
+        Answer::Class { slot, class } => put_class_at(slot, class, tokens, dacls, out),
     }
 }

@@ -1,7 +1,7 @@
 // The attributes of a group: a test for each, and the changes that requests make.
 ghost use mathlib.Core.Path.{_≡_};
 ghost use Rattle.rules.specs.Bits.{without};
-ghost use Rattle.rules.specs.Group.{isMandatory, isOnByDefault, isOn, isOwner, isDenyOnly, isLogon, isFixed, switched, denied};
+ghost use Rattle.rules.specs.Group.{isMandatory, isOnByDefault, isOn, isDenyOnly, isLogon, isFixed, switched, denied};
 ghost use Rattle.token.specs.Meaning.{groupOf};
 use privilege::words;
 use token::Group;
@@ -27,12 +27,6 @@ pub fn is_on(g: Group) -> bool
     ensures { λ r. ⌜ r ≡ isOn (groupOf g) ⌝ }
 {
     words::has(g.attributes as u64, 2)
-}
-
-pub fn is_owner(g: Group) -> bool
-    ensures { λ r. ⌜ r ≡ isOwner (groupOf g) ⌝ }
-{
-    words::has(g.attributes as u64, 3)
 }
 
 pub fn is_deny_only(g: Group) -> bool

@@ -1,19 +1,21 @@
-// Request 3: the groups of a new token, read from a body and judged.
+// Request 3: the groups of a new token, read from a body, judged and entered in its row.
 ghost use mathlib.Core.Path.{_≡_};
+ghost use lib.ListN.{replicate};
+ghost use Rattle.rules.specs.Memory.{tokenWords, pack};
 ghost use Rattle.rules.specs.Create.{validPair, entered};
 ghost use Rattle.token.specs.Meaning.{groupOf};
-ghost use Rattle.request.specs.Creating.{Room, GroupsRead, soFar, step};
+ghost use Rattle.request.specs.Creating.{GroupsRead};
 use crate::attributes;
 use crate::entry;
 use crate::entry::Pair;
 use privilege::words;
 use token::Group;
 use token::MAX_GROUPS;
+use token::row::HEAD_WORDS;
 
-// The groups so far, as long as every pair was good.
+// How many groups were entered; ok if every pair was good.
 pub struct Groups {
     pub ok: bool,
-    pub groups: [Group; MAX_GROUPS],
     pub count: usize,
 }
 
@@ -43,53 +45,43 @@ fn entered(g: Group) -> Group
     }
 }
 
-// One more pair.
-fn enter(r: Groups, user: u32, g: Group) -> Groups
-    requires { ⌜ Room r ⌝ }
-    ensures { λ q. ⌜ (soFar q ≡ step user (groupOf g) (soFar r)) × Room q ⌝ }
+// The word of the group that is entered.
+fn entered_word(g: Group) -> u64
+    ensures { λ r. ⌜ r ≡ pack (entered (groupOf g)) ⌝ }
 {
-    let at = r.count;
-    let mut next = r;
-    if r.ok & (at < MAX_GROUPS) & valid_pair(user, g) {
-        let e = entered(g);
-        next.groups[at] = e;
-        next.count = at + 1;
-    } else {
-        next.ok = false;
-    }
-    next
+    token::words::pack(entered(g))
 }
 
-pub fn read_groups(user: u32, s: &[u8], at: usize, count: u64) -> Groups
-    ensures { λ r. ⌜ GroupsRead user (now (s .entry)) at count r ⌝ }
+// The count pairs that stand at a place of a body, entered in a row of zeros until one is bad or past the last place.
+pub fn read_groups(user: u32, s: &[u8], at: usize, count: u64, words: &mut [u64]) -> Groups
+    requires { ⌜ now words ≡ replicate tokenWords 0 ⌝ }
+    ensures { λ r. ⌜ GroupsRead user (now (s .entry)) at count (now (words .exit)) r ⌝ }
 {
-    let none = Group {
-        sid: 0,
-        attributes: 0,
-    };
-    let mut r = Groups {
-        ok: true,
-        groups: [none; MAX_GROUPS],
-        count: 0,
-    };
+    let mut n: usize = 0;
     let mut from = at;
     let mut left = count;
     while 0 < left {
-        match entry::read(s, from) {
-            Pair::Bad => {
-                r.ok = false;
-                return r;
-            }
-            Pair::Got { key, value, next } => {
-                let g = Group {
-                    sid: key as u32,
-                    attributes: value as u32,
-                };
-                r = enter(r, user, g);
-                from = next;
-                left -= 1;
-            }
+        let Pair::Got { key, value, next } = entry::read(s, from) else {
+            return Groups {
+                ok: false,
+                count: n,
+            };
+        };
+        let g = Group {
+            sid: key as u32,
+            attributes: value as u32,
+        };
+        let valid = valid_pair(user, g);
+        if !((n < MAX_GROUPS) & valid) {
+            return Groups {
+                ok: false,
+                count: n,
+            };
         }
+        words[HEAD_WORDS + n] = entered_word(g);
+        n += 1;
+        from = next;
+        left -= 1;
     }
-    r
+    Groups { ok: true, count: n }
 }

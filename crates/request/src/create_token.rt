@@ -1,15 +1,15 @@
 // Request 3: create.
 ghost use mathlib.Core.Path.{_≡_};
 ghost use Prim.Native.Nat.{_<_};
+ghost use lib.ListN.{length, replicate};
 ghost use Rattle.rules.specs.State.{stationCount};
+ghost use Rattle.rules.specs.Memory.{tokenWords};
 ghost use Rattle.rules.specs.Create.{validIntegrity};
-ghost use Rattle.token.specs.Meaning.{Sized};
 ghost use Rattle.state.specs.Parts.{Lent};
-ghost use Rattle.request.specs.Creates.{TokenMade, CreatedIssued, CreateCarried};
+ghost use Rattle.request.specs.Creates.{RowMade, RowCreated, CreateCarried};
 use crate::create::read_groups;
 use crate::issue::can_issue;
-use crate::issue::issue;
-use crate::new_token::new_token;
+use crate::issue::issue_row;
 use crate::outcome;
 use crate::outcome::Outcome;
 use handle::Handles;
@@ -20,15 +20,11 @@ use state::tokens::held;
 use state::tokens::next_token;
 use state::tokens::used;
 use token::Identity;
-use token::Token;
+use token::MAX_DACL;
+use token::row;
+use token::row::TOKEN_WORDS;
 
 const PRIMARY: u8 = 1;
-
-// The token, if every field was good.
-pub struct Made {
-    pub ok: bool,
-    pub token: Token,
-}
 
 fn valid_integrity(i: u32) -> bool
     ensures { λ r. ⌜ r ≡ validIntegrity i ⌝ }
@@ -36,7 +32,7 @@ fn valid_integrity(i: u32) -> bool
     (i == 0) | ((i == 4096) | ((i == 8192) | ((i == 12288) | (i == 16384))))
 }
 
-// The count groups stand at a place of a body.
+// The new token's row, where every field is good. The count groups stand at a place of a body.
 fn make(
     n: u64,
     user: u32,
@@ -47,10 +43,12 @@ fn make(
     s: &[u8],
     at: usize,
     count: u64,
-) -> Made
-    ensures { λ r. ⌜ TokenMade n user session integrity present «by_default» (now (s .entry)) at count r ⌝ }
+    row: &mut [u64],
+) -> bool
+    requires { ⌜ now row ≡ replicate tokenWords 0 ⌝ }
+    ensures { λ r. ⌜ RowMade n user session integrity present «by_default» (now (s .entry)) at count (now (row .exit)) r ⌝ }
 {
-    let read = read_groups(user, s, at, count);
+    let read = read_groups(user, s, at, count, row);
     let identity = Identity {
         user: user,
         session: session,
@@ -59,35 +57,32 @@ fn make(
         integrity: integrity,
     };
     let granted = Privileges::granted(present, by_default);
-    let groups = read.groups;
-    let size = read.count;
-    Made {
-        ok: valid_integrity(integrity)
-            & words::within(by_default, present)
-            & words::within(present, Privileges::EXISTING)
-            & read.ok,
-        token: new_token(n, identity, granted, groups, size),
-    }
+    row::set_head(row, n, identity, granted, read.count);
+    valid_integrity(integrity)
+        & words::within(by_default, present)
+        & words::within(present, Privileges::EXISTING)
+        & read.ok
 }
 
-// The used bit falls on the caller's token before the new one is there.
+// The used bit falls on the caller's token before the new one is there. The new one has no DACL.
 fn issue_created(
     station: u32,
-    t: Token,
+    row: &[u64],
     handles: Handles,
     tokens: &mut [u64],
     dacls: &mut [u8],
     stations: &mut [u64],
 ) -> Outcome
-    requires { ⌜ Lent (now tokens) (now dacls) (now stations) × (station < stationCount) × Sized t ⌝ }
-    ensures { λ r. ⌜ CreatedIssued station t (handles .items) (now (stations .entry)) (now (tokens .entry)) (now (dacls .entry)) (now (stations .exit)) (now (tokens .exit)) (now (dacls .exit)) r ⌝ }
+    requires { ⌜ Lent (now tokens) (now dacls) (now stations) × (station < stationCount) × (length (now row) ≡ tokenWords) ⌝ }
+    ensures { λ r. ⌜ RowCreated station (now (row .entry)) (handles .items) (now (stations .entry)) (now (tokens .entry)) (now (dacls .entry)) (now (stations .exit)) (now (tokens .exit)) (now (dacls .exit)) r ⌝ }
 {
     if !can_issue(handles, tokens, stations) {
         return outcome::refused(8);
     }
     used(Privileges::CREATE_TOKEN, station, tokens, stations);
     let all = Mask::ALL;
-    issue(station, all.0, t, handles, tokens, dacls, stations)
+    let dacl = [0u8; MAX_DACL];
+    issue_row(station, all.0, row, &dacl, handles, tokens, dacls, stations)
 }
 
 pub fn create_token(
@@ -112,7 +107,8 @@ pub fn create_token(
         return outcome::refused(4);
     }
     let n = next_token(stations);
-    let m = make(
+    let mut row = [0u64; TOKEN_WORDS];
+    let ok = make(
         n,
         user,
         session,
@@ -122,9 +118,10 @@ pub fn create_token(
         s,
         at,
         count,
+        &mut row,
     );
-    if !m.ok {
+    if !ok {
         return outcome::refused(5);
     }
-    issue_created(station, m.token, handles, tokens, dacls, stations)
+    issue_created(station, &row, handles, tokens, dacls, stations)
 }

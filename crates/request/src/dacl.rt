@@ -1,37 +1,34 @@
-// Request 8: the default DACL, as it stands in a body.
+// Request 8: the default DACL, written in its row as it stands in a body.
 ghost use mathlib.Core.Path.{_≡_};
 ghost use mathlib.Core.List.{[]};
 ghost use Prim.Native.Nat.{_≤_};
-ghost use lib.ListN.{length, take};
+ghost use lib.ListN.{length};
+ghost use Rattle.table.specs.Lists.{pad};
 ghost use Rattle.rules.specs.Token.{maxDacl};
+ghost use Rattle.rules.specs.Memory.{tokenWords};
 ghost use Rattle.rules.specs.Request.{byte};
-ghost use Rattle.token.specs.Meaning.{tokenOf, Sized};
 ghost use Rattle.request.specs.Layout.{valuesAt, There};
-ghost use Rattle.request.specs.Bytes.{withDacl};
+ghost use Rattle.request.specs.Bytes.{DaclWritten};
 use token::MAX_DACL;
-use token::Token;
+use token::words::copy_bytes;
+use token::words::zero_bytes;
 
-fn bytes_at(s: &[u8], at: usize, size: usize) -> [u8; MAX_DACL]
-    requires { ⌜ (size ≤ maxDacl) × (at ≤ length (now s)) × There byte (now s) at size [] ⌝ }
-    ensures { λ r. ⌜ (take size r ≡ valuesAt byte (now (s .entry)) at size) × (length r ≡ maxDacl) ⌝ }
+// The bytes, and then zeros.
+fn store(src: &[u8], out: &mut [u8])
+    requires { ⌜ (length (now src) ≤ maxDacl) × (length (now out) ≡ maxDacl) ⌝ }
+    ensures { λ _. ⌜ now (out .exit) ≡ pad maxDacl (now (src .entry)) ⌝ }
 {
-    let mut out = [0u8; MAX_DACL];
-    let mut i: usize = 0;
-    while i < size {
-        out[i] = s[at + i];
-        i += 1;
-    }
-    out
+    let n = src.len();
+    copy_bytes(src, &mut out[0..n]);
+    zero_bytes(MAX_DACL - n, &mut out[n..MAX_DACL]);
 }
 
-// The bytes from a place of a body on, to its end, are the DACL.
-pub fn with_dacl(t: Token, s: &[u8], at: usize, size: usize) -> Token
-    requires { ⌜ Sized t × (size ≤ maxDacl) × (at ≤ length (now s)) × There byte (now s) at size [] ⌝ }
-    ensures { λ r. ⌜ (tokenOf r ≡ withDacl (valuesAt byte (now (s .entry)) at size) (tokenOf t)) × Sized r ⌝ }
+// The bytes from a place of a body on, to its end, are the DACL; its length is a word of the token's row.
+pub fn write(s: &[u8], at: usize, size: usize, words: &mut [u64], dacl: &mut [u8])
+    requires { ⌜ (length (now words) ≡ tokenWords) × (length (now dacl) ≡ maxDacl) × (size ≤ maxDacl) × (at ≤ length (now s)) × There byte (now s) at size [] ⌝ }
+    ensures { λ _. ⌜ DaclWritten (valuesAt byte (now (s .entry)) at size) (now (words .entry)) (now (words .exit)) (now (dacl .exit)) ⌝ }
 {
-    let dacl = bytes_at(s, at, size);
-    let mut next = t;
-    next.dacl = dacl;
-    next.dacl_count = size;
-    next
+    words[19] = size as u64;
+    let end = at + size;
+    store(&s[at..end], dacl);
 }

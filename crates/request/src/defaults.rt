@@ -1,105 +1,109 @@
-// Request 8: the fields judged against a token, and made on a copy of it.
+// Request 8: the fields judged against a token's row, and written there.
 ghost use mathlib.Core.Path.{_≡_};
 ghost use mathlib.Core.List.{[]};
 ghost use Prim.Native.Nat.{_≤_};
 ghost use lib.ListN.{length};
-ghost use Rattle.rules.specs.Token.{maxDacl, withDefaults};
+ghost use Rattle.rules.specs.Token.{maxDacl};
+ghost use Rattle.rules.specs.Memory.{tokenWords};
 ghost use Rattle.rules.specs.Request.{byte};
-ghost use Rattle.rules.specs.AdjustDefaults.{validOwner, orKept, adjusted};
-ghost use Rattle.token.specs.Meaning.{tokenOf, Sized};
+ghost use Rattle.rules.specs.AdjustDefaults.{orKept};
+ghost use Rattle.token.specs.Row.{Becomes};
 ghost use Rattle.request.specs.Layout.{valuesAt, There};
-ghost use Rattle.request.specs.Defaults.{DefaultsJudged, withIndexes, DefaultsMade};
-use crate::attributes;
+ghost use Rattle.request.specs.Ending.{RowsEnd};
+ghost use Rattle.request.specs.Defaults.{OwnerJudged, DefaultsJudged, withIndexes, DefaultsSet, defaultsEnding};
+use crate::answer::Answer;
 use crate::dacl;
-use token::Defaults;
+use privilege::words::has;
 use token::MAX_DACL;
-use token::Token;
+use token::MAX_GROUPS;
+use token::row;
+use token::row::HEAD_WORDS;
 
 const NO_CHANGE: u32 = 0xFFFF;
 
-// The token after the change; or, where not ok, some field is bad.
-pub struct Adjusted {
-    pub ok: bool,
-    pub token: Token,
-}
+// OWNER, bit 3 of the attributes, in a group's word.
+const OWNER: u64 = 35;
 
 // An owner index names the user or an OWNER group.
-fn is_owner(t: Token, i: u32) -> bool
-    requires { ⌜ Sized t ⌝ }
-    ensures { λ r. ⌜ r ≡ validOwner (tokenOf t .groups) i ⌝ }
+fn is_owner(words: &[u64], i: u32) -> bool
+    requires { ⌜ length (now words) ≡ tokenWords ⌝ }
+    ensures { λ r. ⌜ OwnerJudged i (now (words .entry)) r ⌝ }
 {
     if i == 0 {
         return true;
     }
     let k = i as usize - 1;
-    if t.group_count <= k {
+    if MAX_GROUPS <= k {
         return false;
     }
-    attributes::is_owner(t.groups[k])
+    if words[17] <= k as u64 {
+        return false;
+    }
+    has(words[HEAD_WORDS + k], OWNER)
 }
 
 // A primary-group index names the user or any group. Flag 0 goes with no bytes, flag 1 with at most 256.
-fn is_valid(t: Token, owner: u32, group: u32, flag: u32, size: u64) -> bool
-    requires { ⌜ Sized t ⌝ }
-    ensures { λ r. ⌜ DefaultsJudged t owner group flag size r ⌝ }
+fn is_valid(words: &[u64], owner: u32, group: u32, flag: u32, size: u64) -> bool
+    requires { ⌜ length (now words) ≡ tokenWords ⌝ }
+    ensures { λ r. ⌜ DefaultsJudged owner group flag size (now (words .entry)) r ⌝ }
 {
-    ((owner == NO_CHANGE) | is_owner(t, owner))
-        & ((group == NO_CHANGE) | (group as usize <= t.group_count))
+    ((owner == NO_CHANGE) | is_owner(words, owner))
+        & ((group == NO_CHANGE) | (group as u64 <= words[17]))
         & ((flag == 0) & (size == 0) | (flag == 1) & (size <= MAX_DACL as u64))
 }
 
-fn or_kept(new: u32, old: u32) -> u32
+fn or_kept(new: u32, old: u64) -> u64
     ensures { λ r. ⌜ r ≡ orKept new old ⌝ }
 {
-    if new == NO_CHANGE { old } else { new }
+    if new == NO_CHANGE { old } else { new as u64 }
 }
 
-fn with_indexes(t: Token, owner: u32, group: u32) -> Token
-    requires { ⌜ Sized t ⌝ }
-    ensures { λ r. ⌜ (tokenOf r ≡ withIndexes owner group (tokenOf t)) × Sized r ⌝ }
+fn set_indexes(owner: u32, group: u32, words: &mut [u64])
+    requires { ⌜ length (now words) ≡ tokenWords ⌝ }
+    ensures { λ _. ⌜ Becomes (withIndexes owner group) (now (words .entry)) (now (words .exit)) ⌝ }
 {
-    let defaults = Defaults {
-        owner: or_kept(owner, t.defaults.owner),
-        primary_group: or_kept(group, t.defaults.primary_group),
-    };
-    let mut next = t;
-    next.defaults = defaults;
-    next
+    words[9] = or_kept(owner, words[9]);
+    words[10] = or_kept(group, words[10]);
 }
 
-fn changed(t: Token, owner: u32, group: u32, flag: u32, size: u64, s: &[u8], at: usize) -> Token
-    requires { ⌜ Sized t × (size ≤ maxDacl) × (at ≤ length (now s)) × There byte (now s) at size [] ⌝ }
-    ensures { λ r. ⌜ (tokenOf r ≡ withDefaults (adjusted owner group flag (valuesAt byte (now (s .entry)) at size) (tokenOf t .defaults)) (tokenOf t)) × Sized r ⌝ }
-{
-    let next = with_indexes(t, owner, group);
-    if flag == 1 {
-        return dacl::with_dacl(next, s, at, size as usize);
-    }
-    next
-}
-
-// With flag 1 the size bytes from a place of a body on, to its end, are the DACL.
-pub fn adjust(
-    t: Token,
+// Flag 1 gives a DACL, and flag 0 keeps it.
+fn set(
     owner: u32,
     group: u32,
     flag: u32,
     size: u64,
     s: &[u8],
     at: usize,
-) -> Adjusted
-    requires { ⌜ Sized t × (at ≤ length (now s)) × There byte (now s) at size [] ⌝ }
-    ensures { λ r. ⌜ DefaultsMade owner group flag (valuesAt byte (now (s .entry)) at size) t r ⌝ }
+    words: &mut [u64],
+    bytes: &mut [u8],
+)
+    requires { ⌜ (length (now words) ≡ tokenWords) × (length (now bytes) ≡ maxDacl) × (size ≤ maxDacl) × (at ≤ length (now s)) × There byte (now s) at size [] ⌝ }
+    ensures { λ _. ⌜ DefaultsSet owner group flag (valuesAt byte (now (s .entry)) at size) (now (words .entry)) (now (bytes .entry)) (now (words .exit)) (now (bytes .exit)) ⌝ }
 {
-    if !is_valid(t, owner, group, flag, size) {
-        return Adjusted {
-            ok: false,
-            token: t,
-        };
+    set_indexes(owner, group, words);
+    row::step_modified(words);
+    if flag == 1 {
+        dacl::write(s, at, size as usize, words, bytes);
     }
-    let made = changed(t, owner, group, flag, size, s, at);
-    Adjusted {
-        ok: true,
-        token: made,
+}
+
+// With flag 1 the size bytes from a place of a body on, to its end, are the DACL.
+pub fn adjust(
+    owner: u32,
+    group: u32,
+    flag: u32,
+    size: u64,
+    s: &[u8],
+    at: usize,
+    words: &mut [u64],
+    bytes: &mut [u8],
+) -> Answer
+    requires { ⌜ (length (now words) ≡ tokenWords) × (length (now bytes) ≡ maxDacl) × (at ≤ length (now s)) × There byte (now s) at size [] ⌝ }
+    ensures { λ r. ⌜ RowsEnd (defaultsEnding owner group flag (valuesAt byte (now (s .entry)) at size)) (now (words .entry)) (now (bytes .entry)) (now (words .exit)) (now (bytes .exit)) r ⌝ }
+{
+    if !is_valid(words, owner, group, flag, size) {
+        return Answer::Refused(5);
     }
+    set(owner, group, flag, size, s, at, words, bytes);
+    Answer::Done
 }

@@ -1,17 +1,21 @@
-// A token's groups by value: what of them may be switched, switching one, resetting all, and the report of the enabled ones.
+// A token's groups: what of them may be switched, and, in the words of the token's row, switching one, resetting all, and the report of the
+// enabled ones. A list by value is put into a token here too.
 ghost use mathlib.Core.Path.{_≡_};
 ghost use mathlib.Core.List.{map};
-ghost use Prim.Native.Nat.{_≤_, _<_};
-ghost use lib.ListN.{take};
+ghost use Prim.Native.Nat.{_≤_};
+ghost use lib.ListN.{length, take};
 ghost use Rattle.rules.specs.Basic.{if_then_else_, changeAt};
 ghost use Rattle.rules.specs.Group.{isOn, switched};
 ghost use Rattle.rules.specs.Token.{maxGroups, withGroups};
+ghost use Rattle.rules.specs.Memory.{unpack};
 ghost use Rattle.rules.specs.AdjustGroups.{maySwitch, resetGroup, onBits};
 ghost use Rattle.token.specs.Meaning.{groupOf, tokenOf, Sized};
+ghost use Rattle.request.specs.Switching.{onWord, groupsIn};
 use crate::attributes;
 use token::Group;
 use token::MAX_GROUPS;
 use token::Token;
+use token::words;
 
 // ---- one group
 
@@ -36,21 +40,67 @@ fn reset_group(g: Group) -> Group
     attributes::switched(g, attributes::is_on_by_default(g))
 }
 
-// ---- the list
+// ---- one word
 
-pub fn reset_all(groups: [Group; MAX_GROUPS], count: usize) -> [Group; MAX_GROUPS]
-    requires { ⌜ count ≤ maxGroups ⌝ }
-    ensures { λ r. ⌜ map groupOf (take count r) ≡ map resetGroup (map groupOf (take count groups)) ⌝ }
+fn reset_word(w: u64) -> u64
+    ensures { λ r. ⌜ r ≡ onWord resetGroup w ⌝ }
 {
-    let mut next = groups;
+    words::pack(reset_group(words::unpack(w)))
+}
+
+fn switched_word(w: u64, on: bool) -> u64
+    ensures { λ r. ⌜ r ≡ onWord (switched on) w ⌝ }
+{
+    words::pack(attributes::switched(words::unpack(w), on))
+}
+
+fn on_bit(w: u64) -> u64
+    ensures { λ r. ⌜ r ≡ (if isOn (unpack w) then 1 else 0) ⌝ }
+{
+    if attributes::is_on(words::unpack(w)) {
+        1
+    } else {
+        0
+    }
+}
+
+// ---- the words of a row's groups
+
+pub fn reset_all(groups: &mut [u64])
+    ensures { λ _. ⌜ now (groups .exit) ≡ map (onWord resetGroup) (now (groups .entry)) ⌝ }
+{
     let mut i: usize = 0;
-    while i < count {
-        let g = reset_group(next[i]);
-        next[i] = g;
+    while i < groups.len() {
+        groups[i] = reset_word(groups[i]);
         i += 1;
     }
-    next
 }
+
+// Past the last group there is nothing to switch.
+pub fn switch_at(key: u64, on: bool, groups: &mut [u64])
+    ensures { λ _. ⌜ now (groups .exit) ≡ changeAt key (onWord (switched on)) (now (groups .entry)) ⌝ }
+{
+    let i = key as usize;
+    if i < groups.len() {
+        groups[i] = switched_word(groups[i], on);
+    }
+}
+
+// The ENABLED bits, group i at bit i.
+pub fn enabled_word(groups: &[u64]) -> u64
+    requires { ⌜ length (now groups) ≤ maxGroups ⌝ }
+    ensures { λ r. ⌜ r ≡ onBits (groupsIn (now (groups .entry))) ⌝ }
+{
+    let mut i = groups.len();
+    let mut w: u64 = 0;
+    while 0 < i {
+        i -= 1;
+        w = on_bit(groups[i]) + 2 * w;
+    }
+    w
+}
+
+// ---- a list by value
 
 pub fn with_groups(t: Token, groups: [Group; MAX_GROUPS]) -> Token
     requires { ⌜ Sized t ⌝ }
@@ -59,38 +109,4 @@ pub fn with_groups(t: Token, groups: [Group; MAX_GROUPS]) -> Token
     let mut next = t;
     next.groups = groups;
     next
-}
-
-pub fn switched_at(groups: [Group; MAX_GROUPS], key: u64, on: bool) -> [Group; MAX_GROUPS]
-    requires { ⌜ key < maxGroups ⌝ }
-    ensures { λ r. ⌜ map groupOf r ≡ changeAt key (switched on) (map groupOf groups) ⌝ }
-{
-    let mut next = groups;
-    let i = key as usize;
-    let g = attributes::switched(next[i], on);
-    next[i] = g;
-    next
-}
-
-// ---- the report
-
-fn on_bit(g: Group) -> u64
-    ensures { λ r. ⌜ r ≡ (if isOn (groupOf g) then 1 else 0) ⌝ }
-{
-    if attributes::is_on(g) { 1 } else { 0 }
-}
-
-// The ENABLED bits, group i at bit i.
-pub fn enabled_word(t: Token) -> u64
-    requires { ⌜ Sized t ⌝ }
-    ensures { λ r. ⌜ r ≡ onBits (tokenOf t .groups) ⌝ }
-{
-    let groups = t.groups;
-    let mut i = t.group_count;
-    let mut w: u64 = 0;
-    while 0 < i {
-        i -= 1;
-        w = on_bit(groups[i]) + 2 * w;
-    }
-    w
 }

@@ -21,7 +21,6 @@ pub mod issue;
 pub mod layout;
 pub mod located;
 pub mod lookup;
-pub mod new_token;
 pub mod open;
 pub mod outcome;
 pub mod privileges;

@@ -2,7 +2,6 @@
 ghost use mathlib.Core.Path.{_≡_};
 ghost use Prim.Native.Nat.{_*_};
 ghost use lib.ListN.{length};
-ghost use Rattle.rules.specs.Token.{maxDacl};
 ghost use Rattle.rules.specs.State.{tokenSlots};
 ghost use Rattle.rules.specs.Memory.{tokenWords};
 ghost use Rattle.rules.specs.Query as rules;
@@ -16,21 +15,26 @@ use crate::outcome;
 use crate::outcome::Outcome;
 use handle::Handles;
 use privilege::mask::Mask;
-use state::tokens::token_at;
+use token::row::TOKEN_WORDS;
 use token::slots;
+use token::slots::TOKEN_SLOTS;
 
-// A class of the token of that number.
-fn class_of(token: u64, class: u64, capacity: u64, tokens: &[u64], dacls: &[u8]) -> Answer
-    requires { ⌜ (length (now tokens) ≡ tokenSlots * tokenWords) × (length (now dacls) ≡ tokenSlots * maxDacl) ⌝ }
-    ensures { λ r. ⌜ ClassAnswered token class capacity (now (tokens .entry)) (now (dacls .entry)) r ⌝ }
+// A class of the live token of that number; there is one.
+fn class_of(token: u64, class: u64, capacity: u64, tokens: &[u64]) -> Answer
+    requires { ⌜ length (now tokens) ≡ tokenSlots * tokenWords ⌝ }
+    ensures { λ r. ⌜ ClassAnswered token class capacity (now (tokens .entry)) r ⌝ }
 {
     let known = (1 <= class) & (class <= 13);
     if !known {
         return Answer::Refused(5);
     }
     let slot = slots::find(tokens, token);
-    let t = token_at(slot, tokens, dacls);
-    let needed = size(t, class);
+    if TOKEN_SLOTS <= slot {
+        return Answer::Refused(5);
+    }
+    let at = slot * TOKEN_WORDS;
+    let end = at + TOKEN_WORDS;
+    let needed = size(&tokens[at..end], class) as u64;
     if capacity < needed {
         return Answer::TooSmall(needed);
     }
@@ -54,6 +58,6 @@ pub fn query(
     if target.refusal != 0 {
         return outcome::refused(target.refusal);
     }
-    let answer = class_of(target.handle.token, class, capacity, tokens, dacls);
+    let answer = class_of(target.handle.token, class, capacity, tokens);
     outcome::ends(answer)
 }

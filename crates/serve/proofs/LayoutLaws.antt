@@ -6,7 +6,7 @@ use mathlib.Core.Bool.{Bool, true, false, not}
 use mathlib.Core.List.{List, []}
 use lib.ListN.{length, drop}
 use borrow.Author.Tests.{not-true, not-false}
-use Rattle.rules.specs.Number.{Read, got, bad}
+use Rattle.rules.specs.Number.{Read, bad}
 use Rattle.rules.specs.Entry.{Entry}
 use Rattle.rules.specs.Refusal.{refusal}
 use Rattle.rules.specs.Request as requests
@@ -23,7 +23,7 @@ use Rattle.request.specs.Carried.{Ends, Carried}
 use Rattle.request.specs.Layout.{whole, valuesAt, There, NumberRead, Listed, EntriesRead, RestrictRead}
 use Rattle.request.specs.Adjusts.{EntriesCarried}
 use Rattle.request.specs.Creates.{CreateCarried}
-use Rattle.request.specs.Restricts.{Lists, RestrictCarried}
+use Rattle.request.specs.Restricts.{RestrictCarried}
 use Rattle.request.proofs.Deciding.{refuses}
 use Rattle.serve.specs.Served.{LayoutCarried}
 

@@ -6,7 +6,6 @@ ghost use Rattle.rules.specs.Frame.{maxAnswer};
 ghost use Rattle.state.specs.Parts.{Lent};
 ghost use Rattle.serve.specs.Served.{Held, BodyCarried, BodyServed};
 use handle::Handles;
-use number::Cursor;
 use request::answer;
 use request::layout;
 use request::outcome;

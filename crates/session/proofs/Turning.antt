@@ -1,13 +1,10 @@
 -- What the broker's calls by value give to the session. Assumes nothing.
 use Prim.Native.Nat.{ℕ, zero, suc, _≤_, _<_}
 use native.Mathlib.Omega.{arith}
-use mathlib.Core.Path.{_≡_, refl, sym, ap, subst, _∙_}
-use mathlib.Core.Bool.{true}
+use mathlib.Core.Path.{_≡_, refl, sym, ap, _∙_}
 use mathlib.Core.List.{List, _∷_}
 use lib.ListN.{length, getD, take, drop, replicate, length-append, length-set, length-replicate}
-use lib.Seq.{take-at, take-length}
-use Rattle.rules.specs.Basic.{all}
-use Rattle.rules.specs.Valid.{isByte}
+use lib.Seq.{take-at}
 use Rattle.rules.specs.State.{handleSlots}
 use Rattle.rules.specs.Memory.{Memory}
 use Rattle.rules.specs.Calls.{feedOn, buffer}
@@ -16,11 +13,11 @@ use Rattle.handle.specs.Loaded.{loaded}
 use Rattle.handle.specs.declared.Handle.{Handle}
 use Rattle.handle.specs.declared.Handles.{Handles}
 use Rattle.valid.specs.Meaning.{memoryOf}
-use Rattle.valid.proofs.Truth.{all-below}
 use Rattle.state.specs.HandleFacts.{changed}
 use Rattle.broker.specs.Promise.{Feeds, freed, StartsWith, FeedsWith}
 use Rattle.broker.specs.declared.by_value.Turn.{Turn}
 use Rattle.broker.specs.declared.by_value.Started.{Started}
+use Rattle.broker.proofs.Freeing.{of-bytes}
 use Rattle.session.specs.Program.{fed}
 use Rattle.session.specs.Turns.{Starts, Turns}
 use Rattle.session.specs.declared.turn.Turned.{Turned}
@@ -43,10 +40,6 @@ started ts ds ss ps ts′ ds′ ss′ ps′ x w =
     }
 
 -- ---- feed
-
-of-bytes : (xs : List ℕ) → ((i : ℕ) → getD xs i 0 < 256) → all isByte xs ≡ true
-unfolding isByte
-of-bytes xs h = subst (λ (ys : List ℕ). all isByte ys ≡ true) (take-length xs) (all-below 256 xs h (length xs))
 
 module _ (s : ℕ) (chunk : List ℕ) (bytes : (i : ℕ) → getD chunk i 0 < 256) (m m′ : Memory) (out out′ : List ℕ) (r : Turned) (f : Feeds (feedOn m s chunk (length out)) m′ out out′ (r .fed)) where
   answer : take (r .fed .answered) out′ ≡ feedOn m s chunk (length out) .answer

@@ -2,14 +2,13 @@
 use Prim.Native.Nat.{ℕ, _+_, _≤_, _<_}
 use native.Mathlib.Omega.{arith}
 use mathlib.Core.Path.{_≡_, refl, sym, ap, _∙_}
-use mathlib.Core.Bool.{true}
 use mathlib.Core.List.{List, [], _∷_}
 use lib.ListN.{set}
 use lib.Seq.{set-out}
 use Rattle.table.specs.Table.{flat, put-record}
 use Rattle.rules.specs.Token.{maxDacl}
 use Rattle.rules.specs.Table.{live, added}
-use Rattle.rules.specs.State.{State, tokenSlots, withTokens, addToken}
+use Rattle.rules.specs.State.{tokenSlots, withTokens, addToken}
 use Rattle.rules.specs.Index.{freeIndex}
 use Rattle.rules.specs.Memory.{tokenWords, slotRow, slotDacl}
 use Rattle.rules.proofs.Index.{placed-set}

@@ -5,14 +5,14 @@ use native.Mathlib.Omega.{arith}
 use mathlib.Core.Path.{_≡_, refl, sym, ap, _∙_}
 use mathlib.Core.Bool.{true}
 use mathlib.Core.List.{List, _++_}
-use lib.ListN.{length, take, drop, getD, set, take-append-drop, List·getD-eq-default}
+use lib.ListN.{take, drop, getD, set, take-append-drop, List·getD-eq-default}
 use lib.Seq.{set-out}
 use borrow.Author.Tests.{eqb-true}
 use Rattle.table.specs.Lists.{pad}
 use Rattle.table.specs.Table.{flat, record-at, put-record, record-flat, part-at, put-lent}
 use Rattle.rules.specs.Token as Rules
 use Rattle.rules.specs.Token.{maxDacl}
-use Rattle.rules.specs.Table.{Slot, free, live, orElse, found, withSlots}
+use Rattle.rules.specs.Table.{free, live, orElse, found, withSlots}
 use Rattle.rules.specs.State as State
 use Rattle.rules.specs.State.{State, tokenSlots, noToken, isNumbered, withTokens, putToken, changeToken}
 use Rattle.rules.specs.Index.{foundIndex}
@@ -139,3 +139,24 @@ module _ {n i : ℕ} {ts : List ℕ} (at : FoundAt n ts i) (f : Rules.Token → 
   pub words-unchanged : tokenSlots ≤ i → WordsChanged n f ts ts
   unfolding changeToken
   words-unchanged l = record { tokens = λ σ v h. put-nowhere n at v h l (f (State.tokenOf σ n)) (keeps (State.tokenOf σ n)) }
+
+-- ---- the DACL's row as it is lent, and as it comes back
+
+abbrev pub lent-dacl : ℕ → List ℕ → List ℕ
+lent-dacl i ds = take (i * maxDacl + maxDacl - i * maxDacl) (drop (i * maxDacl) ds)
+
+abbrev pub back-dacl : ℕ → List ℕ → List ℕ → List ℕ
+back-dacl i bs ds = take (i * maxDacl) ds ++ (bs ++ drop (i * maxDacl + maxDacl - i * maxDacl) (drop (i * maxDacl) ds))
+
+module _ (n : ℕ) {i : ℕ} {ts ds : List ℕ} (at : FoundAt n ts i) {σ : State} (v : valid σ ≡ true) (h : TokensIn σ ts ds) (l : i < tokenSlots) where
+  pub lent-dacl-row : lent-dacl i ds ≡ daclRow (State.tokenOf σ n)
+  lent-dacl-row = part-at maxDacl i ds ∙ in-slot n at v h l .bytes
+
+  pub put-rows-in-place : (u : Rules.Token) → u .number ≡ State.tokenOf σ n .number → {ws bs : List ℕ} → ws ≡ tokenRow u → bs ≡ daclRow u
+      → TokensIn (putToken u σ) (back i ws ts) (back-dacl i bs ds)
+  put-rows-in-place u k {ws} {bs} ew eb =
+      let c = put-in-place n at v h l u (k ∙ in-slot n at v h l .number) ew eb in
+      record { words = put-lent tokenWords i {r = ws} ts refl ∙ c .words; bytes = put-lent maxDacl i {r = bs} ds refl ∙ c .bytes }
+
+  pub dacl-kept-in-place : {bs : List ℕ} → bs ≡ daclRow (State.tokenOf σ n) → back-dacl i bs ds ≡ ds
+  dacl-kept-in-place {bs} e = put-lent maxDacl i {r = bs} ds (e ∙ sym (in-slot n at v h l .bytes)) ∙ sym (put-same maxDacl i ds)

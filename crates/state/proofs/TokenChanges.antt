@@ -8,18 +8,18 @@ use lib.ListN.{set}
 use lib.Seq.{set-out}
 use Rattle.table.specs.Table.{flat, put-record}
 use Rattle.rules.specs.Token.{maxDacl}
-use Rattle.rules.specs.Table.{live, added, withSlots}
-use Rattle.rules.specs.State.{State, tokenSlots, isNumbered, withTokens, putToken, addToken}
-use Rattle.rules.specs.Index.{freeIndex, foundIndex}
+use Rattle.rules.specs.Table.{live, added}
+use Rattle.rules.specs.State.{State, tokenSlots, withTokens, addToken}
+use Rattle.rules.specs.Index.{freeIndex}
 use Rattle.rules.specs.Valid.{valid}
 use Rattle.rules.specs.Memory.{tokenWords, tokenRow, daclRow, slotRow, slotDacl}
-use Rattle.rules.proofs.Index.{placed-set, exchanged-set}
+use Rattle.rules.proofs.Index.{placed-set}
 use Rattle.token.specs.Meaning.{tokenOf}
 use Rattle.token.specs.declared.Token.{Token}
 use Rattle.token.proofs.Laws.{put-words, put-dacls}
 use Rattle.state.specs.Parts.{TokensIn}
 use Rattle.state.specs.StationFacts.{nextHandle}
-use Rattle.state.specs.TokenCalls.{FoundAt, nextIn, Stored, TokenPut, TokenAdded}
+use Rattle.state.specs.TokenCalls.{nextIn, Stored, TokenAdded}
 use Rattle.state.proofs.TokenLooks.{slots-read, slots-long, FreeAt}
 
 -- ---- one slot
@@ -51,16 +51,6 @@ module _ {t : Token} {i : ℕ} {ts ds ts′ ds′ : List ℕ} (s : Stored t i ts
         words = s .words ps long (h .words) ∙ ap (flat slotRow) (sym e);
         bytes = s .bytes ps long (h .bytes) ∙ ap (flat slotDacl) (sym e);
       }
-
-  pub token-put : FoundAt (t .number) ts i → TokenPut t ts ds ts′ ds′
-  unfolding putToken withTokens withSlots
-  token-put at = record {
-    tokens = λ σ v h.
-        let ps = σ .tokens .slots in
-        changed σ (putToken (tokenOf t) σ) v h
-        (exchanged-set (isNumbered (t .number)) (live (tokenOf t)) ps
-        ∙ ap (λ (k : ℕ). set ps k (live (tokenOf t))) (sym (at ds ∙ ap (foundIndex (isNumbered (t .number))) (slots-read v h))));
-  }
 
   pub token-added : {ss : List ℕ} → FreeAt ts i → TokenAdded t ts ds ss ts′ ds′ (set ss 0 (nextIn ss + 1))
   unfolding addToken withTokens added

@@ -4,7 +4,6 @@ use mathlib.Core.List.{List}
 use Rattle.rules.specs.Token.{Token}
 use Rattle.rules.specs.Table.{Slot, Table, withSlots}
 use Rattle.rules.specs.Handle as Rules
-use Rattle.rules.specs.Station.{Station}
 use Rattle.rules.specs.State.{State, withTokens, withHandles, putToken, changeToken, used}
 use Rattle.handle.specs.declared.Handle.{Handle}
 use Rattle.state.specs.Parts.{TokensIn, StationsIn, HandlesIn}

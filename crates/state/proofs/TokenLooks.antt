@@ -2,7 +2,7 @@
 use Prim.Native.Nat.{ℕ, _≤_, _<_}
 use native.Mathlib.Omega.{arith}
 use mathlib.Core.Path.{_≡_, refl, sym, ap, ap₂, _∙_}
-use mathlib.Core.Bool.{Bool, true, _&&_}
+use mathlib.Core.Bool.{true, _&&_}
 use mathlib.Core.List.{List}
 use lib.Dec.{eqb, ltb}
 use lib.ListN.{length, getD, List·getD-eq-default}
@@ -14,7 +14,7 @@ use Rattle.rules.specs.Token as Rules
 use Rattle.rules.specs.Token.{maxDacl}
 use Rattle.rules.specs.Table.{Slot, free, orElse, canAdd, found}
 use Rattle.rules.specs.State as State
-use Rattle.rules.specs.State.{State, tokenSlots, noToken, isNumbered, caller, canAddToken}
+use Rattle.rules.specs.State.{State, tokenSlots, noToken, isNumbered, canAddToken}
 use Rattle.rules.specs.Index.{freeIndex}
 use Rattle.rules.specs.Valid.{valid}
 use Rattle.rules.specs.Memory.{tokenWords, slotAt, tokenAt}
@@ -24,9 +24,8 @@ use Rattle.rules.proofs.Index.{found-at}
 use Rattle.token.specs.Meaning.{tokenOf, slotsOf, Sized}
 use Rattle.token.specs.declared.Token.{Token}
 use Rattle.state.specs.Parts.{TokensIn}
-use Rattle.state.specs.StationFacts.{CallerNumber}
 use Rattle.state.proofs.FormedLaws.{valid-formed, tokens-back}
-use Rattle.state.specs.TokenCalls.{FoundAt, TokenGiven, TokenLoaded, CallerGiven, NextToken, CanAdd}
+use Rattle.state.specs.TokenCalls.{FoundAt, TokenGiven, TokenLoaded, NextToken, CanAdd}
 use Rattle.state.proofs.Slots.{some-free, found-live, live-or}
 
 -- ---- the slots that the rows stand for
@@ -71,12 +70,6 @@ token-missing {r} {ts} {ds} l q z = record {
 
 pub token-given : {n r : ℕ} {ts ds : List ℕ} {t : Token} → FoundAt n ts r → TokenLoaded r ts ds t → TokenGiven n ts ds t
 token-given {n} e k = k .given n e
-
--- ---- a station's token
-
-pub caller-given : {s n : ℕ} {ts ds ss : List ℕ} {t : Token} → CallerNumber s ss n → TokenGiven n ts ds t → CallerGiven s ts ds ss t
-unfolding caller
-caller-given c g = record { sized = g .sized; token = λ σ v i j. g .token σ v i ∙ ap (State.tokenOf σ) (c .number σ j) }
 
 -- ---- the next number, and room for a token
 

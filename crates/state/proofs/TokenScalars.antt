@@ -1,7 +1,7 @@
 -- Who a token is, read in its row; its privileges, read and marked there. Assumes nothing.
 use Prim.Native.Nat.{ℕ, _%_, _^_, _≤_, _<_}
 use mathlib.Core.Path.{_≡_, refl, sym, ap, subst, _∙_}
-use mathlib.Core.Bool.{Bool, true}
+use mathlib.Core.Bool.{Bool}
 use mathlib.Core.List.{List}
 use Rattle.rules.specs.Privileges as Rules
 use Rattle.rules.specs.Privileges.{isEnabled, markUsed, granted}

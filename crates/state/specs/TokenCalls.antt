@@ -9,7 +9,7 @@ use Rattle.rules.specs.Number.{max64}
 use Rattle.rules.specs.Token as Rules
 use Rattle.rules.specs.Table.{Slot, live}
 use Rattle.rules.specs.State as State
-use Rattle.rules.specs.State.{State, tokenSlots, isNumbered, caller, held, putToken, changeToken, used, canAddToken, addToken}
+use Rattle.rules.specs.State.{State, tokenSlots, isNumbered, held, changeToken, used, canAddToken, addToken}
 use Rattle.rules.specs.Index.{foundIndex}
 use Rattle.rules.specs.Valid.{valid}
 use Rattle.rules.specs.Privileges.{markUsed}
@@ -36,10 +36,6 @@ FoundAt n ts r = (bs : List ℕ) → r ≡ foundIndex (isNumbered n) (slotsOf ts
 pub record TokenLoaded (slot : ℕ) (ts ds : List ℕ) (r : Token) : Type 0 where
   pub sized : Sized r
   pub given : (n : ℕ) → FoundAt n ts slot → TokenGiven n ts ds r
-
-pub record CallerGiven (s : ℕ) (ts ds ss : List ℕ) (r : Token) : Type 0 where
-  pub sized : Sized r
-  pub token : (σ : State) → valid σ ≡ true → TokensIn σ ts ds → StationsIn σ ss → tokenOf r ≡ caller σ s
 
 pub record IdentityGiven (n : ℕ) (ts : List ℕ) (r : Identity) : Type 0 where
   pub identity : (σ : State) → valid σ ≡ true → {ds : List ℕ} → TokensIn σ ts ds → identityOf r ≡ State.tokenOf σ n .identity
@@ -72,9 +68,6 @@ pub record CanAdd (ts ss : List ℕ) (r : Bool) : Type 0 where
 pub record Stored (t : Token) (i : ℕ) (ts ds ts′ ds′ : List ℕ) : Type 0 where
   pub words : (ps : List (Slot Rules.Token)) → length ps ≡ tokenSlots → ts ≡ flat slotRow ps → ts′ ≡ flat slotRow (set ps i (live (tokenOf t)))
   pub bytes : (ps : List (Slot Rules.Token)) → length ps ≡ tokenSlots → ds ≡ flat slotDacl ps → ds′ ≡ flat slotDacl (set ps i (live (tokenOf t)))
-
-pub record TokenPut (t : Token) (ts ds ts′ ds′ : List ℕ) : Type 0 where
-  pub tokens : (σ : State) → valid σ ≡ true → TokensIn σ ts ds → TokensIn (putToken (tokenOf t) σ) ts′ ds′
 
 pub record TokenAdded (t : Token) (ts ds ss ts′ ds′ ss′ : List ℕ) : Type 0 where
   pub tokens : (σ : State) → valid σ ≡ true → TokensIn σ ts ds → TokensIn (addToken (tokenOf t) σ) ts′ ds′

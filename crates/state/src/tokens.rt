@@ -9,7 +9,7 @@ ghost use Rattle.rules.specs.Memory.{tokenWords, counterWords, stationWords};
 ghost use Rattle.token.specs.Meaning.{tokenOf, Sized};
 ghost use Rattle.state.specs.Parts.{Lent};
 ghost use Rattle.state.specs.StationFacts.{stationsSize};
-ghost use Rattle.state.specs.TokenCalls.{TokenLoaded, TokenGiven, CallerGiven, IdentityGiven, IdentityAt, PrivilegesAt, Held, Marked, nextIn, NextToken, CanAdd, Stored, TokenPut, TokenAdded, RowsPut, RowAdded, Used};
+ghost use Rattle.state.specs.TokenCalls.{TokenLoaded, TokenGiven, IdentityGiven, IdentityAt, PrivilegesAt, Held, Marked, nextIn, NextToken, CanAdd, Stored, TokenAdded, RowsPut, RowAdded, Used};
 use crate::stations::NEXT_TOKEN;
 use crate::stations::caller_number;
 use privilege::privileges::Privileges;
@@ -92,14 +92,6 @@ pub fn token_of(number: u64, tokens: &[u64], dacls: &[u8]) -> Token
 {
     let slot = slots::find(tokens, number);
     token_at(slot, tokens, dacls)
-}
-
-pub fn caller(station: u32, tokens: &[u64], dacls: &[u8], stations: &[u64]) -> Token
-    requires { ⌜ Lent (now tokens) (now dacls) (now stations) × (station < stationCount) ⌝ }
-    ensures { λ r. ⌜ CallerGiven station (now (tokens .entry)) (now (dacls .entry)) (now (stations .entry)) r ⌝ }
-{
-    let number = caller_number(station, stations);
-    token_of(number, tokens, dacls)
 }
 
 // Who the token in a slot is; what `no_token` is, past the last slot.
@@ -185,15 +177,6 @@ fn store(t: Token, tokens: &mut [u64], dacls: &mut [u8], slot: usize)
     if slot < TOKEN_SLOTS {
         slots::store_at(t, tokens, dacls, slot);
     }
-}
-
-// The token of t's number becomes t.
-pub fn put_token(t: Token, tokens: &mut [u64], dacls: &mut [u8])
-    requires { ⌜ (length (now tokens) ≡ tokenSlots * tokenWords) × (length (now dacls) ≡ tokenSlots * maxDacl) × Sized t ⌝ }
-    ensures { λ r. ⌜ TokenPut t (now (tokens .entry)) (now (dacls .entry)) (now (tokens .exit)) (now (dacls .exit)) ⌝ }
-{
-    let slot = slots::find(tokens, t.number);
-    store(t, tokens, dacls, slot);
 }
 
 // A new token, whose number is the next one.

@@ -1,6 +1,8 @@
 -- What a chunk does to a stream's pending bytes: they join one by one until a frame is whole, the stream breaks or the chunk ends. Assumes nothing.
-use Prim.Native.Nat.{ℕ, _+_}
+use Prim.Native.Nat.{ℕ, _+_, _≤_}
+use mathlib.Core.Path.{_≡_}
 use mathlib.Core.List.{List, [], _∷_, _++_}
+use lib.ListN.{length}
 use Rattle.rules.specs.Frame.{Framed, part, broken, whole, framed}
 
 -- how many bytes of the chunk were used, the pending bytes with them, and what these come to
@@ -25,3 +27,7 @@ stoppedFrom n pending (b ∷ chunk) =
 -- pending bytes that are a part of a frame, and a chunk
 abbrev pub stopped : List ℕ → List ℕ → Stop
 stopped pending chunk = stoppedFrom 0 pending chunk
+
+-- k bytes more, whatever they are, leave a part of a frame
+pub record Sure (pending : List ℕ) (k : ℕ) : Type 0 where
+  pub stays : (bytes : List ℕ) → 1 ≤ length bytes → length bytes ≤ k → framed (pending ++ bytes) ≡ part

@@ -4,11 +4,12 @@ ghost use mathlib.Core.List.{_++_};
 ghost use Prim.Native.Nat.{_≤_, _<_};
 ghost use lib.ListN.{length, drop, replicate};
 ghost use Rattle.rules.specs.Memory.{pendingBytes};
-ghost use Rattle.stream.specs.Meaning.{Joined};
+ghost use Rattle.stream.specs.Meaning.{JoinedAtOnce, Joined};
 
 pub mod frame;
 
 use frame::framed;
+use frame::sure;
 
 // What the first bytes of a stream come to: a part of a frame, a break, or a whole frame, whose body begins at start.
 pub enum Framed {
@@ -24,6 +25,34 @@ pub struct Stopped {
     pub what: Framed,
 }
 
+fn least(a: usize, b: usize) -> usize
+    ensures { λ r. ⌜ (r ≤ a) × (r ≤ b) ⌝ }
+{
+    if a < b { a } else { b }
+}
+
+fn copy(src: &[u8], out: &mut [u8])
+    requires { ⌜ length (now out) ≡ length (now src) ⌝ }
+    ensures { λ r. ⌜ now (out .exit) ≡ now (src .entry) ⌝ }
+{
+    let mut i: usize = 0;
+    while i < src.len() {
+        out[i] = src[i];
+        i += 1;
+    }
+}
+
+// The bytes of a chunk, but for its last one, join at once while the pending ones stay a part of a frame for sure. Answers how many.
+fn join_at_once(chunk: &[u8], row: &mut [u8], count: usize) -> usize
+    requires { ⌜ (1 ≤ length (now chunk)) × (length (now row) ≡ pendingBytes) × (count < pendingBytes) ⌝ }
+    ensures { λ r. ⌜ JoinedAtOnce (now (chunk .entry)) (now (row .entry)) count (now (row .exit)) r ⌝ }
+{
+    let k = least(sure(row, count), chunk.len() - 1);
+    let end = count + k;
+    copy(&chunk[0..k], &mut row[count..end]);
+    k
+}
+
 // The bytes of a chunk join the pending ones until a frame is whole, the stream breaks or the chunk ends.
 pub fn join(chunk: &[u8], row: &mut [u8], count: usize) -> Stopped
     requires { ⌜ (length (now row) ≡ pendingBytes) × (count < pendingBytes) ⌝ }
@@ -32,6 +61,9 @@ pub fn join(chunk: &[u8], row: &mut [u8], count: usize) -> Stopped
     let mut n = count;
     let mut i: usize = 0;
     while i < chunk.len() {
+        let k = join_at_once(&chunk[i..], row, n);
+        n += k;
+        i += k;
         row[n] = chunk[i];
         n += 1;
         i += 1;

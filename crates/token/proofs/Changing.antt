@@ -1,10 +1,21 @@
 -- A token that is changed in its row: which words are whose. Assumes nothing.
-use mathlib.Core.Path.{_≡_, ap, _∙_}
-use mathlib.Core.List.{List}
-use Prim.Native.Nat.{ℕ, _+_, _%_, _^_}
-use lib.ListN.{getD, set}
-use Rattle.rules.specs.Token.{nextModified, withPrivileges, withScope}
-use Rattle.rules.specs.Memory.{head, tokenRow}
+use mathlib.Core.Path.{_≡_, sym, ap, ap₂, _∙_}
+use mathlib.Core.Bool.{true}
+use mathlib.Core.List.{List, _++_, map, append-assoc}
+use Prim.Native.Nat.{ℕ, _+_, _-_, _%_, _^_, _≤_, min}
+use native.Mathlib.Omega.{arith}
+use lib.ListN.{length, take, drop, getD, set, replicate, length-map}
+use lib.Seq.{take-take, drop-at}
+use borrow.Author.Tests.{leb-true}
+use Rattle.table.specs.Lists.{pad, pad-fits}
+use Rattle.rules.specs.Basic.{all}
+use Rattle.rules.specs.Group.{Group}
+use Rattle.rules.specs.Token.{Token, maxGroups, maxRestricting, nextModified, withPrivileges, withGroups, withScope}
+use Rattle.rules.specs.Valid.{groupValid, groupsValid, tokenValid}
+use Rattle.rules.specs.Memory.{headWords, pack, unpack, head, tokenRow, groupsAt, tokenAt}
+use Rattle.rules.proofs.Logic.{and-l}
+use Rattle.rules.proofs.Facts.{token-facts}
+use Rattle.rules.proofs.Rows.{token-back}
 use Rattle.privilege.specs.Meaning.{privilegesOf}
 use Rattle.privilege.specs.declared.privileges.Privileges.{Privileges}
 use Rattle.token.specs.Row.{Becomes}
@@ -21,3 +32,60 @@ module _ {ws : List ℕ} where
   pub scope-set : (v : ℕ) → Becomes (withScope v) ws (set ws 11 v)
   unfolding tokenRow head withScope
   scope-set v = record { row = λ t e. ap (λ (l : List ℕ). set l 11 v) e }
+
+-- ---- the words of a token's groups
+
+-- what `&words[20..20 + n]` is, and what `&mut words[20..20 + n]` comes back as
+abbrev pub groupWords : ℕ → List ℕ → List ℕ
+groupWords n ws = take (headWords + n - headWords) (drop headWords ws)
+
+abbrev pub putGroupWords : ℕ → List ℕ → List ℕ → List ℕ
+putGroupWords n gw ws = take headWords ws ++ (gw ++ drop (headWords + n - headWords) (drop headWords ws))
+
+after-groups : (t : Token) → length (t .groups) ≤ maxGroups
+    → drop (length (t .groups)) (drop headWords (tokenRow t)) ≡ replicate (maxGroups - length (t .groups)) 0 ++ pad maxRestricting (t .limits .restricting)
+unfolding tokenRow head
+after-groups t few =
+    let words = map pack (t .groups) in
+    let long = length-map (t .groups) pack in
+    let zeros : List ℕ = replicate (maxGroups - length (t .groups)) 0 in
+    let sids = pad maxRestricting (t .limits .restricting) in
+    ap (λ (l : List ℕ). drop (length (t .groups)) (l ++ sids)) (pad-fits maxGroups words (omega arith) ∙ ap (λ (k : ℕ). words ++ replicate (maxGroups - k) 0) long)
+    ∙ ap (drop (length (t .groups))) (append-assoc words zeros sids)
+    ∙ drop-at words (zeros ++ sids) (length (t .groups)) long
+
+-- the count is the same
+other-head : (t : Token) (gs : List Group) → length gs ≡ length (t .groups) → take headWords (tokenRow t) ≡ head (withGroups gs t)
+unfolding tokenRow head withGroups
+other-head t gs l = cc
+
+pub few-groups : (t : Token) → tokenValid t ≡ true → length (t .groups) ≤ maxGroups
+unfolding groupsValid
+few-groups t v = leb-true (length (t .groups)) maxGroups (and-l _ (all groupValid (t .groups)) (token-facts t v .groups))
+
+module _ {ws : List ℕ} {n : ℕ} (t : Token) (v : tokenValid t ≡ true) (e : ws ≡ tokenRow t) (k : n ≡ min (getD ws 17 0) maxGroups) where
+  counted : headWords + n - headWords ≡ length (t .groups)
+  unfolding tokenRow head
+  counted = let few = few-groups t v in let c : getD ws 17 0 ≡ length (t .groups) = ap (λ (l : List ℕ). getD l 17 0) e in omega arith
+
+  pub group-words-read : map unpack (groupWords n ws) ≡ t .groups
+  unfolding tokenAt groupsAt tokenRow head
+  group-words-read =
+      ap (map unpack) (ap₂ (λ (j : ℕ) (l : List ℕ). take j (drop headWords l)) counted e ∙ sym (take-take (length (t .groups)) maxGroups (drop headWords (tokenRow t)) (few-groups t v)))
+      ∙ ap (λ (x : Token). x .groups) (token-back t v)
+
+  pub group-words-put : (gs : List Group) → length gs ≡ length (t .groups) → {gw : List ℕ} → gw ≡ map pack gs → putGroupWords n gw ws ≡ tokenRow (withGroups gs t)
+  unfolding tokenRow withGroups
+  group-words-put gs l {gw} g =
+      let few = few-groups t v in
+      let long = length-map gs pack in
+      let rest = pad maxRestricting (t .limits .restricting) in
+      let zeros : List ℕ = replicate (maxGroups - length (t .groups)) 0 in
+      let front : take headWords ws ≡ head (withGroups gs t) = ap (take headWords) e ∙ other-head t gs l in
+      let back : drop (headWords + n - headWords) (drop headWords ws) ≡ zeros ++ rest =
+      ap₂ (λ (j : ℕ) (x : List ℕ). drop j (drop headWords x)) counted e ∙ after-groups t few in
+      let padded : map pack gs ++ zeros ≡ pad maxGroups (map pack gs) =
+      ap (λ (j : ℕ). map pack gs ++ replicate (maxGroups - j) 0) {x = length (t .groups)} {y = length (map pack gs)} (omega arith) ∙ sym (pad-fits maxGroups (map pack gs) (omega arith)) in
+      ap₂ (λ (x y : List ℕ). x ++ (gw ++ y)) front back
+      ∙ ap (λ (x : List ℕ). head (withGroups gs t) ++ (x ++ (zeros ++ rest))) g
+      ∙ ap (λ (x : List ℕ). head (withGroups gs t) ++ x) (sym (append-assoc (map pack gs) zeros rest) ∙ ap (λ (x : List ℕ). x ++ rest) padded)

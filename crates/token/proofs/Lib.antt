@@ -2,3 +2,4 @@ pub mod Parts
 pub mod Finding
 pub mod Laws
 pub mod Changing
+pub mod NewRow

@@ -10,7 +10,6 @@ use lib.Seq.{length-take-le, take-all}
 use Rattle.table.specs.Lists.{take-map, take-least}
 use Rattle.rules.specs.Token.{maxGroups, maxRestricting, maxDacl}
 use Rattle.rules.specs.Memory.{headWords, tokenWords, low8, low32, mark, pack, unpack, head, tokenAt, identityAt, privilegesAt, groupsAt, limitsAt, defaultsAt}
-use Rattle.rules.specs.Group as Rules
 use Rattle.token.specs.Meaning.{tokenOf, groupOf, Sized}
 use Rattle.token.specs.Row.{groupIn, identityIn, privilegesIn, limitsIn, defaultsIn, wordOf, headOf}
 use Rattle.token.specs.declared.Group.{Group}

@@ -1,8 +1,4 @@
-// A token by value, and the changes that requests make to its scalars.
-ghost use mathlib.Core.Path.{_≡_};
-ghost use Rattle.rules.specs.Token.{nextModified, withPrivileges, withScope};
-ghost use Rattle.privilege.specs.Meaning.{privilegesOf};
-ghost use Rattle.token.specs.Meaning.{tokenOf, Sized};
+// A token by value; `row` has it in lent memory, where requests read and change it.
 use privilege::privileges::Privileges;
 
 pub mod row;
@@ -57,33 +53,4 @@ pub struct Token {
     pub restricting: [u32; MAX_RESTRICTING],
     pub dacl_count: usize,
     pub dacl: [u8; MAX_DACL],
-}
-
-// The modified number steps: from 2^64 - 1 back to 0.
-pub fn next_modified(t: Token) -> Token
-    requires { ⌜ Sized t ⌝ }
-    ensures { λ r. ⌜ (tokenOf r ≡ nextModified (tokenOf t)) × Sized r ⌝ }
-{
-    let modified = std::num::wrapping_add_u64(t.modified, 1);
-    let mut next = t;
-    next.modified = modified;
-    next
-}
-
-pub fn with_privileges(t: Token, p: Privileges) -> Token
-    requires { ⌜ Sized t ⌝ }
-    ensures { λ r. ⌜ (tokenOf r ≡ withPrivileges (privilegesOf p) (tokenOf t)) × Sized r ⌝ }
-{
-    let mut next = t;
-    next.privileges = p;
-    next
-}
-
-pub fn with_scope(t: Token, scope: u32) -> Token
-    requires { ⌜ Sized t ⌝ }
-    ensures { λ r. ⌜ (tokenOf r ≡ withScope scope (tokenOf t)) × Sized r ⌝ }
-{
-    let mut next = t;
-    next.scope = scope;
-    next
 }

@@ -5,9 +5,10 @@ ghost use lib.ListN.{length, getD};
 ghost use Rattle.rules.specs.Token.{maxDacl, nextModified, withPrivileges, withScope};
 ghost use Rattle.rules.specs.Memory.{tokenWords, tokenRow, daclRow, slotRow, slotDacl, tokenAt};
 ghost use Rattle.rules.specs.Table.{free};
-ghost use Rattle.token.specs.Meaning.{tokenOf, Sized};
+ghost use Rattle.token.specs.Meaning.{identityOf, tokenOf, Sized};
 ghost use Rattle.privilege.specs.Meaning.{privilegesOf};
 ghost use Rattle.token.specs.Row.{identityIn, privilegesIn, limitsIn, defaultsIn, headOf, Becomes};
+ghost use Rattle.token.specs.NewRow.{Headed};
 use crate::Defaults;
 use crate::Identity;
 use crate::Limits;
@@ -73,7 +74,7 @@ fn defaults_in(words: &[u64]) -> Defaults
 }
 
 // A count, cut to its list's size.
-fn count_in(words: &[u64], at: usize, size: usize) -> usize
+pub fn count_in(words: &[u64], at: usize, size: usize) -> usize
     requires { ⌜ at < length (now words) ⌝ }
     ensures { λ r. ⌜ r ≡ min (getD (now (words .entry)) at 0) size ⌝ }
 {
@@ -191,6 +192,32 @@ pub fn store(t: Token, words: &mut [u64], bytes: &mut [u8])
 {
     store_words(t, words);
     store_dacl(t, bytes);
+}
+
+// The head of a new token, in a row that has only its groups: the modified number is the number, the elevation Default.
+pub fn set_head(
+    words: &mut [u64],
+    number: u64,
+    identity: Identity,
+    p: Privileges,
+    group_count: usize,
+)
+    requires { ⌜ length (now words) ≡ tokenWords ⌝ }
+    ensures { λ _. ⌜ Headed number (identityOf identity) (privilegesOf p) «group_count» (now (words .entry)) (now (words .exit)) ⌝ }
+{
+    words[0] = number;
+    words[1] = number;
+    words[2] = identity.session;
+    words[3] = identity.user as u64;
+    words[4] = identity.kind as u64;
+    words[5] = identity.level as u64;
+    words[6] = 1;
+    words[12] = identity.integrity as u64;
+    words[13] = p.present;
+    words[14] = p.enabled;
+    words[15] = p.by_default;
+    words[16] = p.used;
+    words[17] = group_count as u64;
 }
 
 // ---- changes in place

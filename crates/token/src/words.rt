@@ -1,6 +1,6 @@
 // The words of a row, one by one and list by list.
 ghost use mathlib.Core.Path.{_≡_};
-ghost use mathlib.Core.List.{[], _∷_, map};
+ghost use mathlib.Core.List.{map};
 ghost use Prim.Native.Nat.{_≤_};
 ghost use lib.ListN.{length, take, replicate};
 ghost use Rattle.table.specs.Lists.{pad, Padded};
@@ -14,13 +14,21 @@ use crate::MAX_RESTRICTING;
 
 // ---- one word
 
-fn unpack(w: u64) -> Group
+pub fn unpack(w: u64) -> Group
     ensures { λ r. ⌜ r ≡ groupIn w ⌝ }
 {
     Group {
         sid: (w % 4294967296) as u32,
         attributes: (w / 4294967296) as u32,
     }
+}
+
+pub fn pack(g: Group) -> u64
+    ensures { λ r. ⌜ r ≡ wordOf g ⌝ }
+{
+    let sid = g.sid as u64;
+    let attributes = g.attributes as u64;
+    sid + attributes * 4294967296
 }
 
 fn low(w: u64) -> u32
@@ -33,13 +41,7 @@ fn low(w: u64) -> u32
 fn packed(g: Group, i: usize, n: usize) -> u64
     ensures { λ r. ⌜ Padded i n (wordOf g) r ⌝ }
 {
-    let sid = g.sid as u64;
-    let attributes = g.attributes as u64;
-    if i < n {
-        sid + attributes * 4294967296
-    } else {
-        0
-    }
+    if i < n { pack(g) } else { 0 }
 }
 
 fn widened(sid: u32, i: usize, n: usize) -> u64

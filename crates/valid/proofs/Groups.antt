@@ -2,11 +2,11 @@
 use mathlib.Core.Path.{_≡_, refl, sym, ap, ap₂, _∙_}
 use mathlib.Core.Bool.{Bool, true, false, not, _&&_, _||_}
 use mathlib.Core.List.{List, map}
-use Prim.Native.Nat.{ℕ, zero, suc, _-_, _/_, _%_, _^_, _≤_, _<_}
-use native.Mathlib.Nat.{mod-lt, div-div-eq-div-mul}
+use Prim.Native.Nat.{ℕ, zero, suc, _+_, _-_, _*_, _/_, _%_, _^_, _≤_, _<_}
+use native.Mathlib.Nat.{mod-lt, div-add-mod', div-div-eq-div-mul}
 use native.Mathlib.Omega.{arith}
 use borrow.Author.Tests.{lt-ltb, le-ltb}
-use lib.Bits.{bitAnd, bitOr, bitXor, or-comm, or-shr, xor-shr, xor-mod}
+use lib.Bits.{bitAnd, bitOr, or-comm, or-shr, and-block, and-high, and-mask, and-zero-r}
 use lib.Dec.{eqb}
 use lib.ListN.{length, getD, length-map, List·getD-map}
 use Rattle.rules.specs.Basic.{all, implies, bothOrNeither}
@@ -16,8 +16,8 @@ use Rattle.rules.specs.AdjustDefaults.{validOwner}
 use Rattle.rules.specs.Valid.{groupValid, is32}
 use Rattle.rules.specs.Memory.{unpack, word32}
 use Rattle.rules.proofs.Logic.{and-l, and-r}
-use Rattle.rules.proofs.Bits.{digits, has-and, has-or, within-or, or-within, within-trans}
-use Rattle.valid.specs.Tests.{groupTest}
+use Rattle.rules.proofs.Bits.{digits, has-or, within-or, or-within, within-trans}
+use Rattle.valid.specs.Tests.{groupTest, carriedTo}
 use Rattle.valid.proofs.Truth.{same-truth, all-cong, all-and}
 
 -- ---- tests of what was gathered by `|`
@@ -55,38 +55,78 @@ or-attributes a b = ap (λ (x : ℕ). eqb (bitAnd x 0xC000001F) x) (or-shr a b 3
 
 -- LOGON_ID is whole or absent
 abbrev pub halfTest : ℕ → Bool
-halfTest w = lacks 62 (bitXor w (w / 2))
+halfTest w = lacks 63 (carriedTo w)
 
 -- DENY_ONLY and ENABLED are not both there
 abbrev pub bothTest : ℕ → Bool
-bothTest w = lacks 34 (bitAnd w (w / 4))
+bothTest w = lacks 37 (carriedTo w)
+
+-- what is added to: LOGON_ID's two bits, and ENABLED and DENY_ONLY
+masked : (w : ℕ) → bitAnd w 0xC000001400000000 ≡ (w / 2 ^ 62 % 4) * 2 ^ 62 + (w / 2 ^ 34 % 2 + w / 2 ^ 36 % 2 * 4) * 2 ^ 34
+masked w =
+    let r : ℕ = w % 2 ^ 37 in
+    let d : ℕ = r / 2 ^ 34 in
+    sum (w / 2 ^ 62 % 4) (w / 2 ^ 34 % 2) (w / 2 ^ 36 % 2)
+    (split 37 w 0x6000000 0x1400000000 (omega arith))
+    (and-high (w / 2 ^ 37) 2 25 ∙ ap (λ (n : ℕ). n % 4 * 2 ^ 25) (div-div-eq-div-mul w (2 ^ 37) (2 ^ 25)))
+    (split 34 r 5 0 (omega arith))
+    (and-zero-r (r % 2 ^ 34))
+    (split 2 d 1 1 (omega arith) ∙ ap₂ (λ (a b : ℕ). a * 4 + b) (and-mask (d / 4) 1 ∙ upper w) (and-mask (d % 4) 1 ∙ lower w))
+  where
+    split : (k n b s : ℕ) → s < 2 ^ k → bitAnd n (b * 2 ^ k + s) ≡ bitAnd (n / 2 ^ k) b * 2 ^ k + bitAnd (n % 2 ^ k) s
+    split k n b s h = ap (λ (m : ℕ). bitAnd m (b * 2 ^ k + s)) (sym (div-add-mod' n (2 ^ k))) ∙ and-block k (n / 2 ^ k) b (n % 2 ^ k) s (mod-lt n (omega arith)) h
+
+    upper : (w : ℕ) → w % 2 ^ 37 / 2 ^ 34 / 4 % 2 ≡ w / 2 ^ 36 % 2
+    upper w = omega arith
+
+    lower : (w : ℕ) → w % 2 ^ 37 / 2 ^ 34 % 4 % 2 ≡ w / 2 ^ 34 % 2
+    lower w = omega arith
+
+    sum : {a b c d z : ℕ} (e x y : ℕ) → a ≡ b * 2 ^ 37 + c → b ≡ e * 2 ^ 25 → c ≡ d * 2 ^ 34 + z → z ≡ 0 → d ≡ y * 4 + x → a ≡ e * 2 ^ 62 + (x + y * 4) * 2 ^ 34
+    sum e x y p q r s t = omega arith
+
+-- and what that carries to: a and b are LOGON_ID's bits, x and y ENABLED and DENY_ONLY
+abbrev carry : ℕ → ℕ → ℕ → ℕ → ℕ
+carry a b x y = ((a + b * 2) * 2 ^ 62 + (x + y * 4) * 2 ^ 34 + 0x4000000C00000000) % 2 ^ 64
+
+abbrev bit : ℕ → ℕ → ℕ
+bit k w = w / word32 / 2 ^ k % 2
+
+carried-bits : (w : ℕ) → carriedTo w ≡ carry (bit 30 w) (bit 31 w) (bit 2 w) (bit 4 w)
+carried-bits w =
+    ap (λ (n : ℕ). (n + 0x4000000C00000000) % 2 ^ 64)
+    (masked w ∙ ap₂ (λ (e f : ℕ). e * 2 ^ 62 + f * 2 ^ 34) (pair (w / 2 ^ 62) ∙ ap₂ (λ (a b : ℕ). a + b * 2) (at 30) (ap (λ (n : ℕ). n % 2) (div-div-eq-div-mul w (2 ^ 62) 2) ∙ at 31)) (ap₂ (λ (x y : ℕ). x + y * 4) (at 2) (at 4)))
+  where
+    pair : (n : ℕ) → n % 4 ≡ n % 2 + n / 2 % 2 * 2
+    pair n = omega arith
+
+    at : (k : ℕ) → w / (word32 * 2 ^ k) % 2 ≡ bit k w
+    at k = ap (λ (n : ℕ). n % 2) (sym (div-div-eq-div-mul w word32 (2 ^ k)))
+
+-- it is so of each of the four bits' sixteen values
+module _ (P : ℕ → ℕ → ℕ → ℕ → Type 0) where
+  abbrev Four : ℕ → ℕ → Type 0
+  Four a b = P a b 0 0 × P a b 0 1 × P a b 1 0 × P a b 1 1
+
+  of-bits : Four 0 0 → Four 0 1 → Four 1 0 → Four 1 1 → (w : ℕ) → P (bit 30 w) (bit 31 w) (bit 2 w) (bit 4 w)
+  of-bits p q r s w = digits (λ a b. P a b (bit 2 w) (bit 4 w)) (of p) (of q) (of r) (of s) (bit 30 w) (bit 31 w) (mod-lt _ (omega arith)) (mod-lt _ (omega arith))
+    where
+      of : {a b : ℕ} → Four a b → P a b (bit 2 w) (bit 4 w)
+      of {a} {b} f = digits (P a b) (f .0) (f .1) (f .2) (f .3) (bit 2 w) (bit 4 w) (mod-lt _ (omega arith)) (mod-lt _ (omega arith))
 
 half-test : (w : ℕ) → halfTest w ≡ bothOrNeither (has 30 (w / word32)) (has 31 (w / word32))
 unfolding has bothOrNeither
 half-test w =
-    let p : w / 2 ^ 62 % 2 ≡ w / word32 / 2 ^ 30 % 2 = omega arith in
-    let q : w / 2 / 2 ^ 62 % 2 ≡ w / word32 / 2 ^ 31 % 2 = omega arith in
-    ap (λ (x : ℕ). eqb (x % 2) 0) (xor-shr w (w / 2) 62)
-    ∙ ap (λ (x : ℕ). eqb x 0) (xor-mod (w / 2 ^ 62) (w / 2 / 2 ^ 62) 1)
-    ∙ digits (λ x y. eqb (bitXor x y) 0 ≡ bothOrNeither (eqb x 1) (eqb y 1)) refl refl refl refl
-    (w / 2 ^ 62 % 2) (w / 2 / 2 ^ 62 % 2) (mod-lt _ (omega arith)) (mod-lt _ (omega arith))
-    ∙ ap₂ (λ (x y : ℕ). bothOrNeither (eqb x 1) (eqb y 1)) p q
+    ap (λ (n : ℕ). eqb (n / 2 ^ 63 % 2) 0) (carried-bits w)
+    ∙ of-bits (λ a b x y. eqb (carry a b x y / 2 ^ 63 % 2) 0 ≡ bothOrNeither (eqb a 1) (eqb b 1))
+    (refl, refl, refl, refl) (refl, refl, refl, refl) (refl, refl, refl, refl) (refl, refl, refl, refl) w
 
 both-test : (w : ℕ) → bothTest w ≡ implies (has 4 (w / word32)) (not (has 2 (w / word32)))
 unfolding has implies
 both-test w =
-    let p : w / 2 ^ 34 % 2 ≡ w / word32 / 2 ^ 2 % 2 = omega arith in
-    let q : w / 4 / 2 ^ 34 % 2 ≡ w / word32 / 2 ^ 4 % 2 = ap (λ (x : ℕ). x % 2) (div-div-eq-div-mul w 4 (2 ^ 34) ∙ sym (div-div-eq-div-mul w word32 (2 ^ 4))) in
-    not-has 34 (bitAnd w (w / 4))
-    ∙ ap not (has-and 34 w (w / 4))
-    ∙ ap₂ (λ (x y : ℕ). not (eqb x 1 && eqb y 1)) p q
-    ∙ by (eqb (w / word32 / 2 ^ 2 % 2) 1) (eqb (w / word32 / 2 ^ 4 % 2) 1)
-  where
-    by : (x y : Bool) → not (x && y) ≡ implies y (not x)
-    by true true = refl
-    by true false = refl
-    by false true = refl
-    by false false = refl
+    ap (λ (n : ℕ). eqb (n / 2 ^ 37 % 2) 0) (carried-bits w)
+    ∙ of-bits (λ a b x y. eqb (carry a b x y / 2 ^ 37 % 2) 0 ≡ implies (eqb y 1) (not (eqb x 1)))
+    (refl, refl, refl, refl) (refl, refl, refl, refl) (refl, refl, refl, refl) (refl, refl, refl, refl) w
 
 pub is32-low : (w : ℕ) → is32 (w % word32) ≡ true
 unfolding is32

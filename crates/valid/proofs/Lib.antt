@@ -1,5 +1,6 @@
 pub mod Truth
 pub mod Loops
+pub mod Counts
 pub mod Same
 pub mod Groups
 pub mod TokenRow

@@ -1,17 +1,18 @@
--- Loops that test each element of a list and are not left early: what is left to do gives what the whole gives. Assumes nothing.
-use mathlib.Core.Path.{_≡_, refl, sym, ap, _∙_}
-use mathlib.Core.Bool.{Bool, true, false, not, _&&_, _||_, and-true, and-assoc, or-false}
-use mathlib.Core.List.{List}
-use Prim.Native.Nat.{ℕ, _+_, _-_, _≤_, _<_}
+-- Loops that test, count or keep elements of a list and are not left early: what is left to do gives what the whole gives. Assumes nothing.
+use mathlib.Core.Path.{_≡_, refl, sym, ap, ap₂, _∙_}
+use mathlib.Core.Bool.{Bool, true, false, _&&_, and-true, and-assoc}
+use mathlib.Core.List.{List, [], _∷_, _++_, append-assoc, append-nil}
+use Prim.Native.Nat.{ℕ, suc, _+_, _*_, _≤_, _<_}
 use native.Mathlib.Numerals.{add-one}
 use native.Mathlib.Omega.{arith}
 use borrow.Author.Tests.{eq-eqb, ne-eqb, eqb-true, eqb-false}
 use lib.Bits.{bitOr, or-add-and, and-le-l, and-le-r}
-use lib.Dec.{eqb}
-use lib.ListN.{length, take, drop, getD, length-drop, drop-of-length-le}
-use lib.Seq.{drop-cons, take-all}
-use Rattle.rules.specs.Basic.{all, member}
-use Rattle.valid.specs.Tests.{isApart, allApart}
+use lib.Dec.{eqb, leb}
+use lib.ListN.{length, take, drop, getD, set, length-set, drop-of-length-le}
+use lib.Seq.{drop-cons, take-set-le, take-suc-set}
+use Rattle.rules.specs.Basic.{if_then_else_, all}
+use Rattle.rules.specs.State.{handleSlots}
+use Rattle.valid.specs.Tests.{one, count, tally, isReferred, refsTest, kept, isKept, Front}
 
 -- ---- every element passes
 
@@ -76,61 +77,173 @@ module _ (t : ℕ → Bool) (f : ℕ → Bool) where
       → {s : List ℕ} {acc i : ℕ} → Gathered s acc i → i < length s → Gathered s (bitOr acc (g (getD s i 0))) (i + 1)
   gathered-more u g v {s} {acc} {i} h l = record { tested = rw (u acc (g (getD s i 0))) (tested-more f 0 s (h .tested) l (v (getD s i 0))) }
 
+  -- the same where a call gave it
+  pub gathered-given : ((a b : ℕ) → t (bitOr a b) ≡ (t a && t b)) → (g : ℕ → ℕ) → ((x : ℕ) → t (g x) ≡ f x)
+      → {s : List ℕ} {acc i r : ℕ} → Gathered s acc i → i < length s → r ≡ g (getD s i 0) → Gathered s (bitOr acc r) (i + 1)
+  gathered-given u g v {s} {acc} {i} h l e = rw e (gathered-more u g v h l)
+
   pub gathered-done : {s : List ℕ} {acc i : ℕ} → Gathered s acc i → length s ≤ i → t acc ≡ all f s
   gathered-done {s} h l = tested-done f 0 s (h .tested) l
 
--- ---- a number is looked for
+-- ---- a number is counted
+
+one-few : (x y : ℕ) → one x y ≤ 1
+one-few x y = by (eqb x y)
+  where
+    by : (b : Bool) → (if_then_else_ b 1 0) ≤ 1
+    by true = omega arith
+    by false = omega arith
 
 module _ (x : ℕ) (s : List ℕ) where
-  pub record Sought (found : Bool) (i : ℕ) : Type 0 where
+  -- after i elements
+  pub record Counting (n i : ℕ) : Type 0 where
     pub fits : i ≤ length s
-    pub rest : (found || member x (drop i s)) ≡ member x s
+    pub few : n ≤ i
+    pub rest : n + count x (drop i s) ≡ count x s
 
-  pub sought-none : Sought false 0
-  sought-none = record { fits = omega arith; rest = refl }
+  pub counting-none : Counting 0 0
+  counting-none = record { fits = omega arith; few = omega arith; rest = omega arith }
 
-  pub sought-more : {found : Bool} {i : ℕ} → Sought found i → i < length s → Sought (found || eqb x (getD s i 0)) (i + 1)
-  unfolding member
-  sought-more {found} {i} t h = record {
-    fits = omega arith;
-    rest =
-        or-assoc found (eqb x (getD s i 0)) (member x (drop (i + 1) s))
-        ∙ ap (λ (k : ℕ). found || (eqb x (getD s i 0) || member x (drop k s))) (add-one i)
-        ∙ ap (λ l. found || member x l) (sym (drop-cons s i 0 h))
-        ∙ t .rest;
-  }
+  pub counting-more : {n i r : ℕ} → Counting n i → i < length s → r ≡ one x (getD s i 0) → Counting (n + r) (i + 1)
+  unfolding count
+  counting-more {n} {i} {r} t h e =
+      let cut : count x (drop i s) ≡ one x (getD s i 0) + count x (drop (i + 1) s) =
+      ap (count x) (drop-cons s i 0 h) ∙ ap (λ (k : ℕ). one x (getD s i 0) + count x (drop k s)) (sym (add-one i)) in
+      record { fits = omega arith; few = omega (arith, one-few x (getD s i 0), t .few); rest = omega (arith, e, cut, t .rest) }
+
+  pub counting-done : {n i : ℕ} → Counting n i → length s ≤ i → n ≡ count x s
+  unfolding count
+  counting-done {n} {i} t h =
+      let none : count x (drop i s) ≡ 0 = ap (count x) (drop-of-length-le s {i = i} h) in
+      omega (arith, none, t .rest)
+
+-- ---- the numbers of s are counted in two lists
+
+module _ (s hs ss : List ℕ) where
+  pub record Tallying (ok : Bool) (h a i : ℕ) : Type 0 where
+    pub referred : Tested (isReferred hs ss) 0 s ok i
+    pub held-few : h ≤ i * handleSlots
+    pub at-few : a ≤ i * handleSlots
+    pub held : h + tally (drop i s) hs ≡ tally s hs
+    pub at : a + tally (drop i s) ss ≡ tally s ss
+
+  pub tallying-none : Tallying true 0 0 0
+  tallying-none = record { referred = tested-none _ _ _; held-few = omega arith; at-few = omega arith; held = omega arith; at = omega arith }
+
+  pub tallying-more : {ok : Bool} {h a i x y : ℕ} → Tallying ok h a i → i < length s → length hs ≤ handleSlots → length ss ≤ handleSlots → x ≤ length hs → y ≤ length ss
+      → x ≡ count (getD s i 0) hs → y ≡ count (getD s i 0) ss → Tallying (ok && leb 1 (x + y)) (h + x) (a + y) (i + 1)
+  unfolding tally
+  tallying-more {ok} {h} {a} {i} {x} {y} t l lh ls fx fy ex ey =
+      let n : ℕ = getD s i 0 in
+      let cut : (zs : List ℕ) → tally (drop i s) zs ≡ count n zs + tally (drop (i + 1) s) zs =
+      λ zs. ap (λ l. tally l zs) (drop-cons s i 0 l) ∙ ap (λ (k : ℕ). count n zs + tally (drop k s) zs) (sym (add-one i)) in
+      record {
+        referred = tested-more _ _ _ (t .referred) l (ap₂ (λ (a b : ℕ). leb 1 (a + b)) ex ey);
+        held-few = omega (arith, t .held-few);
+        at-few = omega (arith, t .at-few);
+        held = omega (arith, t .held, cut hs);
+        at = omega (arith, t .at, cut ss);
+      }
+
+  pub tallying-done : {ok : Bool} {h a i : ℕ} → Tallying ok h a i → length s ≤ i → (ok && eqb h (length hs) && eqb a (length ss)) ≡ refsTest s hs ss
+  unfolding tally refsTest
+  tallying-done {ok} {h} {a} {i} t l =
+      let none : (zs : List ℕ) → tally (drop i s) zs ≡ 0 = λ zs. ap (λ l. tally l zs) (drop-of-length-le s {i = i} l) in
+      let r : ok ≡ all (isReferred hs ss) s = tested-done _ _ _ (t .referred) l in
+      let eh : h ≡ tally s hs = omega (arith, t .held, none hs) in
+      let ea : a ≡ tally s ss = omega (arith, t .at, none ss) in
+      cc
+
+-- ---- elements are kept in the front of an array
+
+module _ {A : Type 0} (k f : A → ℕ) (src : List A) where
+  -- after i elements, n were kept
+  pub record Keeping (size : ℕ) (items : List ℕ) (n i : ℕ) : Type 0 where
+    pub within : i ≤ size
+    pub source : length src ≡ size
+    pub long : length items ≡ size
+    pub few : n ≤ i
+    pub rest : take n items ++ kept k f (drop i src) ≡ kept k f src
+
+  pub keeping-none : (size : ℕ) (items : List ℕ) → length src ≡ size → length items ≡ size → Keeping size items 0 0
+  keeping-none size items e l = record { within = omega arith; source = e; long = l; few = omega arith; rest = refl }
+
+  pub keeping-more : {size : ℕ} {items : List ℕ} {n i v j : ℕ} (d : A) → Keeping size items n i → i < size → v ≡ f (getD src i d) → j ≡ isKept (k (getD src i d))
+      → Keeping size (set items n v) (n + j) (i + 1)
+  unfolding kept
+  keeping-more {size} {items} {n} {i} {v} {j} d t h ev ej = by (eqb (k a) 0) refl
     where
-      or-assoc : (a b c : Bool) → (a || b || c) ≡ (a || (b || c))
-      or-assoc true b c = refl
-      or-assoc false b c = refl
+      a : A
+      a = getD src i d
 
-  pub sought-done : {found : Bool} {i : ℕ} → Sought found i → length s ≤ i → found ≡ member x s
-  unfolding member
-  sought-done {found} {i} t h = sym (or-false found) ∙ ap (λ l. found || member x l) (sym (drop-of-length-le s {i = i} h)) ∙ t .rest
+      cut : kept k f (drop i src) ≡ (if eqb (k a) 0 then kept k f (drop (i + 1) src) else f a ∷ kept k f (drop (i + 1) src))
+      cut = ap (kept k f) (drop-cons src i d (omega (arith, t .source))) ∙ ap (λ (m : ℕ). if eqb (k a) 0 then kept k f (drop m src) else f a ∷ kept k f (drop m src)) (sym (add-one i))
 
--- ---- each number is apart from those after it
+      by : (b : Bool) → eqb (k a) 0 ≡ b → Keeping size (set items n v) (n + j) (i + 1)
+      by true e =
+          let z : n + j ≡ n = let q : j ≡ 0 = ej ∙ rw e in omega arith in
+          record {
+            within = omega arith;
+            source = t .source;
+            long = length-set items n v ∙ t .long;
+            few = omega (arith, z, t .few);
+            rest =
+                ap (λ (m : ℕ). take m (set items n v) ++ kept k f (drop (i + 1) src)) z
+                ∙ ap (λ l. l ++ kept k f (drop (i + 1) src)) (take-set-le n items n v (omega arith))
+                ∙ ap (λ l. take n items ++ l) (sym (cut ∙ rw e))
+                ∙ t .rest;
+          }
+      by false e =
+          let z : n + j ≡ suc n = let q : j ≡ 1 = ej ∙ rw e in omega arith in
+          record {
+            within = omega arith;
+            source = t .source;
+            long = length-set items n v ∙ t .long;
+            few = omega (arith, z, t .few);
+            rest =
+                ap (λ (m : ℕ). take m (set items n v) ++ kept k f (drop (i + 1) src)) z
+                ∙ ap (λ l. l ++ kept k f (drop (i + 1) src)) (take-suc-set items n v (omega (arith, t .few, t .long)))
+                ∙ append-assoc (take n items) (v ∷ []) (kept k f (drop (i + 1) src))
+                ∙ ap (λ x. take n items ++ (x ∷ kept k f (drop (i + 1) src))) ev
+                ∙ ap (λ l. take n items ++ l) (sym (cut ∙ rw e))
+                ∙ t .rest;
+          }
 
-module _ (s : List ℕ) where
-  pub record Apart (ok : Bool) (i : ℕ) : Type 0 where
-    pub fits : i ≤ length s
-    pub rest : (ok && allApart (drop i s)) ≡ allApart s
-
-  pub apart-none : Apart true 0
-  apart-none = record { fits = omega arith; rest = refl }
-
-  pub apart-more : {ok r : Bool} {i : ℕ} → Apart ok i → i < length s → r ≡ isApart (take (length s - (i + 1)) (drop (i + 1) s)) (getD s i 0) → Apart (ok && r) (i + 1)
-  unfolding allApart
-  apart-more {ok} {r} {i} t h e = record {
-    fits = omega arith;
-    rest =
-        ap (λ b. ok && b && allApart (drop (i + 1) s))
-        (e ∙ ap (λ l. isApart l (getD s i 0)) (take-all (length s - (i + 1)) (drop (i + 1) s) (simp length-drop (omega arith))))
-        ∙ and-assoc ok (isApart (drop (i + 1) s) (getD s i 0)) (allApart (drop (i + 1) s))
-        ∙ ap (λ (k : ℕ). ok && (isApart (drop k s) (getD s i 0) && allApart (drop k s))) (add-one i)
-        ∙ ap (λ l. ok && allApart l) (sym (drop-cons s i 0 h))
+  pub keeping-done : {size : ℕ} {items : List ℕ} {n i : ℕ} → Keeping size items n i → size ≤ i → Front size (kept k f src) n items
+  unfolding kept
+  keeping-done {items = items} {n = n} {i = i} t h = record {
+    room = record { fits = omega (arith, t .few, t .within); long = t .long };
+    front =
+        sym (append-nil (take n items))
+        ∙ ap (λ l. take n items ++ kept k f l) (sym (drop-of-length-le src {i = i} (omega (arith, t .source))))
         ∙ t .rest;
   }
 
-  pub apart-done : {ok : Bool} {i : ℕ} → Apart ok i → length s ≤ i → ok ≡ allApart s
-  unfolding allApart
-  apart-done {ok} {i} t h = sym (and-true ok) ∙ ap (λ l. ok && allApart l) (sym (drop-of-length-le s {i = i} h)) ∙ t .rest
+-- the same of two numbers at once, where each element is tested too
+module _ {A : Type 0} (t : A → Bool) (k f g : A → ℕ) (d : A) (src : List A) where
+  pub record Sorting (size : ℕ) (ok : Bool) (fs gs : List ℕ) (n i : ℕ) : Type 0 where
+    pub tested : TestedArray t d src size ok i
+    pub first : Keeping k f src size fs n i
+    pub second : Keeping k g src size gs n i
+
+  pub sorting-none : (size : ℕ) (fs gs : List ℕ) → length src ≡ size → length fs ≡ size → length gs ≡ size → Sorting size true fs gs 0 0
+  sorting-none size fs gs e lf lg =
+      record { tested = array-none t d src size e; first = keeping-none k f src size fs e lf; second = keeping-none k g src size gs e lg }
+
+  pub sorting-more : {size : ℕ} {ok r : Bool} {fs gs : List ℕ} {n i v w j : ℕ} → Sorting size ok fs gs n i → i < size
+      → r ≡ t (getD src i d) → v ≡ f (getD src i d) → w ≡ g (getD src i d) → j ≡ isKept (k (getD src i d))
+      → Sorting size (ok && r) (set fs n v) (set gs n w) (n + j) (i + 1)
+  sorting-more s h er ev ew ej = record {
+    tested = array-more t d src (s .tested) h er;
+    first = keeping-more k f src d (s .first) h ev ej;
+    second = keeping-more k g src d (s .second) h ew ej;
+  }
+
+  pub sorting-tested : {size : ℕ} {ok : Bool} {fs gs : List ℕ} {n i : ℕ} → Sorting size ok fs gs n i → size ≤ i → ok ≡ all t src
+  sorting-tested s h = array-done t d src (s .tested) h
+
+  pub sorting-first : {size : ℕ} {ok : Bool} {fs gs : List ℕ} {n i : ℕ} → Sorting size ok fs gs n i → size ≤ i → Front size (kept k f src) n fs
+  sorting-first s h = keeping-done k f src (s .first) h
+
+  pub sorting-second : {size : ℕ} {ok : Bool} {fs gs : List ℕ} {n i : ℕ} → Sorting size ok fs gs n i → size ≤ i → Front size (kept k g src) n gs
+  sorting-second s h = keeping-done k g src (s .second) h

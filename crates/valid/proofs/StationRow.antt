@@ -3,18 +3,22 @@ use mathlib.Core.Path.{_≡_, refl, sym, ap, ap₂, _∙_}
 use mathlib.Core.Bool.{Bool, true, false, not, _&&_, _||_, and-true, and-assoc, or-true, or-false}
 use mathlib.Core.List.{List, [], _∷_}
 use Prim.Native.Nat.{ℕ, zero, suc, _+_, _-_, _*_, _≤_, _<_}
+use native.Mathlib.Nat.{zero-mul, suc-mul}
 use native.Mathlib.Omega.{arith}
-use borrow.Author.Tests.{eq-eqb, ne-eqb, lt-ltb, le-ltb, le-leb, lt-leb}
+use borrow.Author.Tests.{eq-eqb, ne-eqb, lt-ltb, le-ltb, le-leb, lt-leb, eqb-true}
 use lib.Dec.{eqb, leb, ltb}
-use lib.ListN.{length, take, drop, getD}
+use lib.ListN.{length, take, drop, getD, length-drop, take-append-drop}
 use lib.Seq.{length-take-le, take-all}
 use Rattle.table.specs.Lists.{pad, named-take}
+use Rattle.table.specs.Rows.{testRows}
 use Rattle.rules.specs.Basic.{if_then_else_, all, member, isEmpty}
 use Rattle.rules.specs.Frame.{invalid, size, secondOf, lengthOf, part, whole, framedBy, framed}
 use Rattle.rules.specs.Memory.{same, stationRow, pendingRow, stationAt, stationWords, pendingBytes}
+use Rattle.rules.specs.State.{stationCount}
 use Rattle.rules.specs.Valid.{isByte, isPart, streamValid}
-use Rattle.valid.specs.Tests.{isZero, stationTest}
-use Rattle.valid.proofs.Truth.{same-tests, implies-or, all-below, eqb-same}
+use Rattle.rules.proofs.Logic.{and-l, and-r}
+use Rattle.valid.specs.Tests.{isZero, stationTest, idleTest, allIdle}
+use Rattle.valid.proofs.Truth.{same-tests, implies-or, all-below, all-append, eqb-same}
 use Rattle.valid.proofs.Same.{same-pad-take, cut-mark, cut-count}
 
 -- ---- a proper part of a frame, with what the code has at each return
@@ -115,3 +119,26 @@ station-part ws bs kb {p} {z} lw lb nz h ep ez =
     ∙ rw (le-leb n pendingBytes h, same-pad-take pendingBytes n bs lb h, ← ez, all-below 256 bs kb n, ← a, e, ← implies-or, or-false)
     (swapped (ltb (getD ws 2 0) 2) z p (not (eqb (getD ws 2 0) 1)))
     ∙ ap (λ b. b && p && z) (not-broken (getD ws 2 0)))
+
+-- ---- rows that are all idle
+
+idle-rows : (n : ℕ) (xs bs : List ℕ) → length xs ≡ n * stationWords → length bs ≡ n * pendingBytes
+    → testRows {B = ℕ} (λ row none. idleTest row) stationWords 0 n xs [] ≡ true → testRows stationTest stationWords pendingBytes n xs bs ≡ all isZero bs
+unfolding testRows all
+idle-rows zero xs [] lx lb h = refl
+idle-rows zero xs (b ∷ bs) lx lb h = absurd (omega (arith, zero-mul pendingBytes))
+idle-rows (suc n) xs bs lx lb h =
+    let ws : List ℕ = take stationWords xs in
+    let ps : List ℕ = take pendingBytes bs in
+    let idle : idleTest ws ≡ true = and-l (idleTest ws) _ h in
+    let row : stationTest ws ps ≡ all isZero ps =
+    sym (sym (rw (and-r (eqb (getD ws 1 0) 0) _ idle)) ∙ station-idle ws ps (length-take-le stationWords xs (omega (arith, suc-mul n stationWords))) (length-take-le pendingBytes bs (omega (arith, suc-mul n pendingBytes))) (eqb-true (getD ws 1 0) 0 (and-l (eqb (getD ws 1 0) 0) _ idle)) refl) in
+    ap₂ (λ a b. a && b) row
+    (idle-rows n (drop stationWords xs) (drop pendingBytes bs) (length-drop stationWords xs ∙ omega (arith, lx, suc-mul n stationWords)) (length-drop pendingBytes bs ∙ omega (arith, lb, suc-mul n pendingBytes)) (and-r (idleTest ws) _ h))
+    ∙ sym (all-append isZero ps (drop pendingBytes bs))
+    ∙ ap (all isZero) (take-append-drop pendingBytes bs)
+
+-- with what the code has at its first return
+pub all-idle : (xs bs : List ℕ) {i z : Bool} → i ≡ allIdle xs → i ≡ true → z ≡ all isZero bs → length xs ≡ stationCount * stationWords → length bs ≡ stationCount * pendingBytes
+    → z ≡ testRows stationTest stationWords pendingBytes stationCount xs bs
+all-idle xs bs e t ez lx lb = ez ∙ sym (idle-rows stationCount xs bs lx lb (sym e ∙ t))

@@ -103,19 +103,3 @@ module _ {A : Type 0} (x y : ℕ) (a b : A) where
 
   pub if-other : (x ≡ y → ⊥) → b ≡ (if eqb x y then a else b)
   if-other e = sym (rw (ne-eqb x y e))
-
--- where the other branch ends with a call
-pub if-other-and : (x y : ℕ) (a b : Bool) {p q : Bool} → (x ≡ y → ⊥) → p ≡ q → (b && p) ≡ (if eqb x y then a else (b && q))
-if-other-and x y a b {p} {q} e h = ap (λ c. b && c) h ∙ if-other x y a (b && q) e
-
-pub or-zero : (x : ℕ) (b : Bool) → x ≡ 0 → true ≡ (eqb x 0 || b)
-or-zero x b e = sym (rw (eq-eqb x 0 e))
-
-or-other : (x : ℕ) (b : Bool) → (x ≡ 0 → ⊥) → b ≡ (eqb x 0 || b)
-or-other x b e = sym (rw (ne-eqb x 0 e))
-
-pub or-other-or : (x : ℕ) {p q p′ q′ : Bool} → (x ≡ 0 → ⊥) → p ≡ p′ → q ≡ q′ → (p || q) ≡ (eqb x 0 || (p′ || q′))
-or-other-or x {p} {q} {p′} {q′} e ep eq = ap₂ (λ a b. a || b) ep eq ∙ or-other x (p′ || q′) e
-
-pub or-other-not : (x : ℕ) {p p′ : Bool} → (x ≡ 0 → ⊥) → p ≡ p′ → not p ≡ (eqb x 0 || not p′)
-or-other-not x {p} {p′} e ep = ap not ep ∙ or-other x (not p′) e

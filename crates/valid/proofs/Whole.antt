@@ -1,7 +1,7 @@
 -- The tests of the code come to `Memory.valid`. Assumes nothing.
 use mathlib.Core.Path.{_≡_, refl, sym, ap, ap₂, _∙_}
 use mathlib.Core.Bool.{Bool, true, false, _&&_, and-true, and-false, and-assoc}
-use mathlib.Core.List.{List, [], _∷_, _++_, map, map-map}
+use mathlib.Core.List.{List, [], _∷_, _++_, map}
 use Prim.Native.Nat.{ℕ, _+_, _-_, _*_, _^_, _<_}
 use native.Mathlib.Omega.{arith}
 use borrow.Author.Tests.{eq-eqb, ne-eqb, le-leb}
@@ -24,27 +24,31 @@ use Rattle.rules.specs.Valid as Valid
 use Rattle.rules.specs.Valid.{between, tableValid, tokenValid, handleValid, streamValid, isToken, primaryAtStation}
 use Rattle.rules.specs.Memory.{Memory, same, sameHandles, sameMemory, sized, isImage, valid, encode, decode, slotAt, slotRow, slotDacl, slotHandle, handleAt, stationAt, stationRow, pendingRow, tokenWords, stationWords, counterWords, pendingBytes}
 use Rattle.rules.proofs.Rows.{length-slotRow, length-slotDacl, length-stationRow, length-pendingRow}
-use Rattle.valid.specs.Tests.{slotTest, tokenTest, stationTest, columnBy, firstWord, otherWord, isApart, allApart, isBelow, isListed, isReferred, handleTest, target, numbersTest, partsTest}
+use Rattle.valid.specs.Tests.{slotTest, tokenTest, stationTest, columnBy, firstWord, otherWord, kept, nonzero, Front, tally, isGiven, isApart, isReferred, refsTest, fieldsTest, numbersTest, linksTest, partsTest}
 use Rattle.valid.specs.Meaning as Meaning
-use Rattle.valid.specs.Meaning.{memoryOf, Lent, targetOf, validOf}
-use Rattle.valid.proofs.Truth.{same-tests, eqb-same, all-append, all-map}
+use Rattle.valid.specs.Meaning.{memoryOf, Lent, tokenOf, fieldsOf}
+use Rattle.valid.proofs.Truth.{same-tests, eqb-same, all-append, all-cong, all-map}
+use Rattle.valid.proofs.Counts.{listed, referred}
 use Rattle.valid.proofs.Same.{same-rows}
-use Rattle.valid.proofs.Lists.{nonzero, given, token-numbers, primaryIn, other-numbers, station-tokens, handle-numbers, referred, listed, all-lives, handles}
+use Rattle.valid.proofs.Lists.{given, kept-map, kept-lives, token-numbers, primaryIn, other-numbers, station-tokens, all-lives, fields}
 
 -- ---- the tests, as they stand in the code and as they stand in the rules
 
-shuffle : (T D H S P a A₁ A₂ b B₁ B₂ c E F G L M R Q : Bool)
-    → ((T && D && E) && (S && P && G) && (H && F && L) && ((a && (A₁ && A₂)) && (b && (B₁ && B₂)) && c && M && R && Q))
+-- L′ and M′ are L and M where A₁ holds
+shuffle : (T D H S P a A₁ A₂ b B₁ B₂ c E F G L M R Q : Bool) {L′ M′ : Bool} → (A₁ ≡ true → L′ ≡ L) → (A₁ ≡ true → M′ ≡ M)
+    → ((T && D && E) && (S && P && G) && ((H && F) && ((a && (A₁ && A₂)) && (b && (B₁ && B₂)) && c && (R && L′ && M′) && Q)))
     ≡ ((T && D && H && S && P) && ((a && A₁ && A₂) && (b && c && B₁ && B₂) && E && F && G && (L && M) && R && Q))
 unfolding all member
-shuffle T D H S P a A₁ A₂ b B₁ B₂ c E F G L M R Q =
-    simp and-assoc
+shuffle T D H S P a false A₂ b B₁ B₂ c E F G L M R Q l m = simp (and-false)
+shuffle T D H S P a true A₂ b B₁ B₂ c E F G L M R Q {L′} {M′} l m =
+    rw (l refl, m refl)
+    (simp and-assoc
     (simp and-true at
     (same-tests
-    (T ∷ D ∷ E ∷ S ∷ P ∷ G ∷ H ∷ F ∷ L ∷ a ∷ A₁ ∷ A₂ ∷ b ∷ B₁ ∷ B₂ ∷ c ∷ M ∷ R ∷ Q ∷ [])
-    (0 ∷ 1 ∷ 2 ∷ 3 ∷ 4 ∷ 5 ∷ 6 ∷ 7 ∷ 8 ∷ 9 ∷ 10 ∷ 11 ∷ 12 ∷ 13 ∷ 14 ∷ 15 ∷ 16 ∷ 17 ∷ 18 ∷ [])
-    (0 ∷ 1 ∷ 6 ∷ 3 ∷ 4 ∷ 9 ∷ 10 ∷ 11 ∷ 12 ∷ 15 ∷ 13 ∷ 14 ∷ 2 ∷ 7 ∷ 5 ∷ 8 ∷ 16 ∷ 17 ∷ 18 ∷ [])
-    refl refl))
+    (T ∷ D ∷ E ∷ S ∷ P ∷ G ∷ H ∷ F ∷ a ∷ A₂ ∷ b ∷ B₁ ∷ B₂ ∷ c ∷ R ∷ L ∷ M ∷ Q ∷ [])
+    (0 ∷ 1 ∷ 2 ∷ 3 ∷ 4 ∷ 5 ∷ 6 ∷ 7 ∷ 8 ∷ 9 ∷ 10 ∷ 11 ∷ 12 ∷ 13 ∷ 14 ∷ 15 ∷ 16 ∷ 17 ∷ [])
+    (0 ∷ 1 ∷ 6 ∷ 3 ∷ 4 ∷ 8 ∷ 9 ∷ 10 ∷ 13 ∷ 11 ∷ 12 ∷ 2 ∷ 7 ∷ 5 ∷ 15 ∷ 16 ∷ 14 ∷ 17 ∷ [])
+    refl refl)))
 
 module _ (m : Memory)
     (lt : length (m .tokens) ≡ tokenSlots * tokenWords) (ld : length (m .dacls) ≡ tokenSlots * maxDacl) (lh : length (m .handles) ≡ handleSlots)
@@ -74,34 +78,38 @@ module _ (m : Memory)
       (drop counterWords (m .stations)) (m .pending) (simp length-drop (omega arith)) lp)
 
   pub parts : partsTest m ≡ (isImage m && Valid.valid (decode m))
-  unfolding partsTest numbersTest isImage sameMemory encode decode Valid.valid tableValid between references isToken State.isReferred primaryAtStation primaryIn numberOf
+  unfolding partsTest linksTest numbersTest refsTest isImage sameMemory encode decode Valid.valid tableValid between references isToken State.isReferred primaryAtStation primaryIn numberOf
   parts =
       let rows : List (Slot Token) = readRows slotAt tokenWords maxDacl tokenSlots (m .tokens) (m .dacls) in
       let xs : List Station = readRows stationAt stationWords pendingBytes stationCount (drop counterWords (m .stations)) (m .pending) in
       let hs : List Handle = m .handles in
       let hl : List Handle = lives (map handleAt hs) in
-      let ns : List ℕ = columnBy firstWord tokenWords tokenSlots (m .tokens) in
+      let col : List ℕ = columnBy firstWord tokenWords tokenSlots (m .tokens) in
+      let ns : List ℕ = nonzero col in
       let ss : List ℕ = columnBy firstWord stationWords stationCount (drop counterWords (m .stations)) in
+      let hn : List ℕ = kept handleNumber handleNumber hs in
+      let ht : List ℕ = kept handleNumber handleToken hs in
       let tn : List ℕ = map numberOf (lives rows) in
       let nt : ℕ = getD (m .stations) 0 0 in
       let nh : ℕ = getD (m .stations) 1 0 in
-      let en : tn ≡ nonzero ns = token-numbers tokenSlots (m .tokens) (m .dacls) in
+      let en : tn ≡ ns = token-numbers tokenSlots (m .tokens) (m .dacls) in
       let es : map stationToken xs ≡ ss = station-tokens stationCount (drop counterWords (m .stations)) (m .pending) in
-      let eh : map handleNumber hl ≡ nonzero (map handleNumber hs) = handle-numbers hs in
-      let g₁ : (leb 1 nt && (allApart ns && all (isBelow nt) ns)) ≡ (leb 1 nt && (distinct tn && all (between 1 (nt - 1)) tn)) = sym (rw en (given nt ns)) in
-      let g₂ : (leb 1 nh && (allApart (map handleNumber hs) && all (isBelow nh) (map handleNumber hs))) ≡ (leb 1 nh && (distinct (map handleNumber hl) && all (between 1 (nh - 1)) (map handleNumber hl))) = sym (rw eh (given nh (map handleNumber hs))) in
-      let l : all (isListed ns) (map handleToken hl) ≡ all (λ n. member n tn) (map handleToken hl) = sym (rw en (listed ns (map handleToken hl))) in
-      let k : all (isListed ns) ss ≡ all (λ n. member n tn) (map stationToken xs) = sym (rw (en, es) (listed ns ss)) in
-      let r : all (isReferred (map target hs) ss) ns ≡ all (λ t. member (t .number) (map handleToken hl ++ map stationToken xs)) (lives rows) =
-      sym (sym (all-map numberOf (λ n. member n (map handleToken hl ++ map stationToken xs)) (lives rows)) ∙ rw (en, es) (referred hs ss ns)) in
-      let q : all (isApart ss) (columnBy otherWord tokenWords tokenSlots (m .tokens)) ≡ all (primaryIn (map stationToken xs)) (lives rows) =
+      let eh : map handleNumber hl ≡ hn = kept-lives handleNumber hs in
+      let et : map handleToken hl ≡ ht = kept-lives handleToken hs in
+      let g₁ : (leb 1 nt && all (isGiven nt ns) ns) ≡ (leb 1 nt && (distinct tn && all (between 1 (nt - 1)) tn)) = sym (rw en (given (λ x. x) nt col)) in
+      let g₂ : (leb 1 nh && all (isGiven nh hn) hn) ≡ (leb 1 nh && (distinct (map handleNumber hl) && all (between 1 (nh - 1)) (map handleNumber hl))) = sym (rw eh (given handleNumber nh hs)) in
+      let l : distinct tn ≡ true → eqb (tally ns ht) (length ht) ≡ all (λ n. member n tn) (map handleToken hl) = λ d. sym (rw (en, et) (sym (listed ns (sym (ap distinct en) ∙ d) ht))) in
+      let k : distinct tn ≡ true → eqb (tally ns ss) (length ss) ≡ all (λ n. member n tn) (map stationToken xs) = λ d. sym (rw (en, es) (sym (listed ns (sym (ap distinct en) ∙ d) ss))) in
+      let r : all (isReferred ht ss) ns ≡ all (λ t. member (t .number) (map handleToken hl ++ map stationToken xs)) (lives rows) =
+      sym (sym (all-map numberOf (λ n. member n (map handleToken hl ++ map stationToken xs)) (lives rows)) ∙ rw (en, es, et) (all-cong _ _ (λ x. sym (referred ht ss x)) ns)) in
+      let q : all (isApart ss) (nonzero (columnBy otherWord tokenWords tokenSlots (m .tokens))) ≡ all (primaryIn (map stationToken xs)) (lives rows) =
       sym (ap (λ zs. all (primaryIn zs) (lives rows)) es ∙ other-numbers ss tokenSlots (m .tokens) (m .dacls)) in
       let c₁ : eqb (length rows) tokenSlots ≡ true = eq-eqb (length rows) tokenSlots (length-rows slotAt tokenWords maxDacl tokenSlots (m .tokens) (m .dacls)) in
       let c₂ : eqb (length (map handleAt hs)) handleSlots ≡ true = eq-eqb (length (map handleAt hs)) handleSlots (length-map hs handleAt ∙ lh) in
       let c₃ : eqb (length xs) stationCount ≡ true = eq-eqb (length xs) stationCount (length-rows stationAt stationWords pendingBytes stationCount (drop counterWords (m .stations)) (m .pending)) in
       let c₄ : leb nt max64 ≡ true = le-leb nt max64 (omega arith) in
-      ap₂ _&&_ (ap₂ _&&_ (ap₂ _&&_ (sym tokens-tested) (sym stations-tested)) (sym (handles ns hs) ∙ ap (λ b. sameHandles (map slotHandle (map handleAt hs)) hs && all handleValid hl && b) l))
-      (ap₂ _&&_ (ap₂ _&&_ (ap₂ _&&_ (ap (λ b. b && leb nh max32) (ap₂ _&&_ g₁ g₂)) k) r) q)
+      ap₂ _&&_ (ap₂ _&&_ (sym tokens-tested) (sym stations-tested))
+      (ap₂ _&&_ (sym (fields hs)) (ap₂ _&&_ (ap₂ _&&_ (ap (λ b. b && leb nh max32) (ap₂ _&&_ g₁ g₂)) (ap (λ b. b && eqb (tally ns ht) (length ht) && eqb (tally ns ss) (length ss)) r)) q))
       ∙ shuffle
       (same (flat slotRow rows) (m .tokens)) (same (flat slotDacl rows) (m .dacls)) (sameHandles (map slotHandle (map handleAt hs)) hs)
       (same (nt ∷ nh ∷ flat stationRow xs) (m .stations)) (same (flat pendingRow xs) (m .pending))
@@ -110,40 +118,56 @@ module _ (m : Memory)
       (all tokenValid (lives rows)) (all handleValid hl) (all streamValid xs)
       (all (λ n. member n tn) (map handleToken hl)) (all (λ n. member n tn) (map stationToken xs))
       (all (λ t. member (t .number) (map handleToken hl ++ map stationToken xs)) (lives rows)) (all (primaryIn (map stationToken xs)) (lives rows))
+      l k
       ∙ sym (rw (c₁, c₂, c₃, c₄, and-true, and-true, all-append (λ n. member n tn) (map handleToken hl) (map stationToken xs)))
 
 -- ---- with what the code has at each return
 
-pub at-numbers : (ns os ss hn ht : List ℕ) (hs : List code.Handle) (nt nh : ℕ) {d b e f l r q : Bool}
-    → hn ≡ map Meaning.numberOf hs → ht ≡ map targetOf hs
-    → d ≡ allApart ns → b ≡ all (isBelow nt) ns → e ≡ allApart hn → f ≡ all (isBelow nh) hn
-    → l ≡ all (isListed ns) ss → r ≡ all (isReferred ht ss) ns → q ≡ all (isApart ss) os
-    → ((leb 1 nt && (d && b)) && (leb 1 nh && (e && f)) && leb nh max32 && l && r && q) ≡ numbersTest ns os ss (map handleOf hs) nt nh
-unfolding numbersTest handleNumber
-at-numbers ns os ss hn ht hs nt nh en et ed eb ee ef el er eq =
-    let n : hn ≡ map handleNumber (map handleOf hs) = en ∙ sym (map-map handleNumber handleOf hs) in
-    let t : ht ≡ map target (map handleOf hs) = et ∙ sym (map-map target handleOf hs) in
-    cc
+pub at-numbers : (ns os ss hs ts : List ℕ) (nt nh : ℕ) {a b r q : Bool}
+    → a ≡ all (isGiven nt ns) ns → b ≡ all (isGiven nh hs) hs → r ≡ refsTest ns ts ss → q ≡ all (isApart ss) os
+    → ((leb 1 nt && a) && (leb 1 nh && b) && leb nh max32 && r && q) ≡ numbersTest ns os ss hs ts nt nh
+unfolding numbersTest
+at-numbers ns os ss hs ts nt nh ea eb er eq = cc
+
+pub at-fronts : (ns os ss hs ts : List ℕ) (n o h nt nh : ℕ) {r : Bool}
+    → r ≡ numbersTest (take (n - 0) ns) (take (o - 0) os) ss (take (h - 0) hs) (take (h - 0) ts) nt nh
+    → r ≡ numbersTest (take n ns) (take o os) ss (take h hs) (take h ts) nt nh
+at-fronts ns os ss hs ts n o h nt nh e =
+    let c : (k : ℕ) → k - 0 ≡ k = λ k. omega arith in
+    cc (c n, c o, c h)
 
 -- the stations' rows, as the code lends them
 abbrev pub rowsPart : List ℕ → List ℕ
 rowsPart ss = take (counterWords + stationCount * stationWords - counterWords) (drop counterWords ss)
 
+rows-apart : (ss : List ℕ) → length ss ≡ counterWords + stationCount * stationWords → rowsPart ss ≡ drop counterWords ss
+rows-apart ss l = take-all (stationCount * stationWords) (drop counterWords ss) (simp length-drop (omega arith))
+
+pub at-links : (ts : List ℕ) (hs : List code.Handle) (ss : List ℕ) {ns os st hn ht : List ℕ} {n o h : ℕ} {f r : Bool}
+    → r ≡ numbersTest (take n ns) (take o os) st (take h hn) (take h ht) (getD ss 0 0) (getD ss 1 0)
+    → length ss ≡ counterWords + stationCount * stationWords
+    → Front tokenSlots (nonzero (columnBy firstWord tokenWords tokenSlots ts)) n ns → Front tokenSlots (nonzero (columnBy otherWord tokenWords tokenSlots ts)) o os
+    → st ≡ columnBy firstWord stationWords stationCount (rowsPart ss)
+    → Front handleSlots (kept Meaning.numberOf Meaning.numberOf hs) h hn → Front handleSlots (kept Meaning.numberOf tokenOf hs) h ht
+    → f ≡ all fieldsOf hs → (f && r) ≡ linksTest ts (map handleOf hs) ss
+unfolding linksTest handleNumber handleToken
+at-links ts hs ss {st = st} {hn = hn} {ht = ht} {n = n} {o = o} {h = h} er ls en eo es eh ek ef =
+    let x : st ≡ columnBy firstWord stationWords stationCount (drop counterWords ss) = es ∙ ap (columnBy firstWord stationWords stationCount) (rows-apart ss ls) in
+    let z : all fieldsOf hs ≡ all fieldsTest (map handleOf hs) = sym (all-map handleOf fieldsTest hs) in
+    let u : take h hn ≡ kept handleNumber handleNumber (map handleOf hs) = eh .front ∙ sym (kept-map handleNumber handleNumber handleOf hs) in
+    let v : take h ht ≡ kept handleNumber handleToken (map handleOf hs) = ek .front ∙ sym (kept-map handleNumber handleToken handleOf hs) in
+    cc (en .front, eo .front)
+
 module _ (ts ds : List ℕ) (hs : List code.Handle) (ss ps : List ℕ) where
-  pub at-parts : Lent ts ds ss ps → (ns os st : List ℕ) {t s h r : Bool}
-      → ns ≡ columnBy firstWord tokenWords tokenSlots ts → os ≡ columnBy otherWord tokenWords tokenSlots ts → st ≡ columnBy firstWord stationWords stationCount (rowsPart ss)
+  pub at-parts : Lent ts ds ss ps → {t s l : Bool}
       → t ≡ testRows tokenTest tokenWords maxDacl tokenSlots ts ds
       → s ≡ testRows stationTest stationWords pendingBytes stationCount (rowsPart ss) ps
-      → h ≡ all (validOf ns) hs
-      → r ≡ numbersTest ns os st (map handleOf hs) (getD ss 0 0) (getD ss 1 0)
-      → (t && s && h && r) ≡ partsTest (memoryOf ts ds hs ss ps)
+      → l ≡ linksTest ts (map handleOf hs) ss
+      → (t && s && l) ≡ partsTest (memoryOf ts ds hs ss ps)
   unfolding partsTest
-  at-parts lent ns os st en eo es et eu eh er =
-      let rows : rowsPart ss ≡ drop counterWords ss = take-all (stationCount * stationWords) (drop counterWords ss) (simp length-drop (omega arith)) in
-      let x : st ≡ columnBy firstWord stationWords stationCount (drop counterWords ss) = es ∙ ap (columnBy firstWord stationWords stationCount) rows in
+  at-parts lent et eu el =
       let y : testRows stationTest stationWords pendingBytes stationCount (rowsPart ss) ps ≡ testRows stationTest stationWords pendingBytes stationCount (drop counterWords ss) ps =
-      ap (λ l. testRows stationTest stationWords pendingBytes stationCount l ps) rows in
-      let z : all (validOf ns) hs ≡ all (handleTest ns) (map handleOf hs) = sym (all-map handleOf (handleTest ns) hs) in
+      ap (λ l. testRows stationTest stationWords pendingBytes stationCount l ps) (rows-apart ss (lent .stations)) in
       cc
 
   pub wrong-tokens : (length ts ≡ tokenSlots * tokenWords → ⊥) → false ≡ valid (memoryOf ts ds hs ss ps)

@@ -9,7 +9,7 @@ use Rattle.handle.specs.Meaning.{handleOf}
 use Rattle.rules.specs.Token.{maxDacl}
 use Rattle.rules.specs.State.{tokenSlots, stationCount}
 use Rattle.rules.specs.Memory.{Memory, tokenWords, counterWords, stationWords, pendingBytes}
-use Rattle.valid.specs.Tests.{handleTest, target}
+use Rattle.valid.specs.Tests.{fieldsTest}
 
 abbrev pub memoryOf : List ℕ → List ℕ → List Handle → List ℕ → List ℕ → Memory
 memoryOf ts ds hs ss ps = record { tokens = ts; dacls = ds; handles = map handleOf hs; stations = ss; pending = ps }
@@ -24,8 +24,8 @@ pub record Lent (ts ds ss ps : List ℕ) : Type 0 where
 abbrev pub numberOf : Handle → ℕ
 numberOf h = h .number
 
-abbrev pub targetOf : Handle → ℕ
-targetOf h = target (handleOf h)
+abbrev pub tokenOf : Handle → ℕ
+tokenOf h = h .token
 
-abbrev pub validOf : List ℕ → Handle → Bool
-validOf ns h = handleTest ns (handleOf h)
+abbrev pub fieldsOf : Handle → Bool
+fieldsOf h = fieldsTest (handleOf h)

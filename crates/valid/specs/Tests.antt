@@ -1,21 +1,21 @@
--- Valid memory as the code tests it: row by row, and over columns of numbers with zeros where slots are free.
+-- Valid memory as the code tests it: row by row, and over the numbers of what is live.
 -- proofs/Whole says that these tests come to `Memory.valid`. Assumes nothing.
-use Prim.Native.Nat.{ℕ, zero, suc, _+_, _-_, _%_, _≤_}
+use Prim.Native.Nat.{ℕ, zero, suc, _+_, _-_, _%_, _^_, _≤_}
 use mathlib.Core.Path.{_≡_}
 use mathlib.Core.Bool.{Bool, true, not, _&&_, _||_}
-use mathlib.Core.List.{List, [], _∷_, map}
+use mathlib.Core.List.{List, [], _∷_}
 use lib.Bits.{bitAnd}
 use lib.Dec.{eqb, leb, ltb}
 use lib.ListN.{length, take, drop, getD}
 use Rattle.table.specs.Rows.{testRows}
-use Rattle.rules.specs.Basic.{if_then_else_, all, member}
+use Rattle.rules.specs.Basic.{if_then_else_, all}
 use Rattle.rules.specs.Number.{max32}
 use Rattle.rules.specs.Privileges.{existing}
 use Rattle.rules.specs.Mask.{allRights}
 use Rattle.rules.specs.Token.{maxGroups, maxRestricting, maxDacl, primary}
 use Rattle.rules.specs.Table.{Slot, free, live}
 use Rattle.rules.specs.Handle.{Handle}
-use Rattle.rules.specs.State.{handleNumber, tokenSlots, stationCount}
+use Rattle.rules.specs.State.{handleNumber, handleToken, tokenSlots, stationCount}
 use Rattle.rules.specs.Valid.{groupValid, tokenValid, streamValid}
 use Rattle.rules.specs.Memory.{Memory, same, slotRow, slotDacl, slotAt, tokenRow, daclRow, tokenAt, stationRow, pendingRow, stationAt, unpack, word32, headWords, tokenWords, stationWords, pendingBytes, counterWords}
 
@@ -75,6 +75,10 @@ tokenTest ws bs = same (slotRow (slotAt ws bs)) ws && same (slotDacl (slotAt ws 
 unfoldable pub groupTest : ℕ → Bool
 groupTest w = groupValid (unpack w)
 
+-- bit 63 says that LOGON_ID is there by half, bit 37 that both ENABLED and DENY_ONLY are
+abbrev pub carriedTo : ℕ → ℕ
+carriedTo w = (bitAnd w 0xC000001400000000 + 0x4000000C00000000) % 2 ^ 64
+
 -- user, type, level, elevation, marks, scope, integrity, privileges
 abbrev pub headTest : List ℕ → Bool
 headTest ws =
@@ -97,7 +101,15 @@ headTest ws =
 unfoldable pub stationTest : List ℕ → List ℕ → Bool
 stationTest ws bs = same (stationRow (stationAt ws bs)) ws && same (pendingRow (stationAt ws bs)) bs && streamValid (stationAt ws bs)
 
--- ---- columns of numbers
+-- nothing pending
+abbrev pub idleTest : List ℕ → Bool
+idleTest ws = eqb (getD ws 1 0) 0 && ltb (getD ws 2 0) 2
+
+-- of each row; the bytes beside it are not looked at
+abbrev pub allIdle : List ℕ → Bool
+allIdle ws = testRows {B = ℕ} (λ row none. idleTest row) stationWords 0 stationCount ws []
+
+-- ---- numbers
 
 unfoldable pub columnBy : (List ℕ → ℕ) → ℕ → ℕ → List ℕ → List ℕ
 columnBy f w zero ws = []
@@ -110,56 +122,82 @@ firstWord row = getD row 0 0
 abbrev pub otherWord : List ℕ → ℕ
 otherWord row = if eqb (getD row 4 0 % 256) primary then 0 else getD row 0 0
 
+-- f of the elements that k gives a number but 0
+unfoldable pub kept : {A : Type 0} → (A → ℕ) → (A → ℕ) → List A → List ℕ
+kept k f [] = []
+kept k f (a ∷ s) = if eqb (k a) 0 then kept k f s else f a ∷ kept k f s
+
+abbrev pub nonzero : List ℕ → List ℕ
+nonzero xs = kept (λ x. x) (λ x. x) xs
+
+abbrev pub isKept : ℕ → ℕ
+isKept x = if eqb x 0 then 0 else 1
+
+-- an array of this size has n elements in its front; they are xs
+
+pub record Room (size n : ℕ) (items : List ℕ) : Type 0 where
+  pub fits : n ≤ size
+  pub long : length items ≡ size
+
+pub record Front (size : ℕ) (xs : List ℕ) (n : ℕ) (items : List ℕ) : Type 0 where
+  pub room : Room size n items
+  pub front : take n items ≡ xs
+
+abbrev pub one : ℕ → ℕ → ℕ
+one x y = if eqb x y then 1 else 0
+
+-- how often x stands in a list
+unfoldable pub count : ℕ → List ℕ → ℕ
+count x [] = 0
+count x (y ∷ ys) = one x y + count x ys
+
+-- how often numbers of the first list stand in the second
+unfoldable pub tally : List ℕ → List ℕ → ℕ
+tally [] ys = 0
+tally (x ∷ xs) ys = count x ys + tally xs ys
+
+-- below the next, and once in the list
+abbrev pub isGiven : ℕ → List ℕ → ℕ → Bool
+isGiven next xs x = ltb x next && eqb (count x xs) 1
+
 abbrev pub isApart : List ℕ → ℕ → Bool
-isApart xs x = eqb x 0 || not (member x xs)
-
--- no number but 0 stands twice
-unfoldable pub allApart : List ℕ → Bool
-allApart [] = true
-allApart (x ∷ xs) = isApart xs x && allApart xs
-
-abbrev pub isBelow : ℕ → ℕ → Bool
-isBelow next x = eqb x 0 || ltb x next
-
-abbrev pub isListed : List ℕ → ℕ → Bool
-isListed ns x = not (eqb x 0) && member x ns
+isApart xs x = eqb (count x xs) 0
 
 abbrev pub isReferred : List ℕ → List ℕ → ℕ → Bool
-isReferred hs ss x = eqb x 0 || (member x hs || member x ss)
+isReferred hs ss x = leb 1 (count x hs + count x ss)
+
+-- of distinct tokens `ns`: handles and stations refer to them, to all of them and to no other
+unfoldable pub refsTest : List ℕ → List ℕ → List ℕ → Bool
+refsTest ns hs ss = all (isReferred hs ss) ns && eqb (tally ns hs) (length hs) && eqb (tally ns ss) (length ss)
 
 -- ---- handles
 
--- `ns` are the tokens' numbers
-abbrev pub handleTest : List ℕ → Handle → Bool
-handleTest ns h =
+-- a free slot is zero, and a live handle's fields are within their ranges
+abbrev pub fieldsTest : Handle → Bool
+fieldsTest h =
     if eqb h.number 0 then eqb h.station 0 && eqb h.token 0 && eqb h.mask 0
-    else ltb h.station stationCount && (not (eqb h.mask 0) && eqb (bitAnd h.mask allRights) h.mask) && isListed ns h.token
-
--- the token that a live handle refers to, else 0
-abbrev pub target : Handle → ℕ
-target h = if eqb h.number 0 then 0 else h.token
+    else ltb h.station stationCount && (not (eqb h.mask 0) && eqb (bitAnd h.mask allRights) h.mask)
 
 -- ---- all of it
 
-unfoldable pub numbersTest : List ℕ → List ℕ → List ℕ → List Handle → ℕ → ℕ → Bool
-numbersTest ns os ss hs nextToken nextHandle =
-    (leb 1 nextToken && (allApart ns && all (isBelow nextToken) ns))
-    && (leb 1 nextHandle && (allApart (map handleNumber hs) && all (isBelow nextHandle) (map handleNumber hs)))
+-- numbers of tokens, of those that are not primary, of stations' tokens, of handles and of handles' tokens
+unfoldable pub numbersTest : List ℕ → List ℕ → List ℕ → List ℕ → List ℕ → ℕ → ℕ → Bool
+numbersTest ns os ss hs ts nextToken nextHandle =
+    (leb 1 nextToken && all (isGiven nextToken ns) ns)
+    && (leb 1 nextHandle && all (isGiven nextHandle hs) hs)
     && leb nextHandle max32
-    && all (isListed ns) ss
-    && all (isReferred (map target hs) ss) ns
+    && refsTest ns ts ss
     && all (isApart ss) os
 
-abbrev pub stationRows : Memory → List ℕ
-stationRows m = drop counterWords m.stations
-
-abbrev pub tokenNumbers : Memory → List ℕ
-tokenNumbers m = columnBy firstWord tokenWords tokenSlots m.tokens
+-- the parts of the lent memory: tokens, handles, counters and stations
+unfoldable pub linksTest : List ℕ → List Handle → List ℕ → Bool
+linksTest ts hs ss =
+    all fieldsTest hs
+    && numbersTest (nonzero (columnBy firstWord tokenWords tokenSlots ts)) (nonzero (columnBy otherWord tokenWords tokenSlots ts))
+    (columnBy firstWord stationWords stationCount (drop counterWords ss)) (kept handleNumber handleNumber hs) (kept handleNumber handleToken hs) (getD ss 0 0) (getD ss 1 0)
 
 unfoldable pub partsTest : Memory → Bool
 partsTest m =
     testRows tokenTest tokenWords maxDacl tokenSlots m.tokens m.dacls
-    && testRows stationTest stationWords pendingBytes stationCount (stationRows m) m.pending
-    && all (handleTest (tokenNumbers m)) m.handles
-    && numbersTest (tokenNumbers m) (columnBy otherWord tokenWords tokenSlots m.tokens) (columnBy firstWord stationWords stationCount (stationRows m)) m.handles
-    (getD m.stations 0 0) (getD m.stations 1 0)
+    && testRows stationTest stationWords pendingBytes stationCount (drop counterWords m.stations) m.pending
+    && linksTest m.tokens m.handles m.stations

@@ -1,15 +1,24 @@
-// Numbers as columns, with 0 for free slots: each loop over them is quick.
+// The numbers of tokens, in the order of their slots. Those of free slots are left out, so that loops over the list are short.
 ghost use mathlib.Core.Path.{_≡_};
-ghost use mathlib.Core.List.{map};
-ghost use Prim.Native.Nat.{_*_, _<_};
+ghost use Prim.Native.Nat.{_*_, _≤_, _<_};
 ghost use lib.ListN.{length};
 ghost use Rattle.rules.specs.State.{tokenSlots, stationCount};
 ghost use Rattle.rules.specs.Memory.{tokenWords, stationWords};
-ghost use Rattle.valid.specs.Tests.{columnBy, firstWord, otherWord};
-ghost use Rattle.valid.specs.Meaning.{numberOf, targetOf};
+ghost use Rattle.valid.specs.Tests.{columnBy, firstWord, otherWord, nonzero, isKept, Front};
 use crate::layout::*;
-use handle::Handle;
-use handle::SLOTS;
+
+// The first `count` of `numbers`.
+pub struct Given {
+    pub count: usize,
+    pub numbers: [u64; TOKEN_SLOTS],
+}
+
+// How many more are in the list with x.
+fn is_kept(x: u64) -> usize
+    ensures { λ r. ⌜ (r ≡ isKept x) × (r ≤ 1) ⌝ }
+{
+    if x == 0 { 0 } else { 1 }
+}
 
 fn first_word(row: &[u64]) -> u64
     requires { ⌜ 0 < length (now row) ⌝ }
@@ -26,34 +35,47 @@ fn other_word(row: &[u64]) -> u64
     if row[KIND] % 256 == 1 { 0 } else { row[NUMBER] }
 }
 
-pub fn token_numbers(tokens: &[u64]) -> [u64; TOKEN_SLOTS]
+pub fn token_numbers(tokens: &[u64]) -> Given
     requires { ⌜ length (now tokens) ≡ tokenSlots * tokenWords ⌝ }
-    ensures { λ r. ⌜ r ≡ columnBy firstWord tokenWords tokenSlots (now (tokens .entry)) ⌝ }
+    ensures { λ r. ⌜ Front tokenSlots (nonzero (columnBy firstWord tokenWords tokenSlots (now (tokens .entry)))) (r .count) (r .numbers) ⌝ }
 {
     let mut out = [0u64; TOKEN_SLOTS];
+    let mut n: usize = 0;
     let mut i: usize = 0;
     while i < TOKEN_SLOTS {
         let at = i * TOKEN_WORDS;
         let end = at + TOKEN_WORDS;
-        out[i] = first_word(&tokens[at..end]);
+        let x = first_word(&tokens[at..end]);
+        out[n] = x;
+        n = n + is_kept(x);
         i += 1;
     }
-    out
+    Given {
+        count: n,
+        numbers: out,
+    }
 }
 
-pub fn other_numbers(tokens: &[u64]) -> [u64; TOKEN_SLOTS]
+// Those of tokens that are not primary.
+pub fn other_numbers(tokens: &[u64]) -> Given
     requires { ⌜ length (now tokens) ≡ tokenSlots * tokenWords ⌝ }
-    ensures { λ r. ⌜ r ≡ columnBy otherWord tokenWords tokenSlots (now (tokens .entry)) ⌝ }
+    ensures { λ r. ⌜ Front tokenSlots (nonzero (columnBy otherWord tokenWords tokenSlots (now (tokens .entry)))) (r .count) (r .numbers) ⌝ }
 {
     let mut out = [0u64; TOKEN_SLOTS];
+    let mut n: usize = 0;
     let mut i: usize = 0;
     while i < TOKEN_SLOTS {
         let at = i * TOKEN_WORDS;
         let end = at + TOKEN_WORDS;
-        out[i] = other_word(&tokens[at..end]);
+        let x = other_word(&tokens[at..end]);
+        out[n] = x;
+        n = n + is_kept(x);
         i += 1;
     }
-    out
+    Given {
+        count: n,
+        numbers: out,
+    }
 }
 
 pub fn station_tokens(rows: &[u64]) -> [u64; STATIONS]
@@ -66,43 +88,6 @@ pub fn station_tokens(rows: &[u64]) -> [u64; STATIONS]
         let at = i * STATION_WORDS;
         let end = at + STATION_WORDS;
         out[i] = first_word(&rows[at..end]);
-        i += 1;
-    }
-    out
-}
-
-fn number_of(h: Handle) -> u64
-    ensures { λ r. ⌜ r ≡ numberOf h ⌝ }
-{
-    h.number as u64
-}
-
-// The token that a live handle refers to, else 0.
-fn target_of(h: Handle) -> u64
-    ensures { λ r. ⌜ r ≡ targetOf h ⌝ }
-{
-    if h.number == 0 { 0 } else { h.token }
-}
-
-pub fn handle_numbers(items: [Handle; SLOTS]) -> [u64; SLOTS]
-    ensures { λ r. ⌜ r ≡ map numberOf items ⌝ }
-{
-    let mut out = [0u64; SLOTS];
-    let mut i: usize = 0;
-    while i < SLOTS {
-        out[i] = number_of(items[i]);
-        i += 1;
-    }
-    out
-}
-
-pub fn handle_targets(items: [Handle; SLOTS]) -> [u64; SLOTS]
-    ensures { λ r. ⌜ r ≡ map targetOf items ⌝ }
-{
-    let mut out = [0u64; SLOTS];
-    let mut i: usize = 0;
-    while i < SLOTS {
-        out[i] = target_of(items[i]);
         i += 1;
     }
     out

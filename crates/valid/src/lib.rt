@@ -1,25 +1,28 @@
 // The test of refusal 13: lent memory, of any sizes and contents, is valid (document 01: 'Memory is in order when ..').
 ghost use mathlib.Core.Path.{_≡_};
 ghost use mathlib.Core.List.{map};
-ghost use Rattle.handle.specs.Meaning.{handleOf};
+ghost use Prim.Native.Nat.{_+_, _*_, _≤_};
+ghost use lib.ListN.{length, take};
+ghost use Rattle.rules.specs.State.{tokenSlots, handleSlots, stationCount};
 ghost use Rattle.rules.specs.Memory as Memory;
-ghost use Rattle.valid.specs.Tests.{numbersTest, partsTest};
+ghost use Rattle.rules.specs.Memory.{tokenWords, stationWords, counterWords};
+ghost use Rattle.handle.specs.Meaning.{handleOf};
+ghost use Rattle.valid.specs.Tests.{Room, numbersTest, linksTest, partsTest};
 ghost use Rattle.valid.specs.Meaning.{memoryOf, Lent};
-use columns::handle_numbers;
-use columns::handle_targets;
+use columns::Given;
 use columns::other_numbers;
 use columns::station_tokens;
 use columns::token_numbers;
 use handle::Handle;
 use handle::Handles;
 use handle::SLOTS;
-use handles::handles_valid;
+use handles::Held;
+use handles::live;
 use layout::*;
 use numbers::all_apart;
-use numbers::all_below;
-use numbers::all_listed;
-use numbers::all_referred;
-use numbers::distinct;
+use numbers::all_given;
+use numbers::all_given_32;
+use numbers::refs_valid;
 use stations::stations_valid;
 use tokens::tokens_valid;
 
@@ -31,26 +34,67 @@ mod stations;
 mod tokens;
 mod words;
 
-// The next numbers are not 0 and of their type. Numbers given are distinct and below the next; station tokens live and are primary;
-// every token is referred to. `others` are the numbers of tokens that are not primary.
+// The next numbers are not 0 and of their type. Numbers given are distinct and below the next; handles' and stations' tokens live, and
+// stations' are primary; every token is referred to. `others` are the tokens that are not primary, `targets` the handles' tokens.
 fn numbers_valid(
-    numbers: [u64; TOKEN_SLOTS],
-    others: [u64; TOKEN_SLOTS],
-    at_stations: [u64; STATIONS],
-    items: [Handle; SLOTS],
+    tokens: &[u64],
+    others: &[u64],
+    at_stations: &[u64],
+    handles: &[u32],
+    targets: &[u64],
     next_token: u64,
     next_handle: u64,
 ) -> bool
-    ensures { λ r. ⌜ r ≡ numbersTest numbers others «at_stations» (map handleOf items) «next_token» «next_handle» ⌝ }
+    requires { ⌜ (length (now tokens) ≤ handleSlots) × (length (now targets) ≤ handleSlots) × (length (now «at_stations») ≤ handleSlots) × (length (now handles) ≤ handleSlots) ⌝ }
+    ensures { λ r. ⌜ r ≡ numbersTest (now (tokens .entry)) (now (others .entry)) (now («at_stations» .entry)) (now (handles .entry)) (now (targets .entry)) «next_token» «next_handle» ⌝ }
 {
-    let held = handle_numbers(items);
-    let targets = handle_targets(items);
-    ((1 <= next_token) & (distinct(&numbers) & all_below(&numbers, next_token)))
-        & ((1 <= next_handle) & (distinct(&held) & all_below(&held, next_handle)))
+    ((1 <= next_token) & all_given(tokens, next_token))
+        & ((1 <= next_handle) & all_given_32(handles, next_handle))
         & (next_handle <= MAX_32)
-        & all_listed(&at_stations, &numbers)
-        & all_referred(&numbers, &targets, &at_stations)
-        & all_apart(&others, &at_stations)
+        & refs_valid(tokens, targets, at_stations)
+        & all_apart(others, at_stations)
+}
+
+// The same of what stands in the fronts of arrays.
+fn fronts_valid(
+    given: Given,
+    others: Given,
+    at_stations: [u64; STATIONS],
+    held: Held,
+    next_token: u64,
+    next_handle: u64,
+) -> bool
+    requires { ⌜ Room tokenSlots (given .count) (given .numbers) × Room tokenSlots (others .count) (others .numbers) × Room handleSlots (held .count) (held .numbers) × Room handleSlots (held .count) (held .tokens) ⌝ }
+    ensures { λ r. ⌜ r ≡ numbersTest (take (given .count) (given .numbers)) (take (others .count) (others .numbers)) «at_stations» (take (held .count) (held .numbers)) (take (held .count) (held .tokens)) «next_token» «next_handle» ⌝ }
+{
+    let n = given.count;
+    let numbers = given.numbers;
+    let m = others.count;
+    let apart = others.numbers;
+    let h = held.count;
+    let called = held.numbers;
+    let targets = held.tokens;
+    numbers_valid(
+        &numbers[0..n],
+        &apart[0..m],
+        &at_stations,
+        &called[0..h],
+        &targets[0..h],
+        next_token,
+        next_handle,
+    )
+}
+
+// The handles' fields, and all numbers.
+fn links_valid(tokens: &[u64], items: [Handle; SLOTS], stations: &[u64]) -> bool
+    requires { ⌜ (length (now tokens) ≡ tokenSlots * tokenWords) × (length (now stations) ≡ counterWords + stationCount * stationWords) ⌝ }
+    ensures { λ r. ⌜ r ≡ linksTest (now (tokens .entry)) (map handleOf items) (now (stations .entry)) ⌝ }
+{
+    let given = token_numbers(tokens);
+    let others = other_numbers(tokens);
+    let at_stations = station_tokens(&stations[COUNTER_WORDS..COUNTERS_AND_ROWS]);
+    let held = live(items);
+    held.ok & fronts_valid(given, others, at_stations, held, stations[0], stations[1])
 }
 
 // All parts, of the right sizes.
@@ -64,15 +108,9 @@ fn parts_valid(
     requires { ⌜ Lent (now tokens) (now dacls) (now stations) (now pending) ⌝ }
     ensures { λ r. ⌜ r ≡ partsTest (memoryOf (now (tokens .entry)) (now (dacls .entry)) items (now (stations .entry)) (now (pending .entry))) ⌝ }
 {
-    let numbers = token_numbers(tokens);
-    let others = other_numbers(tokens);
-    let at_stations = station_tokens(&stations[COUNTER_WORDS..COUNTERS_AND_ROWS]);
-    let next_token = stations[0];
-    let next_handle = stations[1];
     tokens_valid(tokens, dacls)
         & stations_valid(&stations[COUNTER_WORDS..COUNTERS_AND_ROWS], pending)
-        & handles_valid(items, &numbers)
-        & numbers_valid(numbers, others, at_stations, items, next_token, next_handle)
+        & links_valid(tokens, items, stations)
 }
 
 pub fn valid(

@@ -1,73 +1,115 @@
-// Tests over columns of numbers.
+// Tests by how often a number stands in a list. Numbers given are distinct where each stands among them once; and then all of another
+// list are among them where they stand in it, in all, as often as it is long. Handles' numbers have 32 bits, so that more of them are compared at a time.
 ghost use mathlib.Core.Path.{_≡_};
-ghost use Rattle.rules.specs.Basic.{all, member};
-ghost use Rattle.valid.specs.Tests.{isApart, allApart, isBelow, isListed, isReferred};
+ghost use Prim.Native.Nat.{_≤_};
+ghost use lib.ListN.{length};
+ghost use Rattle.rules.specs.Basic.{all};
+ghost use Rattle.rules.specs.State.{handleSlots};
+ghost use Rattle.valid.specs.Tests.{one, count, isGiven, isApart, refsTest};
 
-fn member_of(x: u64, s: &[u64]) -> bool
-    ensures { λ r. ⌜ r ≡ member x (now (s .entry)) ⌝ }
+fn same(x: u64, y: u64) -> u64
+    ensures { λ r. ⌜ (r ≡ one x y) × (r ≤ 1) ⌝ }
 {
-    let mut found = false;
-    let mut i: usize = 0;
-    while i < s.len() {
-        found = found | (x == s[i]);
-        i += 1;
-    }
-    found
+    if x == y { 1 } else { 0 }
 }
 
-// x is 0 or none of s.
+fn same_32(x: u32, y: u32) -> u32
+    ensures { λ r. ⌜ (r ≡ one x y) × (r ≤ 1) ⌝ }
+{
+    if x == y { 1 } else { 0 }
+}
+
+fn count_of(x: u64, s: &[u64]) -> u64
+    ensures { λ r. ⌜ (r ≡ count x (now (s .entry))) × (r ≤ length (now (s .entry))) ⌝ }
+{
+    let mut n: u64 = 0;
+    let mut i: usize = 0;
+    while i < s.len() {
+        n = n + same(x, s[i]);
+        i += 1;
+    }
+    n
+}
+
+fn count_of_32(x: u32, s: &[u32]) -> u32
+    requires { ⌜ length (now s) ≤ handleSlots ⌝ }
+    ensures { λ r. ⌜ (r ≡ count x (now (s .entry))) × (r ≤ length (now (s .entry))) ⌝ }
+{
+    let mut n: u32 = 0;
+    let mut i: usize = 0;
+    while i < s.len() {
+        n = n + same_32(x, s[i]);
+        i += 1;
+    }
+    n
+}
+
+fn is_given(x: u64, next: u64, s: &[u64]) -> bool
+    ensures { λ r. ⌜ r ≡ isGiven next (now (s .entry)) x ⌝ }
+{
+    (x < next) & (count_of(x, s) == 1)
+}
+
+fn is_given_32(x: u32, next: u64, s: &[u32]) -> bool
+    requires { ⌜ length (now s) ≤ handleSlots ⌝ }
+    ensures { λ r. ⌜ r ≡ isGiven next (now (s .entry)) x ⌝ }
+{
+    ((x as u64) < next) & (count_of_32(x, s) == 1)
+}
+
+// Each number is below the next, and none stands twice.
+pub fn all_given(s: &[u64], next: u64) -> bool
+    ensures { λ r. ⌜ r ≡ all (isGiven next (now (s .entry))) (now (s .entry)) ⌝ }
+{
+    let mut ok = true;
+    let mut i: usize = 0;
+    while i < s.len() {
+        ok = ok & is_given(s[i], next, s);
+        i += 1;
+    }
+    ok
+}
+
+pub fn all_given_32(s: &[u32], next: u64) -> bool
+    requires { ⌜ length (now s) ≤ handleSlots ⌝ }
+    ensures { λ r. ⌜ r ≡ all (isGiven next (now (s .entry))) (now (s .entry)) ⌝ }
+{
+    let mut ok = true;
+    let mut i: usize = 0;
+    while i < s.len() {
+        ok = ok & is_given_32(s[i], next, s);
+        i += 1;
+    }
+    ok
+}
+
+// Each number stands in `held` or in `at`, and those that stand there are numbers of the list.
+pub fn refs_valid(s: &[u64], held: &[u64], at: &[u64]) -> bool
+    requires { ⌜ (length (now s) ≤ handleSlots) × (length (now held) ≤ handleSlots) × (length (now at) ≤ handleSlots) ⌝ }
+    ensures { λ r. ⌜ r ≡ refsTest (now (s .entry)) (now (held .entry)) (now (at .entry)) ⌝ }
+{
+    let mut ok = true;
+    let mut of_held: u64 = 0;
+    let mut of_at: u64 = 0;
+    let mut i: usize = 0;
+    while i < s.len() {
+        let h = count_of(s[i], held);
+        let a = count_of(s[i], at);
+        ok = ok & (1 <= h + a);
+        of_held = of_held + h;
+        of_at = of_at + a;
+        i += 1;
+    }
+    ok & (of_held == held.len() as u64) & (of_at == at.len() as u64)
+}
+
 fn is_apart(x: u64, s: &[u64]) -> bool
     ensures { λ r. ⌜ r ≡ isApart (now (s .entry)) x ⌝ }
 {
-    if x == 0 {
-        return true;
-    }
-    !member_of(x, s)
+    count_of(x, s) == 0
 }
 
-// x is one of s, and not 0.
-pub fn is_listed(x: u64, s: &[u64]) -> bool
-    ensures { λ r. ⌜ r ≡ isListed (now (s .entry)) x ⌝ }
-{
-    (x != 0) & member_of(x, s)
-}
-
-// x is 0, or one of a or of b.
-fn is_referred(x: u64, a: &[u64], b: &[u64]) -> bool
-    ensures { λ r. ⌜ r ≡ isReferred (now (a .entry)) (now (b .entry)) x ⌝ }
-{
-    if x == 0 {
-        return true;
-    }
-    member_of(x, a) | member_of(x, b)
-}
-
-// No number but 0 stands twice.
-pub fn distinct(s: &[u64]) -> bool
-    ensures { λ r. ⌜ r ≡ allApart (now (s .entry)) ⌝ }
-{
-    let mut ok = true;
-    let mut i: usize = 0;
-    while i < s.len() {
-        let next = i + 1;
-        ok = ok & is_apart(s[i], &s[next..]);
-        i += 1;
-    }
-    ok
-}
-
-pub fn all_below(s: &[u64], next: u64) -> bool
-    ensures { λ r. ⌜ r ≡ all (isBelow next) (now (s .entry)) ⌝ }
-{
-    let mut ok = true;
-    let mut i: usize = 0;
-    while i < s.len() {
-        ok = ok & ((s[i] == 0) | (s[i] < next));
-        i += 1;
-    }
-    ok
-}
-
+// No number of s stands in `from`.
 pub fn all_apart(s: &[u64], from: &[u64]) -> bool
     ensures { λ r. ⌜ r ≡ all (isApart (now (from .entry))) (now (s .entry)) ⌝ }
 {
@@ -75,30 +117,6 @@ pub fn all_apart(s: &[u64], from: &[u64]) -> bool
     let mut i: usize = 0;
     while i < s.len() {
         ok = ok & is_apart(s[i], from);
-        i += 1;
-    }
-    ok
-}
-
-pub fn all_listed(s: &[u64], among: &[u64]) -> bool
-    ensures { λ r. ⌜ r ≡ all (isListed (now (among .entry))) (now (s .entry)) ⌝ }
-{
-    let mut ok = true;
-    let mut i: usize = 0;
-    while i < s.len() {
-        ok = ok & is_listed(s[i], among);
-        i += 1;
-    }
-    ok
-}
-
-pub fn all_referred(s: &[u64], a: &[u64], b: &[u64]) -> bool
-    ensures { λ r. ⌜ r ≡ all (isReferred (now (a .entry)) (now (b .entry))) (now (s .entry)) ⌝ }
-{
-    let mut ok = true;
-    let mut i: usize = 0;
-    while i < s.len() {
-        ok = ok & is_referred(s[i], a, b);
         i += 1;
     }
     ok

@@ -7,7 +7,7 @@ ghost use Rattle.rules.specs.Frame.{framed};
 ghost use Rattle.rules.specs.State.{stationCount};
 ghost use Rattle.rules.specs.Memory.{stationWords, pendingBytes};
 ghost use Rattle.rules.specs.Valid.{isPart};
-ghost use Rattle.valid.specs.Tests.{stationTest};
+ghost use Rattle.valid.specs.Tests.{stationTest, idleTest, allIdle};
 use crate::layout::*;
 use crate::words::zero_bytes;
 
@@ -59,7 +59,30 @@ fn station_valid(words: &[u64], bytes: &[u8]) -> bool
     (broken == 0) & is_part(&bytes[0..n]) & zero_bytes(&bytes[n..PENDING_BYTES])
 }
 
-pub fn stations_valid(rows: &[u64], pending: &[u8]) -> bool
+// Nothing pending; a break or none.
+fn is_idle(words: &[u64]) -> bool
+    requires { ⌜ length (now words) ≡ stationWords ⌝ }
+    ensures { λ r. ⌜ r ≡ idleTest (now (words .entry)) ⌝ }
+{
+    (words[1] == 0) & (words[2] < 2)
+}
+
+fn all_idle(rows: &[u64]) -> bool
+    requires { ⌜ length (now rows) ≡ stationCount * stationWords ⌝ }
+    ensures { λ r. ⌜ r ≡ allIdle (now (rows .entry)) ⌝ }
+{
+    let mut ok = true;
+    let mut i: usize = 0;
+    while i < STATIONS {
+        let at = i * STATION_WORDS;
+        let end = at + STATION_WORDS;
+        ok = ok & is_idle(&rows[at..end]);
+        i += 1;
+    }
+    ok
+}
+
+fn rows_valid(rows: &[u64], pending: &[u8]) -> bool
     requires { ⌜ (length (now rows) ≡ stationCount * stationWords) × (length (now pending) ≡ stationCount * pendingBytes) ⌝ }
     ensures { λ r. ⌜ r ≡ testRows stationTest stationWords pendingBytes stationCount (now (rows .entry)) (now (pending .entry)) ⌝ }
 {
@@ -74,4 +97,15 @@ pub fn stations_valid(rows: &[u64], pending: &[u8]) -> bool
         i += 1;
     }
     ok
+}
+
+// Where all are idle, their bytes are tested in one loop.
+pub fn stations_valid(rows: &[u64], pending: &[u8]) -> bool
+    requires { ⌜ (length (now rows) ≡ stationCount * stationWords) × (length (now pending) ≡ stationCount * pendingBytes) ⌝ }
+    ensures { λ r. ⌜ r ≡ testRows stationTest stationWords pendingBytes stationCount (now (rows .entry)) (now (pending .entry)) ⌝ }
+{
+    if all_idle(rows) {
+        return zero_bytes(pending);
+    }
+    rows_valid(rows, pending)
 }

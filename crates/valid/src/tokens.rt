@@ -10,41 +10,49 @@ ghost use Rattle.rules.specs.Token.{maxDacl};
 ghost use Rattle.rules.specs.State.{tokenSlots};
 ghost use Rattle.rules.specs.AdjustDefaults.{validOwner};
 ghost use Rattle.rules.specs.Memory.{unpack, tokenWords};
-ghost use Rattle.valid.specs.Tests.{groupTest, headTest, Counted, listsTest, liveTest, tokenTest};
+ghost use Rattle.valid.specs.Tests.{groupTest, carriedTo, headTest, Counted, listsTest, liveTest, tokenTest};
 use crate::layout::*;
 use crate::words::narrow_words;
 use crate::words::zero_bytes;
 use crate::words::zero_words;
 
-// A group's word is SID + attributes * 2^32. Its attributes, and three bits of the word: ENABLED, OWNER, the lower one of LOGON_ID's two.
+// A group's word is SID + attributes * 2^32. Its attributes; OWNER's bit of the word.
 const ATTRIBUTES: u64 = 0xC000001F;
-
-const ENABLED_BIT: u64 = 0x400000000;
 
 const OWNER_BIT: u64 = 0x800000000;
 
-const LOGON_BIT: u64 = 0x4000000000000000;
+// LOGON_ID's two bits, ENABLED and DENY_ONLY; and what, added to them, carries: to LOGON_ID's upper bit where LOGON_ID is there by half, and
+// to the bit above DENY_ONLY where ENABLED is there too.
+const PAIRS: u64 = 0xC000001400000000;
+
+const CARRY: u64 = 0x4000000C00000000;
+
+const BY_HALF: u64 = 0x8000000000000000;
+
+const BOTH: u64 = 0x2000000000;
 
 const PRIVILEGES: u64 = 0x1FFFFFFFFC;
 
-// No group has a bit of no attribute, LOGON_ID by half, or both ENABLED and DENY_ONLY, which is two bits above it.
+fn carried(w: u64) -> u64
+    ensures { λ r. ⌜ r ≡ carriedTo w ⌝ }
+{
+    std::num::wrapping_add_u64(w & PAIRS, CARRY)
+}
+
+// No group has a bit of no attribute, LOGON_ID by half, or both ENABLED and DENY_ONLY.
 fn groups_valid(s: &[u64]) -> bool
     ensures { λ r. ⌜ r ≡ all groupTest (now (s .entry)) ⌝ }
 {
     let mut any: u64 = 0;
-    let mut half: u64 = 0;
-    let mut both: u64 = 0;
+    let mut carry: u64 = 0;
     let mut i: usize = 0;
     while i < s.len() {
         any = any | s[i];
-        half = half | (s[i] ^ s[i] / 2);
-        both = both | (s[i] & s[i] / 4);
+        carry = carry | carried(s[i]);
         i += 1;
     }
     let attributes = any / WORD_32;
-    ((attributes & ATTRIBUTES) == attributes)
-        & (half / LOGON_BIT % 2 == 0)
-        & (both / ENABLED_BIT % 2 == 0)
+    ((attributes & ATTRIBUTES) == attributes) & (carry / BY_HALF % 2 == 0) & (carry / BOTH % 2 == 0)
 }
 
 // The owner index names the user or an OWNER group.

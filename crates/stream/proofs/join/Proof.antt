@@ -3,7 +3,7 @@ use Prim.Native.Nat.{_-_}
 use native.Mathlib.Omega.{arith}
 use lib.ListN.{length, length-set}
 use borrow.Author.Needs.{needs}
-use Rattle.stream.proofs.Joining.{Joining, joining-none, goes-on, stream-breaks, frame-ends, chunk-ends}
+use Rattle.stream.proofs.Joining.{Joining, joining-none, turn-goes-on, stream-breaks, frame-ends, chunk-ends}
 use Rattle.stream.proofs.join.Statement.{statement}
 use Rattle.stream.proofs.join.Tie as tie
 
@@ -21,11 +21,17 @@ join-spec =
     (λ c. search needs)
     (λ c. search needs)
     (λ c. search needs)
+    (λ c κs. search needs)
+    (λ c. search needs)
+    (λ c. search needs)
+    (λ c. search needs)
+    (λ c. search needs)
+    (λ c. search needs)
     (λ c. search needs)
     (λ c κs. simp length-set (omega arith))
     (λ c. search needs)
     (λ c. search needs)
-    (λ c. search (needs, goes-on))
+    (λ c. search (needs, turn-goes-on))
     (λ c. search needs)
     (λ c. simp length-set (omega arith))
     (λ c. search (needs, stream-breaks))

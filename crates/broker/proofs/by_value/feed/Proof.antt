@@ -1,4 +1,4 @@
--- By the tests of 11, 12 and 13. Assumes nothing.
+-- By the tests of 11, 12 and 13. At the last, the chunk's bytes are known to be bytes since the start. Assumes nothing.
 use borrow.Author.Needs.{needs}
 use Rattle.broker.proofs.Parts.{tested-valid, tested-lent}
 use Rattle.broker.proofs.Feeding.{feed-no-station, feed-short, feed-invalid, feeds-with}
@@ -26,4 +26,4 @@ feed-spec =
     (λ c. search needs)
     (λ c. search needs)
     (λ c. search needs)
-    (λ c. search (needs, feeds-with)))
+    (λ c. search (needs, feeds-with, c .before .before .before .before .before .before .before .before .before .before .before .before .before .before .before .before .before .before .before .before .before .before .before .before .before .before .before .before .before .shared-slice-known .given)))

@@ -17,7 +17,7 @@ use lib.ListN.{length, getD, set, replicate, length-set, length-replicate}
 use Rattle.handle.proofs.Walk.{URA, fullShare, named, w64, tyBool, tyPtr, Val, vint, vptr, SProp, ent, emp, via, fst∗, Lft, GName, Share, Fml, ftrue, fat, flft, fobor, fshr-bor, fres, Memory, Routine, Heap, Env, Out, Wp, WpFn}
 use Rattle.handle.proofs.Walk.{Tables, afterTurn, afterBlock, afterSeq, atReturn, Atoms, Fun, givenOf, Given, Item, Sq, runs, anyQ, atRet, ‵, _$_, _∵_, !, qed, move, keep, drop, rewrite, fsplit, fjoin, suffices, frame, done, Below}
 use Rattle.handle.proofs.Walk.{look, look-raw, store-raw, assigns, split, use1, use2, owned, elem-put, _⊛_, init, store, forget, stop, hop, from, load, lit, of-opd, bin, and-then, no-more, first, skips, jumps, blocks, branches, loops, again, exec, returns, enter, alloc1, alloc0, params1}
-use Rattle.handle.proofs.Walk.{pass1, pass0, free1, free0, arr-parts, fmOf, Is, shows, shares, usize, RefT, sliceVal, ShrSlice, Room, at-slice, codedHoleys, heres, place-is, row, elem-out, elem-back, looks-slice, shuts-slice}
+use Rattle.handle.proofs.Walk.{pass1, pass0, free1, free0, arr-parts, fmOf, Is, shows, shares, RefT, sliceVal, ShrSlice, Room, at-slice, codedHoleys, heres, place-is, row, elem-out, elem-back, looks-slice, shuts-slice}
 use Rattle.handle.proofs.Walk.{Contract, Triple, calls-at, lasts, Vals, onEntry, tripleOf, says, Stays, walkOf, ends-at}
 use denote.Struct.Laws as LL
 use Rattle.rules.specs.State.{handleSlots}

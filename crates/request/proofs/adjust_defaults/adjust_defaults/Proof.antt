@@ -1,6 +1,6 @@
--- Each way in which request 8 ends. Assumes nothing.
+-- By the handle, in the rows of its token. Assumes nothing.
 use borrow.Author.Needs.{needs}
-use Rattle.request.proofs.AdjustsDefaults.{no-handle, bad-field, adjusts}
+use Rattle.request.proofs.AdjustsDefaults.{no-handle, adjusts}
 use Rattle.request.proofs.adjust_defaults.adjust_defaults.Statement.{statement}
 use Rattle.request.proofs.adjust_defaults.adjust_defaults.Tie as tie
 
@@ -11,13 +11,19 @@ adjust-defaults-spec =
     (λ c κs. search needs)
     (λ c κs. search needs)
     (λ c. search needs)
-    (λ c. search needs)
     (λ c. search (needs, no-handle))
-    (λ c κs. search needs)
-    (λ c κs. search needs)
     (λ c. search needs)
     (λ c. search needs)
-    (λ c. search (needs, bad-field))
+    (λ c. search needs)
+    (λ c. search needs)
+    (λ c. search needs)
+    (λ c. search needs)
+    (λ c. search needs)
+    (λ c. search needs)
+    (λ c. search needs)
+    (λ c. search needs)
+    (λ c. search needs)
+    (λ c κs. (search needs, search needs, search needs, search needs))
     (λ c κs. search needs)
     (λ c. search needs)
     (λ c. search needs)

@@ -1,20 +1,36 @@
--- The numbers, and the DACL for class 6. Assumes nothing.
+-- Each class of several numbers, and those of one. Assumes nothing.
 use borrow.Author.Needs.{needs}
-use Rattle.request.proofs.Answers.{class-room, class-framed}
+use Rattle.rules.specs.Query.{words, classes, classBytes}
+use Rattle.rules.specs.Memory.{identityAt, privilegesAt, tokenAt}
+use Rattle.request.proofs.ClassBodies.{known-low, known-high}
+use Rattle.request.proofs.Answers.{class-fits-in, class-wrote, dacl-fits-in, dacl-wrote, one-wrote, none-wrote}
 use Rattle.request.proofs.answer.put_class.Statement.{statement}
 use Rattle.request.proofs.answer.put_class.Tie as tie
 
 pub put-class-spec : {M : Type 1} → statement M
+unfolding classBytes classes tokenAt identityAt privilegesAt words
 put-class-spec =
     tie.close
     (tie.spec
     (λ c κs. search needs)
     (λ c. search needs)
+    (λ c. search (needs, none-wrote))
+    (λ c κs. search (needs, class-fits-in))
+    (λ c κs. search (needs, class-fits-in))
+    (λ c κs. search (needs, dacl-fits-in))
+    (λ c κs. search (needs, class-fits-in))
+    (λ c κs. search (needs, class-fits-in))
+    (λ c κs. search (needs, known-low, known-high))
+    (λ c κs. search needs)
     (λ c. search needs)
+    (λ c. search (needs, class-wrote))
     (λ c. search needs)
+    (λ c. search (needs, class-wrote))
     (λ c. search needs)
+    (λ c. search (needs, dacl-wrote))
     (λ c. search needs)
+    (λ c. search (needs, class-wrote))
     (λ c. search needs)
-    (λ c κs. search (needs, class-room))
+    (λ c. search (needs, class-wrote))
     (λ c. search needs)
-    (λ c. search (needs, class-framed)))
+    (λ c. search (needs, one-wrote)))

@@ -10,6 +10,7 @@ sid-at-spec =
     (tie.spec
     (λ c. search needs)
     (λ c. search (needs, user-sid))
+    (λ c κs. search needs)
     (λ c. search (needs, no-sid))
     (λ c. search needs)
     (λ c. search needs)

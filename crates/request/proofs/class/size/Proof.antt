@@ -1,10 +1,13 @@
--- The status is counted and taken off. Assumes nothing.
+-- Each class of several numbers, and those of one. Assumes nothing.
 use borrow.Author.Needs.{needs}
-use Rattle.request.proofs.Answers.{status-counted, class-counted}
+use Rattle.rules.specs.Query.{classes, classBytes}
+use Rattle.rules.specs.Memory.{identityAt, tokenAt}
+use Rattle.request.proofs.ClassBodies.{counted-numbers, counted-privileges, counted-same, counted-one}
 use Rattle.request.proofs.class.size.Statement.{statement}
 use Rattle.request.proofs.class.size.Tie as tie
 
 pub size-spec : {M : Type 1} → statement M
+unfolding classBytes classes tokenAt identityAt
 size-spec =
     tie.close
     (tie.spec
@@ -13,6 +16,14 @@ size-spec =
     (λ c. search needs)
     (λ c. search needs)
     (λ c κs. search needs)
-    (λ c. search (needs, status-counted))
-    (λ c. search needs)
-    (λ c. search (needs, class-counted)))
+    (λ c κs. search needs)
+    (λ c κs. search needs)
+    (λ c κs. search needs)
+    (λ c κs. search needs)
+    (λ c κs. search needs)
+    (λ c. search (needs, counted-numbers))
+    (λ c. search (needs, counted-privileges))
+    (λ c. search (needs, counted-same))
+    (λ c. search (needs, counted-numbers))
+    (λ c. search (needs, counted-numbers))
+    (λ c. search (needs, counted-one)))

@@ -1,35 +1,41 @@
--- What is left to enter gives what all give. Assumes nothing.
+-- The pairs read so far are entered, and what is left gives what all give. Assumes nothing.
 use borrow.Author.Needs.{needs}
 use native.Mathlib.Omega.{arith}
-use mathlib.Core.Path.{_≡_, refl}
-use lib.ListN.{drop}
-use Rattle.rules.specs.Number.{bad}
-use Rattle.rules.specs.Request.{times, group}
-use Rattle.request.specs.Entries.{folded}
-use Rattle.request.specs.Creating.{Room, soFar, step}
-use Rattle.request.proofs.Creating.{key-narrow, value-narrow, result, groups-end, groups-lost, groups-next}
+use mathlib.Core.Path.{_≡_, ap}
+use lib.ListN.{length}
+use Rattle.rules.specs.Memory.{tokenWords}
+use Rattle.request.proofs.Creating.{key-narrow, value-narrow, Entering, none-entered, all-read, one-missing, one-bad, place-in, one-entered}
 use Rattle.request.proofs.create.read_groups.Statement.{statement}
 use Rattle.request.proofs.create.read_groups.Tie as tie
 
 abbrev Inv : tie.InvT-loop
-Inv user s at count r₀ from₀ left₀ r from left = (folded (step user) bad (soFar r) (times left group (drop from s)) ≡ result user s at count) × Room r
+Inv user s at count words₀ n₀ from₀ left₀ words n from left = Entering user s at count words n from left × (length words₀ ≡ tokenWords)
 
 abbrev μ : tie.MeasureT-loop
-μ user s at count r₀ from₀ left₀ r from left = left
+μ user s at count words₀ n₀ from₀ left₀ words n from left = left
 
 pub read-groups-spec : {M : Type 1} → statement M
 read-groups-spec =
     tie.close
     (tie.spec Inv μ
-    (λ c. (refl, record { long = refl; room = omega arith }))
+    (λ c. (search (needs, none-entered), ap length (c .before .before .pre)))
     (λ c κs. search needs)
     (λ c. search needs)
-    (λ c. search (needs, groups-lost))
     (λ c. search needs)
+    (λ c. omega arith)
+    (λ c. search (needs, one-missing))
     (λ c. search (needs, key-narrow))
     (λ c. search (needs, value-narrow))
     (λ c κs. search needs)
+    (λ c. omega arith)
+    (λ c. search (needs, one-bad))
+    (λ c κs. search needs)
     (λ c. search needs)
     (λ c. search needs)
-    (λ c. search (needs, groups-next))
-    (λ c. search (needs, groups-end)))
+    (λ c. search (needs, place-in))
+    (λ c. search needs)
+    (λ c. search needs)
+    (λ c. search needs)
+    (λ c. search (needs, one-entered))
+    (λ c. omega arith)
+    (λ c. search (needs, all-read)))

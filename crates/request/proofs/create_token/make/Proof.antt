@@ -1,7 +1,7 @@
--- A new token, with the groups that were read. Assumes nothing.
+-- The groups that were read, and then the head. Assumes nothing.
 use borrow.Author.Needs.{needs}
 use Rattle.rules.specs.Token.{primaryOf}
-use Rattle.request.proofs.Creates.{token-made}
+use Rattle.request.proofs.Creates.{row-made}
 use Rattle.request.proofs.create_token.make.Statement.{statement}
 use Rattle.request.proofs.create_token.make.Tie as tie
 
@@ -16,4 +16,5 @@ make-spec =
     (λ c κs. search needs)
     (λ c κs. search needs)
     (λ c κs. search needs)
-    (λ c. search (needs, token-made)))
+    (λ c. search needs)
+    (λ c. search (needs, row-made)))

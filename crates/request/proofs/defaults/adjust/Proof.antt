@@ -1,6 +1,7 @@
--- The fields judged, then made. Assumes nothing.
+-- The fields judged, then written. Assumes nothing.
 use borrow.Author.Needs.{needs}
-use Rattle.request.proofs.Defaulting.{dacl-fits, there-long, made-none, made-so}
+use Rattle.request.proofs.Bytes.{there-long}
+use Rattle.request.proofs.Defaulting.{dacl-fits, made-none, made-so}
 use Rattle.request.proofs.defaults.adjust.Statement.{statement}
 use Rattle.request.proofs.defaults.adjust.Tie as tie
 
@@ -9,6 +10,9 @@ adjust-spec =
     tie.close
     (tie.spec
     (λ c κs. search needs)
+    (λ c. search needs)
     (λ c. search (needs, made-none, there-long))
     (λ c κs. search (needs, dacl-fits))
+    (λ c. search needs)
+    (λ c. search needs)
     (λ c. search (needs, made-so, there-long)))

@@ -1,6 +1,6 @@
--- The user, no group, or a group by its attributes. Assumes nothing.
+-- The user, no group, or a group by its word. Assumes nothing.
 use borrow.Author.Needs.{needs}
-use Rattle.request.proofs.Defaulting.{owner-user, owner-past, owner-group}
+use Rattle.request.proofs.Defaulting.{owner-user, owner-none, owner-past, owner-group}
 use Rattle.request.proofs.defaults.is_owner.Statement.{statement}
 use Rattle.request.proofs.defaults.is_owner.Tie as tie
 
@@ -10,7 +10,10 @@ is-owner-spec =
     (tie.spec
     (λ c. search (needs, owner-user))
     (λ c. search needs)
+    (λ c. search (needs, owner-none))
+    (λ c. search needs)
     (λ c. search (needs, owner-past))
+    (λ c. search needs)
     (λ c. search needs)
     (λ c. search needs)
     (λ c κs. search needs)

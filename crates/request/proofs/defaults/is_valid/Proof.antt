@@ -9,4 +9,5 @@ is-valid-spec =
     tie.close
     (tie.spec
     (λ c κs. search needs)
+    (λ c. search needs)
     (λ c. search (needs, judges)))

@@ -1,11 +1,11 @@
--- `enabled_word` meets its contract: its loop counts from the last group down. Assumes nothing.
+-- Its loop counts from the last group down. Assumes nothing.
 use borrow.Author.Needs.{needs}
 use Rattle.request.proofs.Reports.{Counting, count-none, count-more, count-all, sum-fits, twice-fits}
 use Rattle.request.proofs.group_list.enabled_word.Statement.{statement}
 use Rattle.request.proofs.group_list.enabled_word.Tie as tie
 
 abbrev Inv : tie.InvT-loop
-Inv groups i₀ w₀ i w = Counting i₀ groups w i
+Inv groups i₀ w₀ i w = Counting groups w i
 
 abbrev μ : tie.MeasureT-loop
 μ groups i₀ w₀ i w = i

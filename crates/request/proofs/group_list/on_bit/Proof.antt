@@ -1,5 +1,6 @@
 -- The bit of the rule. Assumes nothing.
 use borrow.Author.Needs.{needs}
+use Rattle.request.proofs.Reports.{bit-on, bit-off}
 use Rattle.request.proofs.group_list.on_bit.Statement.{statement}
 use Rattle.request.proofs.group_list.on_bit.Tie as tie
 
@@ -8,5 +9,6 @@ on-bit-spec =
     tie.close
     (tie.spec
     (λ c κs. search needs)
-    (λ c. cc)
-    (λ c. cc))
+    (λ c κs. search needs)
+    (λ c. search (needs, bit-on))
+    (λ c. search (needs, bit-off)))

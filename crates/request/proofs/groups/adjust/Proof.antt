@@ -1,4 +1,4 @@
--- `adjust` meets its contract. Assumes nothing.
+-- A law for each end. Assumes nothing.
 use borrow.Author.Needs.{needs}
 use Rattle.request.proofs.Switching.{was-reset, was-bad, was-protected, was-switched}
 use Rattle.request.proofs.groups.adjust.Statement.{statement}
@@ -11,9 +11,13 @@ adjust-spec =
     (λ c κs. search needs)
     (λ c κs. search needs)
     (λ c κs. search needs)
+    (λ c. search needs)
     (λ c. search (needs, was-reset))
     (λ c κs. search needs)
+    (λ c. search needs)
     (λ c. search (needs, was-bad))
+    (λ c. search needs)
     (λ c. search (needs, was-protected))
     (λ c κs. search needs)
+    (λ c. search needs)
     (λ c. search (needs, was-switched)))

@@ -11,4 +11,5 @@ is-unprotected-spec =
     (λ c. search needs)
     (λ c. search needs)
     (λ c κs. search needs)
+    (λ c κs. search needs)
     (λ c. search (needs, named-group)))

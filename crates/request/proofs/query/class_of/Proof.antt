@@ -1,6 +1,7 @@
 -- A law for each answer. Assumes nothing.
 use borrow.Author.Needs.{needs}
-use Rattle.request.proofs.Querying.{class-unknown, class-above, class-given}
+use Rattle.request.proofs.ClassBodies.{known-low, known-high}
+use Rattle.request.proofs.Querying.{class-unknown, class-missing, class-above, class-given}
 use Rattle.request.proofs.query.class_of.Statement.{statement}
 use Rattle.request.proofs.query.class_of.Tie as tie
 
@@ -10,7 +11,13 @@ class-of-spec =
     (tie.spec
     (λ c. search (needs, class-unknown))
     (λ c κs. search needs)
-    (λ c κs. search needs)
-    (λ c κs. search needs)
+    (λ c. search (needs, class-missing))
+    (λ c. search needs)
+    (λ c. search needs)
+    (λ c. search needs)
+    (λ c. search needs)
+    (λ c. search needs)
+    (λ c. search needs)
+    (λ c κs. search (needs, known-low, known-high))
     (λ c. search (needs, class-above))
     (λ c. search (needs, class-given)))

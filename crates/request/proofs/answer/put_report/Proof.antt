@@ -1,0 +1,18 @@
+-- Sixteen words, of which the first is given. Assumes nothing.
+use borrow.Author.Needs.{needs}
+use Rattle.request.proofs.Answers.{report-fits, whole-room, whole-framed}
+use Rattle.request.proofs.answer.put_report.Statement.{statement}
+use Rattle.request.proofs.answer.put_report.Tie as tie
+
+pub put-report-spec : {M : Type 1} → statement M
+put-report-spec =
+    tie.close
+    (tie.spec
+    (λ c. search needs)
+    (λ c. search needs)
+    (λ c. search needs)
+    (λ c. search needs)
+    (λ c. search needs)
+    (λ c κs. search (needs, whole-room, report-fits))
+    (λ c. search needs)
+    (λ c. search (needs, whole-framed, report-fits)))

@@ -1,0 +1,40 @@
+-- After i turns the first i SIDs are stored. Assumes nothing.
+use Prim.Native.Nat.{_-_}
+use borrow.Author.Needs.{needs}
+use Rattle.request.proofs.ClassLists.{SidsIn, no-sid-in, sid-in, sids-in}
+use Rattle.request.proofs.Answers.{numbers-room, numbers-framed}
+use Rattle.request.proofs.answer.put_sids.Statement.{statement}
+use Rattle.request.proofs.answer.put_sids.Tie as tie
+
+abbrev Inv : tie.InvT-loop
+Inv words out n fields₀ i₀ fields i = SidsIn n words fields i
+
+abbrev μ : tie.MeasureT-loop
+μ words out n fields₀ i₀ fields i = n - i
+
+pub put-sids-spec : {M : Type 1} → statement M
+put-sids-spec =
+    tie.close
+    (tie.spec Inv μ
+    (λ c κs. search needs)
+    (λ c. search needs)
+    (λ c. search (needs, no-sid-in))
+    (λ c. search needs)
+    (λ c. search needs)
+    (λ c. search needs)
+    (λ c. search needs)
+    (λ c. search needs)
+    (λ c. search needs)
+    (λ c. search needs)
+    (λ c. search needs)
+    (λ c. search (needs, sid-in))
+    (λ c. search needs)
+    (λ c. search needs)
+    (λ c. search needs)
+    (λ c. search needs)
+    (λ c. search needs)
+    (λ c. search needs)
+    (λ c. search needs)
+    (λ c κs. search (needs, numbers-room, sids-in))
+    (λ c. search needs)
+    (λ c. search (needs, numbers-framed, sids-in)))
