@@ -18,10 +18,9 @@ use Rattle.rules.specs.Privileges.{remove}
 use Rattle.rules.specs.Token.{Token, maxGroups, maxRestricting, withGroups}
 use Rattle.rules.specs.Memory.{tokenWords, word32, mark, pack, unpack, head, tokenRow}
 use Rattle.rules.proofs.Logic.{length-changeAt}
-use Rattle.token.specs.Meaning.{groupOf}
-use Rattle.token.specs.declared.Group as Code
 use Rattle.request.specs.Copies.{Remade}
-use Rattle.request.specs.Restricting.{deniedWord, Packed, denyIn, DeniedAt, withSids, addIn, SidAdded}
+use Rattle.request.specs.Switching.{onWord}
+use Rattle.request.specs.Restricting.{Packed, denyIn, DeniedAt, withSids, addIn, SidAdded}
 use Rattle.request.specs.Restricts.{markWord, limitedTo}
 
 -- ---- stores in a list of parts
@@ -62,13 +61,9 @@ unpacked g low =
       attributes = (ap (λ (w : ℕ). w / word32) swap ∙ digits-div (g .attributes) low) i;
     }
 
-pub word-denied : (w : ℕ) (g : Code.Group) → groupOf g ≡ denied (record { sid = w % word32; attributes = w / word32 }) → g .sid + g .attributes * word32 ≡ deniedWord w
-unfolding deniedWord pack unpack
-word-denied w g e = ap (λ (x : Group). x .sid + x .attributes * word32) e
-
 denied-among : (gs : List Group) (i : ℕ) → i < length gs → ((g : Group) → Mem g gs → g .sid < word32)
-    → set (map pack gs) i (deniedWord (getD (map pack gs) i 0)) ≡ map pack (changeAt i denied gs)
-unfolding changeAt deniedWord
+    → set (map pack gs) i (onWord denied (getD (map pack gs) i 0)) ≡ map pack (changeAt i denied gs)
+unfolding changeAt
 denied-among [] i h p = absurd (omega arith)
 denied-among (g ∷ gs) zero h p = ap (λ (x : Group). pack (denied x) ∷ map pack gs) (unpacked g (p g (here refl)))
 denied-among (g ∷ gs) (suc i) h p = ap (λ (l : List ℕ). pack g ∷ l) (denied-among gs i (omega arith) (λ x m. p x (there m)))
@@ -81,7 +76,7 @@ none (g ∷ gs) (suc i) h = ap (λ (l : List Group). g ∷ l) (none gs i (omega 
 
 module _ (t : Token) (i : ℕ) where
   denied-row : i < length (t .groups) → length (t .groups) ≤ maxGroups → Packed t
-      → set (tokenRow t) (20 + i) (deniedWord (getD (tokenRow t) (20 + i) 0)) ≡ tokenRow (denyIn i t)
+      → set (tokenRow t) (20 + i) (onWord denied (getD (tokenRow t) (20 + i) 0)) ≡ tokenRow (denyIn i t)
   unfolding tokenRow head denyIn withGroups
   denied-row h few p =
       let ws : List ℕ = map pack (t .groups) in
@@ -89,8 +84,8 @@ module _ (t : Token) (i : ℕ) where
       let rs = pad maxRestricting (t .limits .restricting) in
       let long = length-pad maxGroups ws in
       let many : length ws ≡ length (t .groups) = length-map (t .groups) pack in
-      let v = deniedWord (getD ws i 0) in
-      ap (λ (w : ℕ). set (head t ++ (gs ++ rs)) (20 + i) (deniedWord w))
+      let v = onWord denied (getD ws i 0) in
+      ap (λ (w : ℕ). set (head t ++ (gs ++ rs)) (20 + i) (onWord denied w))
       (getD-append-add (head t) (gs ++ rs) i 0 ∙ List·getD-append gs rs 0 i (omega arith) ∙ getD-pad maxGroups ws i (omega arith) (omega arith))
       ∙ set-after (head t) (gs ++ rs) i v
       ∙ ap (λ (l : List ℕ). head t ++ l) (set-append-left gs rs i v (omega arith))
@@ -102,11 +97,11 @@ module _ (t : Token) (i : ℕ) where
   denied-none l = ap (λ (gs : List Group). withGroups gs t) (none (t .groups) i l)
 
 module _ (size index : ℕ) {ws : List ℕ} (long : length ws ≡ tokenWords) (few : size ≤ maxGroups) where
-  pub denies : {v : ℕ} → index < size → v ≡ deniedWord (getD ws (20 + index) 0) → DeniedAt size index ws (set ws (20 + index) v)
+  pub denies : {v : ℕ} → index < size → v ≡ onWord denied (getD ws (20 + index) 0) → DeniedAt size index ws (set ws (20 + index) v)
   denies {v} h e = record {
     long = length-set ws (20 + index) v ∙ long;
     made = λ t n p q.
-        ap (set ws (20 + index)) e ∙ ap (λ (l : List ℕ). set l (20 + index) (deniedWord (getD l (20 + index) 0))) q
+        ap (set ws (20 + index)) e ∙ ap (λ (l : List ℕ). set l (20 + index) (onWord denied (getD l (20 + index) 0))) q
         ∙ denied-row t index (omega arith) (omega arith) p;
   }
 

@@ -1,14 +1,13 @@
 -- Request 10, end by end. Assumes nothing.
-use Prim.Native.Nat.{ℕ, _+_, _*_, _-_, _^_, _≤_, _<_}
+use Prim.Native.Nat.{ℕ, _+_, _-_, _^_, _≤_, _<_, min}
 use native.Mathlib.Omega.{arith}
 use mathlib.Core.Path.{_≡_, refl, sym, ap, ap₂, _∙_, subst}
 use mathlib.Core.Bool.{Bool, true, false, not, _&&_, and-assoc}
 use mathlib.Core.List.{List, [], _∷_}
 use lib.Dec.{leb}
 use lib.ListN.{length, drop, getD}
-use lib.Seq.{getD-drop, getD-take}
 use borrow.Author.Tests.{not-true, not-false, le-leb, lt-leb, leb-true, ltb-true}
-use Rattle.table.specs.Table.{record-at}
+use Rattle.table.specs.Table.{part-at}
 use Rattle.rules.specs.Basic.{if_then_else_, all, distinct}
 use Rattle.rules.specs.Bits.{within}
 use Rattle.rules.specs.Mask as Mask
@@ -24,12 +23,13 @@ use Rattle.rules.specs.Memory.{tokenWords, head, tokenRow, daclRow}
 use Rattle.rules.specs.Request.{times, u32}
 use Rattle.rules.specs.Decision.{Decision, carriedOut, need_else_then_, canIssue, issued}
 use Rattle.rules.specs.Restrict.{isBelow, validRestrict, limited, restricted, restrict}
-use Rattle.rules.proofs.Logic.{and-l, and-r, not-both, all-mem}
+use Rattle.rules.proofs.Logic.{and-l, and-r, all-mem}
 use Rattle.rules.proofs.Facts.{token-facts}
 use Rattle.handle.specs.declared.Handle.{Handle}
+use Rattle.token.proofs.Changing.{few-groups}
 use Rattle.state.specs.TokenCalls.{NextToken}
 use Rattle.state.specs.ReleaseFacts.{PartsIn}
-use Rattle.state.proofs.InPlace.{in-slot}
+use Rattle.state.proofs.InPlace.{lent, in-slot}
 use Rattle.request.specs.declared.answer.Answer.the-variants as answers
 use Rattle.request.specs.declared.outcome.Outcome.{Outcome}
 use Rattle.request.specs.declared.located.Located.{Located}
@@ -47,45 +47,19 @@ use Rattle.request.proofs.Copying.{issues-made, on-located}
 
 -- ---- the counts of the token in a slot
 
-few : (t : Token) → tokenValid t ≡ true → (leb (length (t .groups)) 64 && leb (length (t .limits .restricting)) 16) ≡ true
-unfolding groupsValid limitsValid
-few t v =
-    let f = token-facts t v in
-    ap₂ _&&_ (and-l (leb (length (t .groups)) maxGroups) _ (f .groups)) (and-l (leb (length (t .limits .restricting)) maxRestricting) _ (f .limits))
-
-module _ (i : ℕ) (ts : List ℕ) where
-  word-at : (j : ℕ) → j < tokenWords → getD ts (i * tokenWords + j) 0 ≡ getD (record-at tokenWords i ts) j 0
-  unfolding record-at
-  word-at j h = sym (getD-take tokenWords (drop (i * tokenWords) ts) j 0 h ∙ getD-drop (i * tokenWords) ts j 0)
-
-  module _ (t : Token) (e : record-at tokenWords i ts ≡ tokenRow t) where
-    groups-word : getD ts (i * tokenWords + 17) 0 ≡ length (t .groups)
-    unfolding tokenRow head
-    groups-word = word-at 17 (omega arith) ∙ ap (λ (l : List ℕ). getD l 17 0) e
-
-    restricting-word : getD ts (i * tokenWords + 18) 0 ≡ length (t .limits .restricting)
-    unfolding tokenRow head
-    restricting-word = word-at 18 (omega arith) ∙ ap (λ (l : List ℕ). getD l 18 0) e
-
-  abbrev g : ℕ
-  g = getD ts (i * tokenWords + 17) 0
-
-  abbrev r : ℕ
-  r = getD ts (i * tokenWords + 18) 0
-
-  pub counts : (leb g 64 && leb r 16) ≡ true → CountsAt i ts (record { groups = g; restricting = r })
-  counts h = record {
-    few-groups = leb-true g 64 (and-l (leb g 64) (leb r 16) h);
-    few-restricting = leb-true r 16 (and-r (leb g 64) (leb r 16) h);
-    counted = λ t v e. record { groups = sym (groups-word t e); restricting = sym (restricting-word t e) };
-  }
-
-  pub no-counts : (leb g 64 && leb r 16) ≡ false → CountsAt i ts (record { groups = 0; restricting = 0 })
-  no-counts h = record {
-    few-groups = omega arith;
-    few-restricting = omega arith;
-    counted = λ t v e. absurd (not-both (few t v) (ap₂ (λ (a b : ℕ). leb a 64 && leb b 16) (sym (groups-word t e)) (sym (restricting-word t e)) ∙ h));
-  }
+pub counts : (i : ℕ) {ts : List ℕ} {g r : ℕ} → g ≡ min (getD (lent i ts) 17 0) maxGroups → r ≡ min (getD (lent i ts) 18 0) maxRestricting
+    → CountsAt i ts (record { groups = g; restricting = r })
+unfolding tokenRow head limitsValid
+counts i {ts} eg er = record {
+  few-groups = omega arith;
+  few-restricting = omega arith;
+  counted = λ t v e.
+      let groups = few-groups t v in
+      let sids = leb-true (length (t .limits .restricting)) maxRestricting (and-l (leb (length (t .limits .restricting)) maxRestricting) _ (token-facts t v .limits)) in
+      let g = ap (λ (l : List ℕ). getD l 17 0) (part-at tokenWords i ts ∙ e) in
+      let r = ap (λ (l : List ℕ). getD l 18 0) (part-at tokenWords i ts ∙ e) in
+      record { groups = omega arith; restricting = omega arith };
+}
 
 -- ---- the copy
 

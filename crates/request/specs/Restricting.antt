@@ -10,7 +10,7 @@ use Rattle.rules.specs.Entry.{Entry}
 use Rattle.rules.specs.Growth.{Mem}
 use Rattle.rules.specs.Group.{Group, denied}
 use Rattle.rules.specs.Token.{Token, withGroups}
-use Rattle.rules.specs.Memory.{tokenWords, word32, pack, unpack, tokenRow}
+use Rattle.rules.specs.Memory.{tokenWords, word32, tokenRow}
 use Rattle.rules.specs.Request.{times, u32}
 use Rattle.rules.specs.Restrict.{isBelow, deniedAll}
 use Rattle.request.specs.Entries.{entryOf, Progress, going, stopped, turned}
@@ -36,9 +36,6 @@ pub record IndexesJudged (size : ℕ) (s : List ℕ) (at count : ℕ) (r : Bool)
   pub judged : (is : List ℕ) (later : List ℕ) → times count u32 (drop at s) ≡ got is later → r ≡ (all (isBelow size) is && distinct is)
 
 -- ---- the groups that are denied
-
-unfoldable pub deniedWord : ℕ → ℕ
-deniedWord w = pack (denied (unpack w))
 
 -- each group's SID fits its half of the word
 abbrev pub Packed : Token → Type 0

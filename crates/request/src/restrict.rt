@@ -2,16 +2,20 @@
 ghost use mathlib.Core.Path.{_≡_};
 ghost use Prim.Native.Nat.{_+_, _≤_, _<_};
 ghost use lib.ListN.{length};
+ghost use Rattle.rules.specs.Group.{denied};
 ghost use Rattle.rules.specs.Token.{maxGroups, maxRestricting};
 ghost use Rattle.rules.specs.Memory.{tokenWords};
-ghost use Rattle.request.specs.Restricting.{marksOf, marked, IndexesJudged, deniedWord, DeniedAt, GroupsDenied, SidAdded, SidsAdded};
+ghost use Rattle.request.specs.Switching.{onWord};
+ghost use Rattle.request.specs.Restricting.{marksOf, marked, IndexesJudged, DeniedAt, GroupsDenied, SidAdded, SidsAdded};
 use crate::attributes;
 use number::Number;
-use privilege::words;
-use token::Group;
+use privilege::words::bit;
+use privilege::words::has;
+use privilege::words::with;
 use token::row::GROUPS_END;
 use token::row::HEAD_WORDS;
 use token::row::TOKEN_WORDS;
+use token::words;
 
 // The word of the indexes named so far, as long as every index was good.
 struct Marks {
@@ -27,10 +31,10 @@ fn mark(m: Marks, size: u64, index: u64) -> Marks
     ensures { λ r. ⌜ marksOf r ≡ marked size index (marksOf m) ⌝ }
 {
     let named = m.named;
-    if m.ok & (index < size) & !words::has(named, index) {
+    if m.ok & (index < size) & !has(named, index) {
         return Marks {
             ok: true,
-            named: words::with(named, words::bit(index)),
+            named: with(named, bit(index)),
         };
     }
     Marks { ok: false, named }
@@ -57,17 +61,11 @@ pub fn valid_indexes(size: u64, s: &[u8], at: usize, count: u64) -> bool
 
 // ---- the groups
 
-// A group's word, with DENY_ONLY gained and ENABLED lost.
+// In its word.
 fn denied_word(w: u64) -> u64
-    ensures { λ r. ⌜ r ≡ deniedWord w ⌝ }
+    ensures { λ r. ⌜ r ≡ onWord denied w ⌝ }
 {
-    let g = attributes::denied(Group {
-        sid: (w % 4294967296) as u32,
-        attributes: (w / 4294967296) as u32,
-    });
-    let sid = g.sid as u64;
-    let attributes = g.attributes as u64;
-    sid + attributes * 4294967296
+    words::pack(attributes::denied(words::unpack(w)))
 }
 
 // Group `index` of a row that has `size` groups.

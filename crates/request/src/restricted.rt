@@ -10,6 +10,9 @@ ghost use Rattle.request.specs.Restricts.{CountsAt, markWord, limitedTo,
 use crate::restrict::add_sids;
 use crate::restrict::deny;
 use privilege::words::without;
+use token::MAX_GROUPS;
+use token::MAX_RESTRICTING;
+use token::row;
 use token::row::TOKEN_WORDS;
 
 // How many groups and restricting SIDs a token has.
@@ -18,23 +21,18 @@ pub struct Counts {
     pub restricting: u64,
 }
 
-// Of the token in a slot: no valid one has more than the row has room for.
+// Of the token in a slot.
 pub fn counts_at(slot: usize, tokens: &[u64]) -> Counts
     requires { ⌜ (length (now tokens) ≡ tokenSlots * tokenWords) × (slot < tokenSlots) ⌝ }
     ensures { λ r. ⌜ CountsAt slot (now (tokens .entry)) r ⌝ }
 {
     let at = slot * TOKEN_WORDS;
-    let groups = tokens[at + 17];
-    let restricting = tokens[at + 18];
-    if (groups <= 64) & (restricting <= 16) {
-        return Counts {
-            groups: groups,
-            restricting: restricting,
-        };
-    }
+    let end = at + TOKEN_WORDS;
+    let groups = row::count_in(&tokens[at..end], 17, MAX_GROUPS);
+    let restricting = row::count_in(&tokens[at..end], 18, MAX_RESTRICTING);
     Counts {
-        groups: 0,
-        restricting: 0,
+        groups: groups as u64,
+        restricting: restricting as u64,
     }
 }
 

@@ -1,6 +1,6 @@
 -- The group of the word, denied. Assumes nothing.
 use borrow.Author.Needs.{needs}
-use Rattle.request.proofs.RestrictedRows.{word-denied}
+use Rattle.request.proofs.Switching.{word-of}
 use Rattle.request.proofs.restrict.denied_word.Statement.{statement}
 use Rattle.request.proofs.restrict.denied_word.Tie as tie
 
@@ -8,11 +8,7 @@ pub denied-word-spec : {M : Type 1} → statement M
 denied-word-spec =
     tie.close
     (tie.spec
-    (λ c. search needs)
-    (λ c. search needs)
     (λ c κs. search needs)
-    (λ c. search needs)
-    (λ c. search needs)
-    (λ c. search needs)
-    (λ c. search needs)
-    (λ c. search (needs, word-denied)))
+    (λ c κs. search needs)
+    (λ c κs. search needs)
+    (λ c. search (needs, word-of)))

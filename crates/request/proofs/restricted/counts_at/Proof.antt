@@ -1,6 +1,6 @@
--- Two words, if they are in range. Assumes nothing.
+-- Two words, cut to what a row has room for. Assumes nothing.
 use borrow.Author.Needs.{needs}
-use Rattle.request.proofs.Restricts.{counts, no-counts}
+use Rattle.request.proofs.Restricts.{counts}
 use Rattle.request.proofs.restricted.counts_at.Statement.{statement}
 use Rattle.request.proofs.restricted.counts_at.Tie as tie
 
@@ -14,6 +14,10 @@ counts-at-spec =
     (λ c. search needs)
     (λ c. search needs)
     (λ c. search needs)
+    (λ c κs. search needs)
     (λ c. search needs)
-    (λ c. search (needs, counts))
-    (λ c. search (needs, no-counts)))
+    (λ c. search needs)
+    (λ c. search needs)
+    (λ c. search needs)
+    (λ c κs. search needs)
+    (λ c. search (needs, counts)))
