@@ -23,51 +23,24 @@ use Rattle.rules.specs.Memory.{tokenWords, mark, head, tokenRow, daclRow}
 use Rattle.rules.specs.Decision.{Decision, carriedOut, need_else_then_, withHandle, canIssue, issued}
 use Rattle.rules.specs.Duplicate.{retyped, copied, nobody, anonymousCopy, duplicated, validLevel, validDuplicate, duplicate}
 use Rattle.rules.proofs.Logic.{and-l, and-r}
-use Rattle.handle.specs.Meaning.{handleOf}
 use Rattle.handle.specs.declared.Handle.{Handle}
 use Rattle.privilege.specs.declared.privileges.Privileges.{Privileges}
-use Rattle.token.specs.Meaning.{tokenOf}
 use Rattle.token.specs.Row.{privilegesIn}
 use Rattle.token.specs.declared.Identity.{Identity}
-use Rattle.token.specs.declared.Token.{Token}
 use Rattle.state.specs.TokenCalls.{IdentityAt, NextToken}
 use Rattle.state.specs.ReleaseFacts.{PartsIn}
 use Rattle.state.proofs.InPlace.{lent, in-slot}
 use Rattle.request.specs.declared.answer.Answer.the-variants as answers
 use Rattle.request.specs.declared.located.Located.{Located}
-use Rattle.request.specs.declared.subject.Subject.{Subject}
 use Rattle.request.specs.declared.outcome.Outcome.{Outcome}
 use Rattle.request.specs.Carried.{Ends, Carried}
 use Rattle.request.specs.Located.{TokenLocated}
-use Rattle.request.specs.Subject.{SubjectGiven}
-use Rattle.request.specs.Issue.{issuedIf, IssueRoom, RowIssued}
-use Rattle.request.specs.Copies as copies
+use Rattle.request.specs.Issue.{IssueRoom, RowIssued}
 use Rattle.request.specs.Copies.{RowCopied, Remade, DuplicateJudged, copiedAs, duplicatedAs, CopyIssued}
 use Rattle.request.proofs.Deciding.{fails, holds, refuses, carried-as}
-use Rattle.request.proofs.LookupLaws.{looked-up, goes-on}
+use Rattle.request.proofs.LookupLaws.{goes-on}
 use Rattle.request.proofs.Locating.{not-located}
 use Rattle.request.proofs.RowIssuing.{ends-issuing}
-
--- ---- of a copy by value
-
--- on the handle that was found, and its token
-pub on-subject : {s n right : ℕ} {hs : List Handle} {ss ts ds : List ℕ} {x : Subject} (go : State → rules-handle.Handle → rules.Token → Decision)
-    → SubjectGiven s n right hs ts ds x → x .target .refusal ≡ 0
-    → (σ : State) → valid σ ≡ true → PartsIn σ hs ss ts ds
-    → carriedOut σ (withHandle σ s n right (go σ)) ≡ carriedOut σ (go σ (handleOf (x .target .handle)) (tokenOf (x .token)))
-on-subject {x = x} go g z σ v p =
-    looked-up (g .target) σ v (p .handles) (go σ) z
-    ∙ ap (λ (t : rules.Token). carriedOut σ (go σ (handleOf (x .target .handle)) t)) (sym (g .token .token σ v (p .tokens)))
-
-pub copy-refused : {ok b : Bool} (room : State → Bool) (s mask : ℕ) (copy : State → rules.Token) {hs : List Handle} {ss ts ds : List ℕ} {r : Outcome}
-    → b ≡ ok → not b ≡ true → Ends (answers.Refused 5) r → Carried (λ σ. copies.copied ok (room σ) s mask (copy σ) σ) hs ss ts ds ss ts ds r
-copy-refused {ok} room s mask copy {r = r} q f e = refuses 5 r e (omega arith) (λ σ v p. fails ok σ 5 _ (ap not (sym q) ∙ f))
-
-pub copy-issued : {ok b : Bool} (room : State → Bool) (s mask : ℕ) (copy : ℕ → rules.Token) (u : Token) {next : ℕ} {hs : List Handle} {ss ts ds ss′ ts′ ds′ : List ℕ} {r : Outcome}
-    → b ≡ ok → not b ≡ false → NextToken ss next → tokenOf u ≡ copy next → Carried (λ σ. issuedIf (room σ) s mask (tokenOf u) σ) hs ss ts ds ss′ ts′ ds′ r
-    → Carried (λ σ. copies.copied ok (room σ) s mask (copy (σ .tokens .next)) σ) hs ss ts ds ss′ ts′ ds′ r
-copy-issued {ok} room s mask copy u q f k e c =
-    carried-as (λ σ v p. holds ok σ badField _ (ap not (sym q) ∙ f) ∙ ap (λ (u : rules.Token). carriedOut σ (issuedIf (room σ) s mask u σ)) (sym (e ∙ ap copy (k .next σ (p .stations))))) c
 
 -- ---- of any copy
 

@@ -20,6 +20,7 @@ pub mod Layouts
 pub mod Bodies
 pub mod Folding
 pub mod Creating
+pub mod RestrictedRows
 pub mod Restricting
 pub mod Bytes
 pub mod AdjustsPrivileges

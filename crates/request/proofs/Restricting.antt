@@ -1,71 +1,57 @@
--- Request 10's lists: one index or SID more, and all of them as the rule has them. Assumes nothing.
+-- Request 10's lists: the indexes as the rule judges them, and a step in the row for each index or SID. Assumes nothing.
 use Prim.Native.Nat.{ℕ, _+_, _-_, _^_, _%_, _≤_, _<_}
-use native.Mathlib.Numerals.{add-one}
 use native.Mathlib.Omega.{arith}
 use mathlib.Core.Path.{_≡_, refl, sym, ap, ap₂, _∙_}
 use mathlib.Core.Bool.{Bool, true, false, not, _&&_}
 use mathlib.Core.List.{List, [], _∷_, map, append-nil, append-assoc}
+use mathlib.Core.Logic.{⊎-elim}
 use lib.Bits.{bitOr}
 use lib.Dec.{ltb}
-use lib.ListN.{length, take, drop, set, length-set}
-use lib.Seq.{take-suc-set}
+use lib.ListN.{length, drop, length-append}
 use borrow.Author.Tests.{ltb-true}
-use Rattle.table.specs.Lists.{take-map}
-use Rattle.rules.specs.Basic.{if_then_else_, all, distinct, changeAt}
+use Rattle.rules.specs.Basic.{if_then_else_, all, distinct}
 use Rattle.rules.specs.Bits.{has}
 use Rattle.rules.specs.Number.{Read, got, bad, max32}
 use Rattle.rules.specs.Entry.{Entry, keyOf, applyAll}
 use Rattle.rules.specs.AdjustPrivileges.{named}
 use Rattle.rules.specs.Group.{Group, denied}
-use Rattle.rules.specs.Token as rules
-use Rattle.rules.specs.Token.{maxGroups, maxRestricting}
-use Rattle.rules.specs.Request.{follow, times, u32}
+use Rattle.rules.specs.Token.{Token, maxGroups, maxRestricting, withGroups}
+use Rattle.rules.specs.Memory.{tokenWords, tokenRow}
+use Rattle.rules.specs.Request.{follow, give, times, u32}
 use Rattle.rules.specs.Restrict.{isBelow, deniedAll}
-use Rattle.rules.proofs.Logic.{and-l, and-r}
+use Rattle.rules.proofs.Logic.{and-l, and-r, length-changeAt, mem-changeAt}
 use Rattle.number.specs.declared.Number.{Number}
 use Rattle.number.specs.declared.Number.the-variants as number
 use Rattle.number.specs.Meaning.{NumberAt}
-use Rattle.number.proofs.Reading.{is-bad, is-value, bounds}
-use Rattle.token.specs.declared.Group as Code
-use Rattle.token.specs.declared.Token.{Token}
-use Rattle.token.specs.Meaning.{groupOf, tokenOf, Sized}
+use Rattle.number.proofs.Reading.{is-bad, is-value}
 use Rattle.request.specs.Entries.{entryOf, Progress, going, stopped, turned, foldAll, folded}
-use Rattle.request.specs.Restricting.{marksOf, inRange, deny, marked, GroupsDenied, withSids, SidsAdded}
+use Rattle.request.specs.Restricting.{marksOf, inRange, kept, marked, IndexesJudged, Packed, denyIn, DeniedAt, GroupsDenied, withSids, addIn, SidAdded, SidsAdded}
 use Rattle.request.specs.declared.restrict.Marks.{Marks}
+use Rattle.request.proofs.Pairs.{joined, times-end, times-lost, times-next}
 use Rattle.request.proofs.Passes.{turn-good, turn-bad, all-passed}
-use Rattle.request.proofs.Switching.{take-changed, count-groups}
 use Rattle.request.proofs.Folding.{fold-end, fold-lost, fold-next}
 
--- ---- one index more
+-- ---- one index more, judged
 
-module _ (o n : Bool) (size index : ℕ) (t : (o && ltb index size && not n) ≡ true) where
-  in-range : index < size
-  in-range = ltb-true index size (and-r o (ltb index size) (and-l (o && ltb index size) (not n) t))
-
-  pub index-fits : size ≤ maxGroups → index < maxGroups
-  index-fits h = omega (arith, in-range)
-
-  pub mark-good : size ≤ maxGroups → (w : ℕ) (gs gs′ : List Code.Group) → n ≡ has index w → map groupOf gs′ ≡ changeAt index denied (map groupOf gs)
-      → (b w′ : ℕ) → b ≡ 2 ^ index % 2 ^ 64 → w′ ≡ bitOr w b
-      → going (map groupOf (take size gs′)) w′ ≡ marked size index (if o then going (map groupOf (take size gs)) w else stopped)
+module _ (o n : Bool) (size index w : ℕ) (en : n ≡ has index w) where
+  pub mark-good : size ≤ maxGroups → (o && ltb index size && not n) ≡ true → (b w′ : ℕ) → b ≡ 2 ^ index % 2 ^ 64 → w′ ≡ bitOr w b
+      → going tt w′ ≡ marked size index (if o then going tt w else stopped)
   unfolding isBelow
-  mark-good h w gs gs′ en eg b w′ eb ew =
-      turn-good (inRange size) deny o (ltb index size) n (map groupOf (take size gs)) w index 0 refl en t (omega (arith, in-range)) (map groupOf (take size gs′))
-      (sym (take-map groupOf size gs′) ∙ ap (take size) eg ∙ take-changed denied size index (map groupOf gs) in-range ∙ ap (changeAt index denied) (take-map groupOf size gs))
-      b w′ eb ew
+  mark-good h t b w′ eb ew =
+      let below = ltb-true index size (and-r o (ltb index size) (and-l (o && ltb index size) (not n) t)) in
+      turn-good (inRange size) kept o (ltb index size) n tt w index 0 refl en t (omega arith) tt refl b w′ eb ew
 
-pub mark-bad : (o n : Bool) (size index w : ℕ) (gs : List Code.Group) → n ≡ has index w → (o && ltb index size && not n) ≡ false
-    → stopped ≡ marked size index (if o then going (map groupOf (take size gs)) w else stopped)
-unfolding isBelow
-mark-bad o n size index w gs en t = turn-bad (inRange size) deny o (ltb index size) n (map groupOf (take size gs)) w index 0 refl en t
+  pub mark-bad : (o && ltb index size && not n) ≡ false → stopped ≡ marked size index (if o then going tt w else stopped)
+  unfolding isBelow
+  mark-bad t = turn-bad (inRange size) kept o (ltb index size) n tt w index 0 refl en t
 
--- ---- all of them
+-- ---- all of them, judged
 
 abbrev asEntry : ℕ → Entry
 asEntry i = entryOf i 0
 
 module _ (size : ℕ) where
-  as-entries : (is : List ℕ) (x : Progress (List Group)) → foldAll (marked size) is x ≡ foldAll (turned (inRange size) deny) (map asEntry is) x
+  as-entries : (is : List ℕ) (x : Progress (Unit {0})) → foldAll (marked size) is x ≡ foldAll (turned (inRange size) kept) (map asEntry is) x
   unfolding foldAll
   as-entries [] x = refl
   as-entries (i ∷ is) x = as-entries is (marked size i x)
@@ -80,29 +66,19 @@ module _ (size : ℕ) where
   keys [] = refl
   keys (i ∷ is) = ap (λ (l : List ℕ). i ∷ l) (keys is)
 
-  all-denied : (is : List ℕ) (gs : List Group) → applyAll deny (map asEntry is) gs ≡ deniedAll is gs
-  unfolding applyAll deniedAll
-  all-denied [] gs = refl
-  all-denied (i ∷ is) gs = all-denied is (changeAt i denied gs)
+  all-marked : (is : List ℕ)
+      → foldAll (marked size) is (going tt 0)
+      ≡ (if all (isBelow size) is && distinct is then going (applyAll kept (map asEntry is) tt) (named (map asEntry is)) else stopped)
+  all-marked is =
+      as-entries is (going tt 0) ∙ all-passed (inRange size) kept (map asEntry is) tt
+      ∙ ap (λ (b : Bool). if b then going (applyAll kept (map asEntry is) tt) (named (map asEntry is)) else stopped)
+      (ap₂ (λ (b : Bool) (ks : List ℕ). b && distinct ks) (all-below is) (keys is))
 
-  all-marked : (is : List ℕ) (gs : List Group)
-      → foldAll (marked size) is (going gs 0) ≡ (if all (isBelow size) is && distinct is then going (deniedAll is gs) (named (map asEntry is)) else stopped)
-  all-marked is gs =
-      as-entries is (going gs 0) ∙ all-passed (inRange size) deny (map asEntry is) gs
-      ∙ ap₂ (λ (b : Bool) (x : List Group). if b then going x (named (map asEntry is)) else stopped)
-      (ap₂ (λ (b : Bool) (ks : List ℕ). b && distinct ks) (all-below is) (keys is)) (all-denied is gs)
-
-module _ (x y : List Group) (v w : ℕ) where
-  going-ok : (a b : Bool) → (if a then going x v else stopped) ≡ (if b then going y w else stopped) → a ≡ b
-  going-ok true true e = refl
-  going-ok true false e = cc
-  going-ok false true e = cc
-  going-ok false false e = refl
-
-  going-same : (a b : Bool) → (if a then going x v else stopped) ≡ (if b then going y w else stopped) → a ≡ true → x ≡ y
-  going-same true true e h = cc
-  going-same true false e h = cc
-  going-same false b e h = cc
+same-end : (x y : Unit {0}) (v w : ℕ) (a b : Bool) → (if a then going x v else stopped) ≡ (if b then going y w else stopped) → a ≡ b
+same-end x y v w true true e = refl
+same-end x y v w true false e = cc
+same-end x y v w false true e = cc
+same-end x y v w false false e = refl
 
 -- a number that was read, and one that was not there
 module _ (s : List ℕ) (at : ℕ) (r : Number) (f : NumberAt s at max32 r) where
@@ -115,123 +91,172 @@ module _ (s : List ℕ) (at : ℕ) (r : Number) (f : NumberAt s at max32 r) wher
     unfolding u32
     one-number = is-value s at max32 r f v q g
 
-    pub number-narrow : v < 2 ^ 32
-    number-narrow = omega (arith, bounds s at max32 r f v q g)
+module _ (size : ℕ) (s : List ℕ) (at count : ℕ) where
+  abbrev pub marking : Progress (Unit {0})
+  marking = folded (marked size) stopped (going tt 0) (times count u32 (drop at s))
 
-abbrev pub denying : Token → List ℕ → ℕ → ℕ → Progress (List Group)
-denying t s at count = folded (marked (t .«group_count»)) stopped (going (tokenOf t .groups) 0) (times count u32 (drop at s))
-
-module _ (t : Token) (k : Sized t) (s : List ℕ) (at count : ℕ) where
-  denied-as : (ok : Bool) (gs : List Group) (w : ℕ) (x : Token) → (if ok then going gs w else stopped) ≡ (denying t s at count)
-      → (ok ≡ true → tokenOf x ≡ rules.withGroups gs (tokenOf t)) → Sized x → GroupsDenied t s at count (record { ok = ok; token = x })
+  judged-as : (ok : Bool) (w : ℕ) → (if ok then going tt w else stopped) ≡ marking → IndexesJudged size s at count ok
   unfolding folded
-  denied-as ok gs w x e f z = record {
-    valid = λ is later g. going-ok gs (deniedAll is (tokenOf t .groups)) w (named (map asEntry is)) ok (verdict is) (out is later g);
-    made =
-        λ is later g o.
-        f o
-        ∙ ap (λ (l : List Group). rules.withGroups l (tokenOf t)) (going-same gs (deniedAll is (tokenOf t .groups)) w (named (map asEntry is)) ok (verdict is) (out is later g) o);
-    sized = z;
+  judged-as ok w e = record {
+    judged = λ is later g. same-end tt (applyAll kept (map asEntry is) tt) w (named (map asEntry is)) ok (all (isBelow size) is && distinct is)
+        (e ∙ ap (folded (marked size) stopped (going tt 0)) g ∙ all-marked size is);
   }
-    where
-      verdict : List ℕ → Bool
-      verdict is = all (isBelow (length (tokenOf t .groups))) is && distinct is
 
-      out : (is : List ℕ) (later : List ℕ) → times count u32 (drop at s) ≡ got is later
-          → (if ok then going gs w else stopped) ≡ (if verdict is then going (deniedAll is (tokenOf t .groups)) (named (map asEntry is)) else stopped)
-      out is later g =
-          e
-          ∙ ap (folded (marked (t .«group_count»)) stopped (going (tokenOf t .groups) 0)) g
-          ∙ all-marked (t .«group_count») is (tokenOf t .groups)
-          ∙ ap (λ (n : ℕ). if all (isBelow n) is && distinct is then going (deniedAll is (tokenOf t .groups)) (named (map asEntry is)) else stopped)
-          (sym (count-groups t k))
-
-  module _ (m : Marks) (from left : ℕ) (inv : folded (marked (t .«group_count»)) stopped (marksOf (t .«group_count») m) (times left u32 (drop from s)) ≡ (denying t s at count)) where
-    pub deny-end : left ≤ 0 → (x : Token) → (tokenOf x ≡ rules.withGroups (map groupOf (take (t .«group_count») (m .groups))) (tokenOf t)) × Sized x
-        → GroupsDenied t s at count (record { ok = m .ok; token = x })
-    deny-end h x e =
-        denied-as (m .ok) (map groupOf (take (t .«group_count») (m .groups))) (m .named) x
-        (fold-end u32 (marked (t .«group_count»)) stopped s from left (marksOf (t .«group_count») m) (denying t s at count) inv h) (λ o. e .0) (e .1)
+  module _ (m : Marks) (from left : ℕ) (inv : folded (marked size) stopped (marksOf m) (times left u32 (drop from s)) ≡ marking) where
+    pub marks-end : left ≤ 0 → IndexesJudged size s at count (m .ok)
+    marks-end h = judged-as (m .ok) (m .named) (fold-end u32 (marked size) stopped s from left (marksOf m) marking inv h)
 
     module _ (h : 0 < left) (n : Number) (f : NumberAt s from max32 n) where
-      pub deny-lost : n ≡ number.Bad → GroupsDenied t s at count (record { ok = false; token = t })
-      deny-lost g =
-          denied-as false [] 0 t
-          (fold-lost u32 (marked (t .«group_count»)) stopped s from left (marksOf (t .«group_count») m) (denying t s at count) inv h (no-number s from n f g)) (λ o. cc) k
+      pub marks-lost : n ≡ number.Bad → IndexesJudged size s at count false
+      marks-lost g = judged-as false 0 (fold-lost u32 (marked size) stopped s from left (marksOf m) marking inv h (no-number s from n f g))
 
-      pub deny-next : (i q : ℕ) → n ≡ number.Value i q → (m′ : Marks) → marksOf (t .«group_count») m′ ≡ marked (t .«group_count») i (marksOf (t .«group_count») m)
-          → folded (marked (t .«group_count»)) stopped (marksOf (t .«group_count») m′) (times (left - 1) u32 (drop q s)) ≡ (denying t s at count)
-      deny-next i q g m′ e =
-          fold-next u32 (marked (t .«group_count»)) stopped s from left (marksOf (t .«group_count») m) (denying t s at count) inv h i q (one-number s from n f i q g)
-          (marksOf (t .«group_count») m′) e
+      pub marks-next : (i q : ℕ) → n ≡ number.Value i q → (m′ : Marks) → marksOf m′ ≡ marked size i (marksOf m)
+          → folded (marked size) stopped (marksOf m′) (times (left - 1) u32 (drop q s)) ≡ marking
+      marks-next i q g m′ e =
+          fold-next u32 (marked size) stopped s from left (marksOf m) marking inv h i q (one-number s from n f i q g) (marksOf m′) e
+
+-- ---- numbers read one after the other, and a step in the row for each
+
+taken-apart : (a : ℕ) (r : Read (List ℕ)) (rest later : List ℕ) → joined u32 a r ≡ got rest later → (after : List ℕ) × (a ∷ after ≡ rest) × (r ≡ got after later)
+unfolding follow give
+taken-apart a (got xs l) rest later e = (xs, cc, cc)
+taken-apart a bad rest later e = let z : _≡_ {A = ℕ} 0 1 = cc in absurd (omega arith)
+
+-- the row is that of a token `now`, which the steps for `rest` make z
+pub record Stepping (step : ℕ → Token → Token) (P : Token → Type 0) (s : List ℕ) (z : Token) (later : List ℕ) (from left : ℕ) (ws : List ℕ) : Type 0 where
+  pub now : Token
+  pub rest : List ℕ
+  pub row : ws ≡ tokenRow now
+  pub fits : P now
+  pub ends : foldAll step rest now ≡ z
+  pub more : times left u32 (drop from s) ≡ got rest later
+
+module _ (step : ℕ → Token → Token) (P : Token → Type 0) (s : List ℕ) {z : Token} {later : List ℕ} {from left : ℕ} {ws : List ℕ} (k : Stepping step P s z later from left ws) where
+  step-end : left ≤ 0 → ws ≡ tokenRow z
+  unfolding foldAll
+  step-end h =
+      let e : got [] (drop from s) ≡ got (k .rest) later = sym (times-end u32 left (drop from s) h) ∙ k .more in
+      let none : [] ≡ k .rest = cc in
+      k .row ∙ ap tokenRow (ap (λ (l : List ℕ). foldAll step l (k .now)) none ∙ k .ends)
+
+  module _ (h : 0 < left) where
+    step-lost : bad ≡ u32 (drop from s) → ⊥
+    step-lost e =
+        let f = sym (times-lost u32 left (drop from s) h e) ∙ k .more in
+        let z : _≡_ {A = ℕ} 0 1 = cc in omega arith
+
+    step-more : (Q : Token → Type 0) (v q : ℕ) → got v (drop q s) ≡ u32 (drop from s) → {ws′ : List ℕ}
+        → ((t : Token) → P t → ws ≡ tokenRow t → ws′ ≡ tokenRow (step v t)) → ((t : Token) → P t → Q (step v t)) → Stepping step Q s z later q (left - 1) ws′
+    unfolding foldAll
+    step-more Q v q e f g =
+        let j = taken-apart v (times (left - 1) u32 (drop q s)) (k .rest) later (sym (times-next u32 left (drop from s) (drop q s) v h e) ∙ k .more) in
+        record {
+          now = step v (k .now);
+          rest = j .0;
+          row = f (k .now) (k .fits) (k .row);
+          fits = g (k .now) (k .fits);
+          ends = ap (λ (l : List ℕ). foldAll step l (k .now)) (j .1) ∙ k .ends;
+          more = j .2;
+        }
+
+-- ---- the groups
+
+abbrev Sized : ℕ → Token → Type 0
+Sized size t = (length (t .groups) ≡ size) × Packed t
+
+deny-sized : (size i : ℕ) (t : Token) → Sized size t → Sized size (denyIn i t)
+unfolding denyIn withGroups denied
+deny-sized size i t h = (
+  length-changeAt (t .groups) i denied ∙ h .0,
+  λ g m. ⊎-elim (λ w. omega (arith, h .1 (w .0) (w .1), ap (λ (x : Group). x .sid) (w .2))) (λ w. h .1 g w) (mem-changeAt (t .groups) i denied m),
+)
+
+all-denied : (is : List ℕ) (t : Token) → foldAll denyIn is t ≡ withGroups (deniedAll is (t .groups)) t
+unfolding foldAll denyIn deniedAll withGroups
+all-denied [] t = refl
+all-denied (i ∷ is) t = all-denied is (denyIn i t)
+
+-- so far in the loop, from the row ws₀
+pub record Denying (size : ℕ) (s : List ℕ) (at count : ℕ) (ws₀ : List ℕ) (from left : ℕ) (ws : List ℕ) : Type 0 where
+  pub long : length ws ≡ tokenWords
+  pub so-far : (is : List ℕ) (later : List ℕ) → times count u32 (drop at s) ≡ got is later
+      → (t : Token) → length (t .groups) ≡ size → Packed t → ws₀ ≡ tokenRow t → Stepping denyIn (Sized size) s (foldAll denyIn is t) later from left ws
+
+pub deny-begin : (size : ℕ) (s : List ℕ) (at count : ℕ) {ws : List ℕ} → length ws ≡ tokenWords → Denying size s at count ws at count ws
+deny-begin size s at count long = record {
+  long = long;
+  so-far = λ is later g t n p e. record { now = t; rest = is; row = e; fits = (n, p); ends = refl; more = g };
+}
+
+module _ {size : ℕ} {s : List ℕ} {at count : ℕ} {ws₀ : List ℕ} {from left : ℕ} {ws : List ℕ} (k : Denying size s at count ws₀ from left ws) where
+  pub deny-end : left ≤ 0 → GroupsDenied size s at count ws₀ ws
+  deny-end h = record {
+    long = k .long;
+    made = λ is later g t n p e. step-end denyIn (Sized size) s (k .so-far is later g t n p e) h ∙ ap tokenRow (all-denied is t);
+  }
+
+  module _ (h : 0 < left) (n : Number) (f : NumberAt s from max32 n) where
+    pub deny-lost : n ≡ number.Bad → GroupsDenied size s at count ws₀ ws
+    deny-lost b = record {
+      long = k .long;
+      made = λ is later g t m p e. absurd (step-lost denyIn (Sized size) s (k .so-far is later g t m p e) h (no-number s from n f b));
+    }
+
+    pub deny-next : (i q : ℕ) → n ≡ number.Value i q → {ws′ : List ℕ} → DeniedAt size i ws ws′ → Denying size s at count ws₀ q (left - 1) ws′
+    deny-next i q v d = record {
+      long = d .long;
+      so-far = λ is later g t m p e.
+          step-more denyIn (Sized size) s (k .so-far is later g t m p e) h (Sized size) i q (one-number s from n f i q v)
+          (λ u z. d .made u (z .0) (z .1)) (deny-sized size i);
+    }
 
 -- ---- the SIDs
 
-abbrev pub addSid : ℕ → Read rules.Token → Read rules.Token
-addSid sid x = follow x (λ t. got (withSids (sid ∷ []) t))
+abbrev Having : ℕ → Token → Type 0
+Having n t = length (t .limits .restricting) ≡ n
 
-all-sids : (sids : List ℕ) (t : rules.Token) → foldAll addSid sids (got t []) ≡ got (withSids sids t) []
-unfolding foldAll follow withSids
-all-sids [] t = rw append-nil
-all-sids (i ∷ sids) t = all-sids sids (withSids (i ∷ []) t) ∙ rw append-assoc
+add-having : (n sid : ℕ) (t : Token) → Having n t → Having (n + 1) (addIn sid t)
+unfolding addIn withSids
+add-having n sid t h = length-append (t .limits .restricting) (sid ∷ []) ∙ ap (λ (k : ℕ). k + 1) h
 
-module _ (t : Token) (k : Sized t) (h : t .«restricting_count» < maxRestricting) (sid : ℕ) where
-  abbrev added : Token
-  added =
-      record {
-        number = t .number;
-        modified = t .modified;
-        elevation = t .elevation;
-        scope = t .scope;
-        identity = t .identity;
-        privileges = t .privileges;
-        limits = t .limits;
-        defaults = t .defaults;
-        «group_count» = t .«group_count»;
-        groups = t .groups;
-        «restricting_count» = t .«restricting_count» + 1;
-        restricting = set (t .restricting) (t .«restricting_count») sid;
-        «dacl_count» = t .«dacl_count»;
-        dacl = t .dacl;
-      }
+all-added : (sids : List ℕ) (t : Token) → foldAll addIn sids t ≡ withSids sids t
+unfolding foldAll addIn withSids
+all-added [] t = rw append-nil
+all-added (i ∷ sids) t = all-added sids (addIn i t) ∙ rw append-assoc
 
-  pub sid-added : tokenOf added ≡ withSids (sid ∷ []) (tokenOf t)
-  unfolding withSids
-  sid-added =
-      rw (add-one (t .«restricting_count»), take-suc-set (t .restricting) (t .«restricting_count») sid (omega (arith, k .restricting-long)))
+-- so far in the loop, from a row that has k SIDs to one that has n
+pub record Adding (k : ℕ) (s : List ℕ) (at count : ℕ) (ws₀ : List ℕ) (n from left : ℕ) (ws : List ℕ) : Type 0 where
+  pub long : length ws ≡ tokenWords
+  pub room : n + left ≤ maxRestricting
+  pub so-far : (sids : List ℕ) (later : List ℕ) → times count u32 (drop at s) ≡ got sids later
+      → (t : Token) → length (t .limits .restricting) ≡ k → ws₀ ≡ tokenRow t → Stepping addIn (Having n) s (foldAll addIn sids t) later from left ws
 
-  pub sid-sized : Sized added
-  sid-sized = record {
-    groups-long = k .groups-long;
-    restricting-long = length-set (t .restricting) (t .«restricting_count») sid ∙ k .restricting-long;
-    dacl-long = k .dacl-long;
-    groups = k .groups;
-    restricting = omega arith;
-    dacl = k .dacl;
+pub add-begin : (k : ℕ) (s : List ℕ) (at count : ℕ) {ws : List ℕ} → length ws ≡ tokenWords → k + count ≤ maxRestricting → Adding k s at count ws k at count ws
+add-begin k s at count long room = record {
+  long = long;
+  room = room;
+  so-far = λ sids later g t n e. record { now = t; rest = sids; row = e; fits = n; ends = refl; more = g };
+}
+
+module _ {k : ℕ} {s : List ℕ} {at count : ℕ} {ws₀ : List ℕ} {n from left : ℕ} {ws : List ℕ} (a : Adding k s at count ws₀ n from left ws) where
+  pub add-end : left ≤ 0 → SidsAdded k s at count ws₀ ws
+  add-end h = record {
+    long = a .long;
+    made = λ sids later g t m e. step-end addIn (Having n) s (a .so-far sids later g t m e) h ∙ ap tokenRow (all-added sids t);
   }
 
-module _ (t : Token) (s : List ℕ) (at count : ℕ) where
-  abbrev pub adding : Read rules.Token
-  adding = folded addSid bad (got (tokenOf t) []) (times count u32 (drop at s))
-
-  module _ (r : Token) (z : Sized r) (from left : ℕ) (inv : folded addSid bad (got (tokenOf r) []) (times left u32 (drop from s)) ≡ adding) where
-    added-as : (x : Read rules.Token) → x ≡ adding → ((u : rules.Token) → x ≡ got u [] → tokenOf r ≡ u) → SidsAdded t s at count r
-    unfolding folded
-    added-as x e f = record {
-      made = λ sids later g. f (withSids sids (tokenOf t)) (e ∙ ap (folded addSid bad (got (tokenOf t) [])) g ∙ all-sids sids (tokenOf t));
-      sized = z;
+  module _ (h : 0 < left) (r : Number) (f : NumberAt s from max32 r) where
+    pub add-lost : r ≡ number.Bad → SidsAdded k s at count ws₀ ws
+    add-lost b = record {
+      long = a .long;
+      made = λ sids later g t m e. absurd (step-lost addIn (Having n) s (a .so-far sids later g t m e) h (no-number s from r f b));
     }
 
-    pub sids-end : left ≤ 0 → SidsAdded t s at count r
-    sids-end h = added-as (got (tokenOf r) []) (fold-end u32 addSid bad s from left (got (tokenOf r) []) adding inv h) (λ u e. cc)
-
-    module _ (h : 0 < left) (n : Number) (f : NumberAt s from max32 n) where
-      pub sids-lost : n ≡ number.Bad → SidsAdded t s at count r
-      sids-lost g = added-as bad (fold-lost u32 addSid bad s from left (got (tokenOf r) []) adding inv h (no-number s from n f g)) (λ u e. cc)
-
-      pub sids-next : (i q : ℕ) → n ≡ number.Value i q → (r′ : Token) → tokenOf r′ ≡ withSids (i ∷ []) (tokenOf r)
-          → folded addSid bad (got (tokenOf r′) []) (times (left - 1) u32 (drop q s)) ≡ adding
-      unfolding follow
-      sids-next i q g r′ e =
-          fold-next u32 addSid bad s from left (got (tokenOf r) []) adding inv h i q (one-number s from n f i q g)
-          (got (tokenOf r′) []) (ap (λ (x : rules.Token). got x []) e)
+    pub add-next : (sid q : ℕ) → r ≡ number.Value sid q → {ws′ : List ℕ} → SidAdded n sid ws ws′ → Adding k s at count ws₀ (n + 1) q (left - 1) ws′
+    add-next sid q v d = record {
+      long = d .long;
+      room = let room = a .room in omega arith;
+      so-far = λ sids later g t m e.
+          step-more addIn (Having n) s (a .so-far sids later g t m e) h (Having (n + 1)) sid q (one-number s from r f sid q v)
+          (λ u z. d .made u z) (add-having n sid);
+    }

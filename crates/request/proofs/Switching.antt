@@ -8,8 +8,8 @@ use mathlib.Core.List.{List, [], _∷_, _++_, map, map-map, append-nil}
 use lib.Arith.{digits-div, digits-mod}
 use lib.Bits.{bitOr}
 use lib.Dec.{eqb, leb, ltb}
-use lib.ListN.{length, take, drop, getD, set, length-map, List·getD-map}
-use lib.Seq.{length-take-le, take-length, drop-length}
+use lib.ListN.{length, drop, getD, set, length-map, List·getD-map}
+use lib.Seq.{take-length, drop-length}
 use borrow.Author.Tests.{ltb-true, not-true, not-false}
 use Rattle.table.specs.Updating.{Updating, updating-more, updating-done}
 use Rattle.rules.specs.Basic.{if_then_else_, all, changeAt}
@@ -24,8 +24,7 @@ use Rattle.rules.specs.AdjustGroups.{isReset, validEntry, maySwitch, applied, r
 use Rattle.rules.specs.Request.{times, entry}
 use Rattle.rules.proofs.Logic.{and-l, and-r, length-changeAt}
 use Rattle.token.specs.declared.Group as Code
-use Rattle.token.specs.declared.Token.{Token}
-use Rattle.token.specs.Meaning.{groupOf, Sized}
+use Rattle.token.specs.Meaning.{groupOf}
 use Rattle.token.specs.Row.{groupIn, wordOf}
 use Rattle.request.specs.declared.groups.Progress as Pass
 use Rattle.request.specs.declared.entry.Pair.{Pair}
@@ -252,29 +251,3 @@ module _ (user n : ℕ) (bytes gw : List ℕ) (j : Bool) (h : j ≡ isJust max32
                 ∙ ap (λ (y : Bool). map pack (if y then map resetGroup (groupsIn gw) else applyAll applied es (groupsIn gw))) (sym (reset-or-not es later q ∙ f))
                 ∙ free-told x es later q gw gw _;
           }
-
--- ---- groups by value
-
-pub in-groups : (n i : ℕ) (xs : List Code.Group) (z : Code.Group) → i < n → i < length xs → getD (map groupOf (take n xs)) i noGroup ≡ groupOf (getD xs i z)
-in-groups zero i xs z h l = absurd (omega arith)
-in-groups (suc n) i [] z h l = absurd (omega arith)
-in-groups (suc n) zero (x ∷ xs) z h l = refl
-in-groups (suc n) (suc i) (x ∷ xs) z h l = in-groups n i xs z (omega arith) (omega arith)
-
-pub set-changed : (f : Group → Group) (i : ℕ) (xs : List Code.Group) (z v : Code.Group) → groupOf v ≡ f (groupOf (getD xs i z))
-    → map groupOf (set xs i v) ≡ changeAt i f (map groupOf xs)
-unfolding changeAt
-set-changed f i [] z v e = refl
-set-changed f zero (x ∷ xs) z v e = ap (λ (g : Group). g ∷ map groupOf xs) e
-set-changed f (suc i) (x ∷ xs) z v e = ap (λ (l : List Group). groupOf x ∷ l) (set-changed f i xs z v e)
-
-pub take-changed : (f : Group → Group) (n i : ℕ) (gs : List Group) → i < n → take n (changeAt i f gs) ≡ changeAt i f (take n gs)
-unfolding changeAt
-take-changed f zero i gs h = absurd (omega arith)
-take-changed f (suc n) i [] h = refl
-take-changed f (suc n) zero (g ∷ gs) h = refl
-take-changed f (suc n) (suc i) (g ∷ gs) h = ap (λ (l : List Group). g ∷ l) (take-changed f n i gs (omega arith))
-
-module _ (t : Token) (s : Sized t) where
-  pub count-groups : length (map groupOf (take (t .«group_count») (t .groups))) ≡ t .«group_count»
-  count-groups = length-map (take (t .«group_count») (t .groups)) groupOf ∙ length-take-le (t .«group_count») (t .groups) (omega (arith, s .groups-long, s .groups))

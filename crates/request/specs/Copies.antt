@@ -5,12 +5,11 @@ use mathlib.Core.Bool.{Bool}
 use mathlib.Core.List.{List}
 use lib.ListN.{length}
 use Rattle.table.specs.Table.{record-at}
-use Rattle.rules.specs.Refusal.{badField}
 use Rattle.rules.specs.Token as rules
 use Rattle.rules.specs.Handle as rules-handle
 use Rattle.rules.specs.State as state
-use Rattle.rules.specs.State.{State, tokenSlots}
-use Rattle.rules.specs.Decision.{Decision, need_else_then_, issued}
+use Rattle.rules.specs.State.{tokenSlots}
+use Rattle.rules.specs.Decision.{issued}
 use Rattle.rules.specs.Memory.{tokenWords}
 use Rattle.rules.specs.Duplicate as duplicates
 use Rattle.rules.specs.Duplicate.{validDuplicate}
@@ -21,11 +20,6 @@ use Rattle.token.specs.declared.Identity.{Identity}
 use Rattle.state.specs.TokenCalls.{FoundAt}
 use Rattle.request.specs.declared.outcome.Outcome.{Outcome}
 use Rattle.request.specs.Carried.{Carried}
-use Rattle.request.specs.Issue.{issuedIf}
-
--- a copy that may be made is issued
-abbrev pub copied : (ok room : Bool) → ℕ → ℕ → rules.Token → State → Decision
-copied ok room s mask t σ = need ok else badField then issuedIf room s mask t σ
 
 -- the row of a slot, copied
 pub record RowCopied (w slot : ℕ) (xs r : List ℕ) : Type 0 where

@@ -8,11 +8,8 @@ use Rattle.rules.specs.Token as rules
 use Rattle.rules.specs.State.{State, addToken, addHandle}
 use Rattle.rules.specs.Memory.{tokenRow, daclRow}
 use Rattle.rules.specs.Valid.{valid}
-use Rattle.rules.specs.Refusal.{tableFull}
-use Rattle.rules.specs.Decision.{Decision, need_else_then_, canIssue, issued}
+use Rattle.rules.specs.Decision.{need_else_then_, canIssue}
 use Rattle.handle.specs.declared.Handle.{Handle}
-use Rattle.token.specs.Meaning.{tokenOf}
-use Rattle.token.specs.declared.Token.{Token}
 use Rattle.state.specs.Parts.{StationsIn}
 use Rattle.state.specs.StationFacts.{nextHandle}
 use Rattle.state.specs.TokenCalls.{nextIn}
@@ -20,7 +17,6 @@ use Rattle.state.specs.HandleFacts.{changed}
 use Rattle.state.specs.ReleaseFacts.{PartsIn}
 use Rattle.request.specs.declared.answer.Answer.the-variants as answers
 use Rattle.request.specs.declared.outcome.Outcome.{Outcome}
-use Rattle.request.specs.Carried.{Carried}
 
 -- both next numbers can be given
 pub record NumbersLeft (ss : List ℕ) : Type 0 where
@@ -31,18 +27,6 @@ pub record IssueRoom (hs : List Handle) (ts ss : List ℕ) (r : Bool) : Type 0 w
   pub room : (σ : State) → valid σ ≡ true → {ds : List ℕ} → PartsIn σ hs ss ts ds → r ≡ canIssue σ
   -- what issue asks
   pub left : r ≡ true → NumbersLeft ss
-
-pub record Issued (s mask : ℕ) (t : Token) (hs : List Handle) (ss ts ds ss′ ts′ ds′ : List ℕ) (r : Outcome) : Type 0 where
-  pub parts : (σ : State) → valid σ ≡ true → PartsIn σ hs ss ts ds
-      → PartsIn (addHandle s (t .number) mask (addToken (tokenOf t) σ)) (changed hs (r .change)) ss′ ts′ ds′
-  pub answer : (σ : State) → StationsIn σ ss → r .answer ≡ answers.Value (σ .handles .next)
-
--- what a copy of a token ends with: it is issued if there is room
-abbrev pub issuedIf : Bool → ℕ → ℕ → rules.Token → State → Decision
-issuedIf room s mask t σ = need room else tableFull then issued s mask t σ
-
-pub record IssuedIfRoom (s mask : ℕ) (t : Token) (hs : List Handle) (ss ts ds ss′ ts′ ds′ : List ℕ) (r : Outcome) : Type 0 where
-  pub carried : Carried (λ σ. issuedIf (canIssue σ) s mask (tokenOf t) σ) hs ss ts ds ss′ ts′ ds′ r
 
 -- a token by its rows, whatever token they are of
 pub record RowIssued (s mask : ℕ) (ws bs : List ℕ) (hs : List Handle) (ss ts ds ss′ ts′ ds′ : List ℕ) (r : Outcome) : Type 0 where

@@ -14,7 +14,6 @@ pub mod Adjusting
 pub mod Switching
 pub mod Restricting
 pub mod Bytes
-pub mod Subject
 pub mod Adjusts
 pub mod Defaults
 pub mod Scope

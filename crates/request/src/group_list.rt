@@ -1,20 +1,18 @@
 // A token's groups: what of them may be switched, and, in the words of the token's row, switching one, resetting all, and the report of the
-// enabled ones. A list by value is put into a token here too.
+// enabled ones.
 ghost use mathlib.Core.Path.{_≡_};
 ghost use mathlib.Core.List.{map};
 ghost use Prim.Native.Nat.{_≤_};
-ghost use lib.ListN.{length, take};
+ghost use lib.ListN.{length};
 ghost use Rattle.rules.specs.Basic.{if_then_else_, changeAt};
 ghost use Rattle.rules.specs.Group.{isOn, switched};
-ghost use Rattle.rules.specs.Token.{maxGroups, withGroups};
+ghost use Rattle.rules.specs.Token.{maxGroups};
 ghost use Rattle.rules.specs.Memory.{unpack};
 ghost use Rattle.rules.specs.AdjustGroups.{maySwitch, resetGroup, onBits};
-ghost use Rattle.token.specs.Meaning.{groupOf, tokenOf, Sized};
+ghost use Rattle.token.specs.Meaning.{groupOf};
 ghost use Rattle.request.specs.Switching.{onWord, groupsIn};
 use crate::attributes;
 use token::Group;
-use token::MAX_GROUPS;
-use token::Token;
 use token::words;
 
 // ---- one group
@@ -98,15 +96,4 @@ pub fn enabled_word(groups: &[u64]) -> u64
         w = on_bit(groups[i]) + 2 * w;
     }
     w
-}
-
-// ---- a list by value
-
-pub fn with_groups(t: Token, groups: [Group; MAX_GROUPS]) -> Token
-    requires { ⌜ Sized t ⌝ }
-    ensures { λ r. ⌜ (tokenOf r ≡ withGroups (map groupOf (take (t .«group_count») groups)) (tokenOf t)) × Sized r ⌝ }
-{
-    let mut next = t;
-    next.groups = groups;
-    next
 }

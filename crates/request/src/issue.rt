@@ -5,20 +5,16 @@ ghost use lib.ListN.{length};
 ghost use Rattle.rules.specs.Token.{maxDacl};
 ghost use Rattle.rules.specs.State.{tokenSlots};
 ghost use Rattle.rules.specs.Memory.{tokenWords};
-ghost use Rattle.token.specs.Meaning.{Sized};
 ghost use Rattle.state.specs.Parts.{Lent};
 ghost use Rattle.state.specs.StationFacts.{stationsSize};
-ghost use Rattle.request.specs.Issue.{NumbersLeft, IssueRoom, Issued, IssuedIfRoom, RowIssued};
+ghost use Rattle.request.specs.Issue.{NumbersLeft, IssueRoom, RowIssued};
 use crate::answer::Answer;
-use crate::outcome;
 use crate::outcome::Outcome;
 use handle::Handles;
 use state::handles::add_handle;
 use state::handles::can_add_handle;
 use state::tokens::add_row;
-use state::tokens::add_token;
 use state::tokens::can_add_token;
-use token::Token;
 
 // Both tables have a free slot and a number left.
 pub fn can_issue(handles: Handles, tokens: &[u64], stations: &[u64]) -> bool
@@ -28,47 +24,6 @@ pub fn can_issue(handles: Handles, tokens: &[u64], stations: &[u64]) -> bool
     let handle = can_add_handle(handles, stations);
     let token = can_add_token(tokens, stations);
     handle & token
-}
-
-pub fn issue(
-    station: u32,
-    mask: u32,
-    t: Token,
-    handles: Handles,
-    tokens: &mut [u64],
-    dacls: &mut [u8],
-    stations: &mut [u64],
-) -> Outcome
-    requires { ⌜ Lent (now tokens) (now dacls) (now stations) × Sized t × NumbersLeft (now stations) ⌝ }
-    ensures { λ r. ⌜ Issued station mask t (handles .items) (now (stations .entry)) (now (tokens .entry)) (now (dacls .entry)) (now (stations .exit)) (now (tokens .exit)) (now (dacls .exit)) r ⌝ }
-{
-    add_token(t, tokens, dacls, stations);
-    let change = add_handle(station, t.number, mask, handles, stations);
-    let added = change.handle;
-    let number = added.number as u64;
-    Outcome {
-        answer: Answer::Value(number),
-        change: change,
-    }
-}
-
-// Refusal 8 where there is no room.
-pub fn issue_if_room(
-    station: u32,
-    mask: u32,
-    t: Token,
-    handles: Handles,
-    tokens: &mut [u64],
-    dacls: &mut [u8],
-    stations: &mut [u64],
-) -> Outcome
-    requires { ⌜ Lent (now tokens) (now dacls) (now stations) × Sized t ⌝ }
-    ensures { λ r. ⌜ IssuedIfRoom station mask t (handles .items) (now (stations .entry)) (now (tokens .entry)) (now (dacls .entry)) (now (stations .exit)) (now (tokens .exit)) (now (dacls .exit)) r ⌝ }
-{
-    if !can_issue(handles, tokens, stations) {
-        return outcome::refused(8);
-    }
-    issue(station, mask, t, handles, tokens, dacls, stations)
 }
 
 // A new token by its rows, and a handle on it.

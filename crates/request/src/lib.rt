@@ -29,4 +29,3 @@ pub mod restrict;
 pub mod restrict_token;
 pub mod restricted;
 pub mod scope;
-pub mod subject;

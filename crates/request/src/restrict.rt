@@ -1,127 +1,128 @@
-// Request 10: the groups that are denied and the restricting SIDs that are added, read from a body.
+// Request 10's lists, read from a body: the indexes of groups that are denied, judged and then made, and the SIDs that are added, in a row.
 ghost use mathlib.Core.Path.{_≡_};
-ghost use mathlib.Core.List.{[], _∷_, map};
 ghost use Prim.Native.Nat.{_+_, _≤_, _<_};
-ghost use Rattle.rules.specs.Basic.{changeAt};
+ghost use lib.ListN.{length};
 ghost use Rattle.rules.specs.Group.{denied};
 ghost use Rattle.rules.specs.Token.{maxGroups, maxRestricting};
-ghost use Rattle.token.specs.Meaning.{groupOf, tokenOf, Sized};
-ghost use Rattle.request.specs.Restricting.{marksOf, marked, GroupsDenied, withSids, SidsAdded};
+ghost use Rattle.rules.specs.Memory.{tokenWords};
+ghost use Rattle.request.specs.Switching.{onWord};
+ghost use Rattle.request.specs.Restricting.{marksOf, marked, IndexesJudged, DeniedAt, GroupsDenied, SidAdded, SidsAdded};
 use crate::attributes;
-use crate::group_list;
 use number::Number;
-use privilege::words;
-use token::Group;
-use token::MAX_GROUPS;
-use token::Token;
+use privilege::words::bit;
+use privilege::words::has;
+use privilege::words::with;
+use token::row::GROUPS_END;
+use token::row::HEAD_WORDS;
+use token::row::TOKEN_WORDS;
+use token::words;
 
-pub struct Denied {
-    pub ok: bool,
-    pub token: Token,
-}
-
-// The groups so far and the word of the indexes named so far, as long as every index was good.
+// The word of the indexes named so far, as long as every index was good.
 struct Marks {
     ok: bool,
     named: u64,
-    groups: [Group; MAX_GROUPS],
 }
 
-// ---- the groups
-
-fn denied_at(groups: [Group; MAX_GROUPS], index: u64) -> [Group; MAX_GROUPS]
-    requires { ⌜ index < maxGroups ⌝ }
-    ensures { λ r. ⌜ map groupOf r ≡ changeAt index denied (map groupOf groups) ⌝ }
-{
-    let mut next = groups;
-    let i = index as usize;
-    let g = attributes::denied(next[i]);
-    next[i] = g;
-    next
-}
+// ---- the indexes
 
 // One index more: a group's, and not named before.
-fn mark(m: Marks, size: usize, index: u64) -> Marks
+fn mark(m: Marks, size: u64, index: u64) -> Marks
     requires { ⌜ size ≤ maxGroups ⌝ }
-    ensures { λ r. ⌜ marksOf size r ≡ marked size index (marksOf size m) ⌝ }
+    ensures { λ r. ⌜ marksOf r ≡ marked size index (marksOf m) ⌝ }
 {
-    let groups = m.groups;
     let named = m.named;
-    if m.ok & (index < size as u64) & !words::has(named, index) {
-        let next = denied_at(groups, index);
+    if m.ok & (index < size) & !has(named, index) {
         return Marks {
             ok: true,
-            named: words::with(named, words::bit(index)),
-            groups: next,
+            named: with(named, bit(index)),
         };
     }
-    Marks {
-        ok: false,
-        named,
-        groups,
-    }
+    Marks { ok: false, named }
 }
 
-// The count indexes that stand at a place of a body.
-pub fn deny(t: Token, s: &[u8], at: usize, count: u64) -> Denied
-    requires { ⌜ Sized t ⌝ }
-    ensures { λ r. ⌜ GroupsDenied t (now (s .entry)) at count r ⌝ }
+// The count indexes that stand at a place of a body are those of groups, and none comes twice.
+pub fn valid_indexes(size: u64, s: &[u8], at: usize, count: u64) -> bool
+    requires { ⌜ size ≤ maxGroups ⌝ }
+    ensures { λ r. ⌜ IndexesJudged size (now (s .entry)) at count r ⌝ }
 {
-    let was = t.groups;
-    let size = t.group_count;
-    let mut m = Marks {
-        ok: true,
-        named: 0,
-        groups: was,
-    };
+    let mut m = Marks { ok: true, named: 0 };
     let mut from = at;
     let mut left = count;
     while 0 < left {
         let Number::Value { value: index, next } = number::number_at(s, from, number::U32) else {
-            return Denied {
-                ok: false,
-                token: t,
-            };
+            return false;
         };
         m = mark(m, size, index);
         from = next;
         left -= 1;
     }
-    let groups = m.groups;
-    Denied {
-        ok: m.ok,
-        token: group_list::with_groups(t, groups),
+    m.ok
+}
+
+// ---- the groups
+
+// In its word.
+fn denied_word(w: u64) -> u64
+    ensures { λ r. ⌜ r ≡ onWord denied w ⌝ }
+{
+    words::pack(attributes::denied(words::unpack(w)))
+}
+
+// Group `index` of a row that has `size` groups.
+fn deny_at(words: &mut [u64; TOKEN_WORDS], size: u64, index: u64)
+    requires { ⌜ (length (now words) ≡ tokenWords) × (size ≤ maxGroups) ⌝ }
+    ensures { λ _. ⌜ DeniedAt size index (now (words .entry)) (now (words .exit)) ⌝ }
+{
+    if index < size {
+        let i = HEAD_WORDS + index as usize;
+        words[i] = denied_word(words[i]);
+    }
+}
+
+// The groups of the count indexes that stand at a place of a body.
+pub fn deny(words: &mut [u64; TOKEN_WORDS], size: u64, s: &[u8], at: usize, count: u64)
+    requires { ⌜ (length (now words) ≡ tokenWords) × (size ≤ maxGroups) ⌝ }
+    ensures { λ _. ⌜ GroupsDenied size (now (s .entry)) at count (now (words .entry)) (now (words .exit)) ⌝ }
+{
+    let mut from = at;
+    let mut left = count;
+    while 0 < left {
+        let Number::Value { value: index, next } = number::number_at(s, from, number::U32) else {
+            return;
+        };
+        deny_at(words, size, index);
+        from = next;
+        left -= 1;
     }
 }
 
 // ---- the SIDs
 
-fn with_sid(t: Token, sid: u32) -> Token
-    requires { ⌜ Sized t × (t .«restricting_count» < maxRestricting) ⌝ }
-    ensures { λ r. ⌜ (tokenOf r ≡ withSids (sid ∷ []) (tokenOf t)) × Sized r × (r .«restricting_count» ≡ t .«restricting_count» + 1) ⌝ }
+// One SID more, of a row that has k.
+fn add_sid(words: &mut [u64; TOKEN_WORDS], k: u64, sid: u64)
+    requires { ⌜ (length (now words) ≡ tokenWords) × (k < maxRestricting) ⌝ }
+    ensures { λ _. ⌜ SidAdded k sid (now (words .entry)) (now (words .exit)) ⌝ }
 {
-    let n = t.restricting_count;
-    let mut next = t;
-    next.restricting[n] = sid;
-    next.restricting_count = n + 1;
-    next
+    let i = GROUPS_END + k as usize;
+    words[i] = sid;
+    words[18] = k + 1;
 }
 
-// The count SIDs that stand at a place of a body, where there is room for them.
-pub fn add_sids(t: Token, s: &[u8], at: usize, count: u64) -> Token
-    requires { ⌜ Sized t × (t .«restricting_count» + count ≤ maxRestricting) ⌝ }
-    ensures { λ r. ⌜ SidsAdded t (now (s .entry)) at count r ⌝ }
+// The count SIDs that stand at a place of a body, of a row that has k and room for them.
+pub fn add_sids(words: &mut [u64; TOKEN_WORDS], k: u64, s: &[u8], at: usize, count: u64)
+    requires { ⌜ (length (now words) ≡ tokenWords) × (k + count ≤ maxRestricting) ⌝ }
+    ensures { λ _. ⌜ SidsAdded k (now (s .entry)) at count (now (words .entry)) (now (words .exit)) ⌝ }
 {
-    let mut r = t;
+    let mut n = k;
     let mut from = at;
     let mut left = count;
     while 0 < left {
         let Number::Value { value: sid, next } = number::number_at(s, from, number::U32) else {
-            return r;
+            return;
         };
-        r = with_sid(r, sid as u32);
+        add_sid(words, n, sid);
+        n += 1;
         from = next;
         left -= 1;
     }
-    r
 }

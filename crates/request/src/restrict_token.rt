@@ -1,24 +1,65 @@
 // Request 10: restrict.
-ghost use Prim.Native.Nat.{_<_};
-ghost use Rattle.rules.specs.State.{stationCount};
-ghost use Rattle.token.specs.Meaning.{Sized};
+ghost use mathlib.Core.Path.{_≡_};
+ghost use Prim.Native.Nat.{_+_, _*_, _≤_, _<_};
+ghost use lib.ListN.{length};
+ghost use Rattle.rules.specs.Token.{maxGroups, maxRestricting};
+ghost use Rattle.rules.specs.State.{tokenSlots, stationCount};
+ghost use Rattle.rules.specs.Memory.{tokenWords};
 ghost use Rattle.state.specs.Parts.{Lent};
-ghost use Rattle.request.specs.Restricts.{RestrictedIssued, RestrictCarried};
-use crate::issue::issue_if_room;
+ghost use Rattle.state.specs.StationFacts.{stationsSize};
+ghost use Rattle.request.specs.Issue.{NumbersLeft};
+ghost use Rattle.request.specs.Restricts.{RestrictRefusal, RestrictedIssued, RestrictCarried};
+use crate::copies;
+use crate::issue::can_issue;
+use crate::issue::issue_row;
+use crate::located;
 use crate::outcome;
 use crate::outcome::Outcome;
-use crate::restricted::make;
-use crate::subject;
+use crate::restrict::valid_indexes;
+use crate::restricted;
+use crate::restricted::Counts;
 use handle::Handles;
 use privilege::mask::Mask;
+use privilege::privileges::Privileges;
+use privilege::words;
 use state::tokens::next_token;
-use token::Token;
 
-// On the mask of a handle and its token.
+// What the copy of a token that has so many groups and SIDs is refused for: 0 if nothing.
+fn refusal_of(
+    counts: Counts,
+    mark: u32,
+    removed: u64,
+    s: &[u8],
+    deny_at: usize,
+    deny_count: u64,
+    sid_count: u64,
+    handles: Handles,
+    tokens: &[u64],
+    stations: &[u64],
+) -> u64
+    requires { ⌜ (counts .groups ≤ maxGroups) × (counts .restricting ≤ maxRestricting) × (length (now tokens) ≡ tokenSlots * tokenWords) × (length (now stations) ≡ stationsSize) ⌝ }
+    ensures { λ r. ⌜ RestrictRefusal counts mark removed (now (s .entry)) «deny_at» «deny_count» «sid_count» (handles .items) (now (stations .entry)) (now (tokens .entry)) r ⌝ }
+{
+    let indexes = valid_indexes(counts.groups, s, deny_at, deny_count);
+    let valid = (mark <= 1) & words::within(removed, Privileges::EXISTING) & indexes;
+    if !valid {
+        return 5;
+    }
+    if 16 - counts.restricting < sid_count {
+        return 8;
+    }
+    if can_issue(handles, tokens, stations) {
+        return 0;
+    }
+    8
+}
+
+// Of the token in a slot, where nothing speaks against it.
 fn issue_restricted(
     station: u32,
     mask: u32,
-    t: Token,
+    slot: usize,
+    counts: Counts,
     mark: u32,
     removed: u64,
     s: &[u8],
@@ -31,13 +72,15 @@ fn issue_restricted(
     dacls: &mut [u8],
     stations: &mut [u64],
 ) -> Outcome
-    requires { ⌜ Lent (now tokens) (now dacls) (now stations) × Sized t ⌝ }
-    ensures { λ r. ⌜ RestrictedIssued mask t mark removed (now (s .entry)) «deny_at» «deny_count» «sid_at» «sid_count» station (handles .items) (now (stations .entry)) (now (tokens .entry)) (now (dacls .entry)) (now (stations .exit)) (now (tokens .exit)) (now (dacls .exit)) r ⌝ }
+    requires { ⌜ Lent (now tokens) (now dacls) (now stations) × (slot < tokenSlots) × NumbersLeft (now stations) × (counts .groups ≤ maxGroups) × (counts .restricting + «sid_count» ≤ maxRestricting) ⌝ }
+    ensures { λ r. ⌜ RestrictedIssued slot counts mark removed (now (s .entry)) «deny_at» «deny_count» «sid_at» «sid_count» station mask (handles .items) (now (stations .entry)) (now (tokens .entry)) (now (dacls .entry)) (now (stations .exit)) (now (tokens .exit)) (now (dacls .exit)) r ⌝ }
 {
     let n = next_token(stations);
-    let copy = make(
+    let mut copy = copies::words_at(slot, tokens);
+    restricted::make(
+        &mut copy,
         n,
-        t,
+        counts,
         mark,
         removed,
         s,
@@ -46,13 +89,17 @@ fn issue_restricted(
         sid_at,
         sid_count,
     );
-    if !copy.ok {
-        return outcome::refused(5);
-    }
-    if !copy.fits {
-        return outcome::refused(8);
-    }
-    issue_if_room(station, mask, copy.token, handles, tokens, dacls, stations)
+    let dacl = copies::dacl_at(slot, dacls);
+    issue_row(
+        station,
+        mask,
+        &copy,
+        &dacl,
+        handles,
+        tokens,
+        dacls,
+        stations,
+    )
 }
 
 pub fn restrict_token(
@@ -73,14 +120,31 @@ pub fn restrict_token(
     requires { ⌜ Lent (now tokens) (now dacls) (now stations) × (station < stationCount) ⌝ }
     ensures { λ r. ⌜ RestrictCarried station number mark removed (now (s .entry)) «deny_at» «deny_count» «sid_at» «sid_count» (handles .items) (now (stations .entry)) (now (tokens .entry)) (now (dacls .entry)) (now (stations .exit)) (now (tokens .exit)) (now (dacls .exit)) r ⌝ }
 {
-    let x = subject::find(station, number, Mask::DUPLICATE, handles, tokens, dacls);
-    if x.target.refusal != 0 {
-        return outcome::refused(x.target.refusal);
+    let x = located::locate(station, number, Mask::DUPLICATE, handles, tokens);
+    if x.refusal != 0 {
+        return outcome::refused(x.refusal);
+    }
+    let counts = restricted::counts_at(x.slot, tokens);
+    let refusal = refusal_of(
+        counts,
+        mark,
+        removed,
+        s,
+        deny_at,
+        deny_count,
+        sid_count,
+        handles,
+        tokens,
+        stations,
+    );
+    if refusal != 0 {
+        return outcome::refused(refusal);
     }
     issue_restricted(
         station,
-        x.target.handle.mask,
-        x.token,
+        x.mask,
+        x.slot,
+        counts,
         mark,
         removed,
         s,

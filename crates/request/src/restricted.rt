@@ -1,49 +1,73 @@
-// Request 10: the copy, judged and made by value.
+// Request 10: the row of the copy.
 ghost use mathlib.Core.Path.{_≡_};
-ghost use mathlib.Core.List.{[]};
-ghost use Rattle.rules.specs.Restrict.{restricted};
-ghost use Rattle.token.specs.Meaning.{tokenOf, Sized};
-ghost use Rattle.request.specs.Restricts.{CopyMade};
+ghost use Prim.Native.Nat.{_+_, _*_, _≤_, _<_};
+ghost use lib.ListN.{length};
+ghost use Rattle.rules.specs.Token.{maxGroups, maxRestricting};
+ghost use Rattle.rules.specs.State.{tokenSlots};
+ghost use Rattle.rules.specs.Memory.{tokenWords};
+ghost use Rattle.request.specs.Copies.{Remade};
+ghost use Rattle.request.specs.Restricts.{CountsAt, markWord, limitedTo, CopyMade};
 use crate::restrict::add_sids;
 use crate::restrict::deny;
-use privilege::privileges::Privileges;
-use privilege::words;
-use token::Limits;
+use privilege::words::without;
+use token::MAX_GROUPS;
 use token::MAX_RESTRICTING;
-use token::Token;
+use token::row;
+use token::row::TOKEN_WORDS;
 
-// The copy, if every field was good and its SIDs fit.
-pub struct Copy {
-    pub ok: bool,
-    pub fits: bool,
-    pub token: Token,
+// How many groups and restricting SIDs a token has.
+pub struct Counts {
+    pub groups: u64,
+    pub restricting: u64,
+}
+
+// Of the token in a slot.
+pub fn counts_at(slot: usize, tokens: &[u64]) -> Counts
+    requires { ⌜ (length (now tokens) ≡ tokenSlots * tokenWords) × (slot < tokenSlots) ⌝ }
+    ensures { λ r. ⌜ CountsAt slot (now (tokens .entry)) r ⌝ }
+{
+    let at = slot * TOKEN_WORDS;
+    let end = at + TOKEN_WORDS;
+    let groups = row::count_in(&tokens[at..end], 17, MAX_GROUPS);
+    let restricting = row::count_in(&tokens[at..end], 18, MAX_RESTRICTING);
+    Counts {
+        groups: groups as u64,
+        restricting: restricting as u64,
+    }
+}
+
+// Mark 1 sets a word, and 0 keeps it.
+fn marked(mark: u32, w: u64) -> u64
+    ensures { λ r. ⌜ r ≡ markWord mark w ⌝ }
+{
+    if mark == 1 { 1 } else { w }
 }
 
 // A copy whose lists are as they were.
-fn limited(n: u64, mark: u32, removed: u64, t: Token) -> Token
-    requires { ⌜ Sized t ⌝ }
-    ensures { λ r. ⌜ (tokenOf r ≡ restricted n mark removed [] [] (tokenOf t)) × Sized r ⌝ }
+fn limit(words: &mut [u64; TOKEN_WORDS], n: u64, mark: u32, removed: u64)
+    requires { ⌜ length (now words) ≡ tokenWords ⌝ }
+    ensures { λ _. ⌜ Remade (limitedTo n mark removed) (now (words .entry)) (now (words .exit)) ⌝ }
 {
-    let p = t.privileges;
-    let left = p.remove(removed);
-    let set = mark == 1;
-    let limits = Limits {
-        write_restricted: set | t.limits.write_restricted,
-        user_deny_only: set | t.limits.user_deny_only,
-    };
-    let mut next = t;
-    next.number = n;
-    next.modified = n;
-    next.elevation = 1;
-    next.privileges = left;
-    next.limits = limits;
-    next
+    let write = marked(mark, words[7]);
+    let deny = marked(mark, words[8]);
+    let present = without(words[13], removed);
+    let enabled = without(words[14], removed);
+    let by_default = without(words[15], removed);
+    words[0] = n;
+    words[1] = n;
+    words[6] = 1;
+    words[7] = write;
+    words[8] = deny;
+    words[13] = present;
+    words[14] = enabled;
+    words[15] = by_default;
 }
 
 // The indexes to deny and the restricting SIDs stand at two places of a body.
 pub fn make(
+    words: &mut [u64; TOKEN_WORDS],
     n: u64,
-    t: Token,
+    counts: Counts,
     mark: u32,
     removed: u64,
     s: &[u8],
@@ -51,26 +75,11 @@ pub fn make(
     deny_count: u64,
     sid_at: usize,
     sid_count: u64,
-) -> Copy
-    requires { ⌜ Sized t ⌝ }
-    ensures { λ r. ⌜ CopyMade n t mark removed (now (s .entry)) «deny_at» «deny_count» «sid_at» «sid_count» r ⌝ }
+)
+    requires { ⌜ (length (now words) ≡ tokenWords) × (counts .groups ≤ maxGroups) × (counts .restricting + «sid_count» ≤ maxRestricting) ⌝ }
+    ensures { λ _. ⌜ CopyMade n counts mark removed (now (s .entry)) «deny_at» «deny_count» «sid_at» «sid_count» (now (words .entry)) (now (words .exit)) ⌝ }
 {
-    let copy = limited(n, mark, removed, t);
-    let denied = deny(copy, s, deny_at, deny_count);
-    let ok = (mark <= 1) & words::within(removed, Privileges::EXISTING) & denied.ok;
-    let less = denied.token;
-    let room = (MAX_RESTRICTING - less.restricting_count) as u64;
-    if room < sid_count {
-        return Copy {
-            ok: ok,
-            fits: false,
-            token: less,
-        };
-    }
-    let more = add_sids(less, s, sid_at, sid_count);
-    Copy {
-        ok: ok,
-        fits: true,
-        token: more,
-    }
+    limit(words, n, mark, removed);
+    deny(words, counts.groups, s, deny_at, deny_count);
+    add_sids(words, counts.restricting, s, sid_at, sid_count);
 }

@@ -6,6 +6,5 @@ pub mod Slots
 pub mod TokenLooks
 pub mod InPlace
 pub mod TokenScalars
-pub mod TokenChanges
 pub mod Adding
 pub mod TokenFrames

@@ -16,26 +16,16 @@ use Rattle.rules.specs.Privileges.{markUsed}
 use Rattle.rules.specs.Memory.{tokenRow, daclRow, slotRow, slotDacl}
 use Rattle.privilege.specs.Meaning.{privilegesOf}
 use Rattle.privilege.specs.declared.privileges.Privileges.{Privileges}
-use Rattle.token.specs.Meaning.{identityOf, tokenOf, slotsOf, Sized}
+use Rattle.token.specs.Meaning.{identityOf, slotsOf}
 use Rattle.token.specs.declared.Identity.{Identity}
-use Rattle.token.specs.declared.Token.{Token}
 use Rattle.state.specs.Parts.{TokensIn, StationsIn}
 use Rattle.state.specs.StationFacts.{nextHandle}
 
 -- ---- looking
 
-pub record TokenGiven (n : ℕ) (ts ds : List ℕ) (r : Token) : Type 0 where
-  pub sized : Sized r
-  pub token : (σ : State) → valid σ ≡ true → TokensIn σ ts ds → tokenOf r ≡ State.tokenOf σ n
-
 -- find's result
 abbrev pub FoundAt : ℕ → List ℕ → ℕ → Type 0
 FoundAt n ts r = (bs : List ℕ) → r ≡ foundIndex (isNumbered n) (slotsOf ts bs)
-
--- the slot of any number
-pub record TokenLoaded (slot : ℕ) (ts ds : List ℕ) (r : Token) : Type 0 where
-  pub sized : Sized r
-  pub given : (n : ℕ) → FoundAt n ts slot → TokenGiven n ts ds r
 
 pub record IdentityGiven (n : ℕ) (ts : List ℕ) (r : Identity) : Type 0 where
   pub identity : (σ : State) → valid σ ≡ true → {ds : List ℕ} → TokensIn σ ts ds → identityOf r ≡ State.tokenOf σ n .identity
@@ -63,17 +53,6 @@ pub record CanAdd (ts ss : List ℕ) (r : Bool) : Type 0 where
   pub canAdd : (σ : State) → valid σ ≡ true → {ds : List ℕ} → TokensIn σ ts ds → StationsIn σ ss → r ≡ canAddToken σ
 
 -- ---- changes
-
--- slot i becomes t, whatever the slots are
-pub record Stored (t : Token) (i : ℕ) (ts ds ts′ ds′ : List ℕ) : Type 0 where
-  pub words : (ps : List (Slot Rules.Token)) → length ps ≡ tokenSlots → ts ≡ flat slotRow ps → ts′ ≡ flat slotRow (set ps i (live (tokenOf t)))
-  pub bytes : (ps : List (Slot Rules.Token)) → length ps ≡ tokenSlots → ds ≡ flat slotDacl ps → ds′ ≡ flat slotDacl (set ps i (live (tokenOf t)))
-
-pub record TokenAdded (t : Token) (ts ds ss ts′ ds′ ss′ : List ℕ) : Type 0 where
-  pub tokens : (σ : State) → valid σ ≡ true → TokensIn σ ts ds → TokensIn (addToken (tokenOf t) σ) ts′ ds′
-  pub stations : (σ : State) → StationsIn σ ss → StationsIn (addToken (tokenOf t) σ) ss′
-  -- what add_handle asks stays
-  pub handle-next : nextHandle ss′ ≡ nextHandle ss
 
 -- slot i gets the rows of some token u
 pub record RowsPut (ws bs : List ℕ) (i : ℕ) (ts ds ts′ ds′ : List ℕ) : Type 0 where

@@ -1,4 +1,3 @@
-pub mod Parts
 pub mod Finding
 pub mod Laws
 pub mod Changing

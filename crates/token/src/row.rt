@@ -3,19 +3,16 @@ ghost use mathlib.Core.Path.{_≡_};
 ghost use Prim.Native.Nat.{_<_, min};
 ghost use lib.ListN.{length, getD};
 ghost use Rattle.rules.specs.Token.{maxDacl, nextModified, withPrivileges, withScope};
-ghost use Rattle.rules.specs.Memory.{tokenWords, tokenRow, daclRow, slotRow, slotDacl, tokenAt};
+ghost use Rattle.rules.specs.Memory.{tokenWords, slotRow, slotDacl};
 ghost use Rattle.rules.specs.Table.{free};
-ghost use Rattle.token.specs.Meaning.{identityOf, tokenOf, Sized};
+ghost use Rattle.token.specs.Meaning.{identityOf};
 ghost use Rattle.privilege.specs.Meaning.{privilegesOf};
-ghost use Rattle.token.specs.Row.{identityIn, privilegesIn, limitsIn, defaultsIn, headOf, Becomes};
+ghost use Rattle.token.specs.Row.{identityIn, privilegesIn, Becomes};
 ghost use Rattle.token.specs.NewRow.{Headed};
-use crate::Defaults;
 use crate::Identity;
-use crate::Limits;
 use crate::MAX_DACL;
 use crate::MAX_GROUPS;
 use crate::MAX_RESTRICTING;
-use crate::Token;
 use crate::words;
 use privilege::privileges::Privileges;
 
@@ -53,26 +50,6 @@ pub fn privileges_in(words: &[u64]) -> Privileges
     }
 }
 
-fn limits_in(words: &[u64]) -> Limits
-    requires { ⌜ length (now words) ≡ tokenWords ⌝ }
-    ensures { λ r. ⌜ r ≡ limitsIn (now (words .entry)) ⌝ }
-{
-    Limits {
-        write_restricted: words[7] == 1,
-        user_deny_only: words[8] == 1,
-    }
-}
-
-fn defaults_in(words: &[u64]) -> Defaults
-    requires { ⌜ length (now words) ≡ tokenWords ⌝ }
-    ensures { λ r. ⌜ r ≡ defaultsIn (now (words .entry)) ⌝ }
-{
-    Defaults {
-        owner: (words[9] % 4294967296) as u32,
-        primary_group: (words[10] % 4294967296) as u32,
-    }
-}
-
 // A count, cut to its list's size.
 pub fn count_in(words: &[u64], at: usize, size: usize) -> usize
     requires { ⌜ at < length (now words) ⌝ }
@@ -97,102 +74,7 @@ pub fn copied(words: &[u64]) -> [u64; TOKEN_WORDS]
     out
 }
 
-// Whatever the row holds: what is past a width or a count is left out.
-pub fn load(words: &[u64], bytes: &[u8]) -> Token
-    requires { ⌜ (length (now words) ≡ tokenWords) × (length (now bytes) ≡ maxDacl) ⌝ }
-    ensures { λ r. ⌜ (tokenOf r ≡ tokenAt (now (words .entry)) (now (bytes .entry))) × Sized r ⌝ }
-{
-    let group_count = count_in(words, 17, MAX_GROUPS);
-    let restricting_count = count_in(words, 18, MAX_RESTRICTING);
-    let dacl_count = count_in(words, 19, MAX_DACL);
-    let groups = words::load_groups(&words[HEAD_WORDS..GROUPS_END]);
-    let restricting = words::load_sids(&words[GROUPS_END..TOKEN_WORDS]);
-    let dacl = words::load_bytes(bytes);
-    Token {
-        number: words[0],
-        modified: words[1],
-        elevation: (words[6] % 256) as u8,
-        scope: (words[11] % 4294967296) as u32,
-        identity: identity_in(words),
-        privileges: privileges_in(words),
-        limits: limits_in(words),
-        defaults: defaults_in(words),
-        group_count: group_count,
-        groups: groups,
-        restricting_count: restricting_count,
-        restricting: restricting,
-        dacl_count: dacl_count,
-        dacl: dacl,
-    }
-}
-
 // ---- writing
-
-fn head_of(t: Token) -> [u64; HEAD_WORDS]
-    ensures { λ r. ⌜ r ≡ headOf t ⌝ }
-{
-    let i = t.identity;
-    let l = t.limits;
-    let d = t.defaults;
-    let p = t.privileges;
-    [
-        t.number,
-        t.modified,
-        i.session,
-        i.user as u64,
-        i.kind as u64,
-        i.level as u64,
-        t.elevation as u64,
-        l.write_restricted as u64,
-        l.user_deny_only as u64,
-        d.owner as u64,
-        d.primary_group as u64,
-        t.scope as u64,
-        i.integrity as u64,
-        p.present,
-        p.enabled,
-        p.by_default,
-        p.used,
-        t.group_count as u64,
-        t.restricting_count as u64,
-        t.dacl_count as u64,
-    ]
-}
-
-fn store_words(t: Token, words: &mut [u64])
-    requires { ⌜ (length (now words) ≡ tokenWords) × Sized t ⌝ }
-    ensures { λ r. ⌜ now (words .exit) ≡ tokenRow (tokenOf t) ⌝ }
-{
-    let groups = t.groups;
-    let group_count = t.group_count;
-    let restricting = t.restricting;
-    let restricting_count = t.restricting_count;
-    let head = head_of(t);
-    words::copy_words(&head, &mut words[0..HEAD_WORDS]);
-    words::store_groups(groups, group_count, &mut words[HEAD_WORDS..GROUPS_END]);
-    words::store_sids(
-        restricting,
-        restricting_count,
-        &mut words[GROUPS_END..TOKEN_WORDS],
-    );
-}
-
-fn store_dacl(t: Token, bytes: &mut [u8])
-    requires { ⌜ (length (now bytes) ≡ maxDacl) × Sized t ⌝ }
-    ensures { λ r. ⌜ now (bytes .exit) ≡ daclRow (tokenOf t) ⌝ }
-{
-    let dacl = t.dacl;
-    let n = t.dacl_count;
-    words::store_bytes(dacl, n, bytes);
-}
-
-pub fn store(t: Token, words: &mut [u64], bytes: &mut [u8])
-    requires { ⌜ (length (now words) ≡ tokenWords) × (length (now bytes) ≡ maxDacl) × Sized t ⌝ }
-    ensures { λ r. ⌜ (now (words .exit) ≡ tokenRow (tokenOf t)) × (now (bytes .exit) ≡ daclRow (tokenOf t)) ⌝ }
-{
-    store_words(t, words);
-    store_dacl(t, bytes);
-}
 
 // The head of a new token, in a row that has only its groups: the modified number is the number, the elevation Default.
 pub fn set_head(

@@ -3,43 +3,20 @@ ghost use mathlib.Core.Path.{_≡_};
 ghost use mathlib.Core.List.{List};
 ghost use Prim.Native.Nat.{ℕ, _*_, _<_, _≤_};
 ghost use lib.ListN.{length};
-ghost use Rattle.table.specs.Table.{record-at, put-record};
+ghost use Rattle.table.specs.Table.{put-record};
 ghost use Rattle.table.specs.Column.{column, indexOf};
 ghost use Rattle.rules.specs.Token.{maxDacl};
 ghost use Rattle.rules.specs.Table.{free};
 ghost use Rattle.rules.specs.State.{tokenSlots, isNumbered};
 ghost use Rattle.rules.specs.Index.{freeIndex, foundIndex};
-ghost use Rattle.rules.specs.Memory.{tokenWords, tokenRow, daclRow, slotRow, slotDacl, tokenAt};
-ghost use Rattle.token.specs.Meaning.{tokenOf, slotsOf, Sized};
+ghost use Rattle.rules.specs.Memory.{tokenWords, slotRow, slotDacl};
+ghost use Rattle.token.specs.Meaning.{slotsOf};
 use crate::MAX_DACL;
-use crate::Token;
 use crate::row;
 use crate::row::TOKEN_WORDS;
 use crate::words;
 
 pub const TOKEN_SLOTS: usize = 16;
-
-pub fn load_at(tokens: &[u64], dacls: &[u8], slot: usize) -> Token
-    requires { ⌜ (length (now tokens) ≡ tokenSlots * tokenWords) × (length (now dacls) ≡ tokenSlots * maxDacl) × (slot < tokenSlots) ⌝ }
-    ensures { λ r. ⌜ (tokenOf r ≡ tokenAt (record-at tokenWords slot (now (tokens .entry))) (record-at maxDacl slot (now (dacls .entry)))) × Sized r ⌝ }
-{
-    let at = slot * TOKEN_WORDS;
-    let end = at + TOKEN_WORDS;
-    let from = slot * MAX_DACL;
-    let till = from + MAX_DACL;
-    row::load(&tokens[at..end], &dacls[from..till])
-}
-
-pub fn store_at(t: Token, tokens: &mut [u64], dacls: &mut [u8], slot: usize)
-    requires { ⌜ (length (now tokens) ≡ tokenSlots * tokenWords) × (length (now dacls) ≡ tokenSlots * maxDacl) × (slot < tokenSlots) × Sized t ⌝ }
-    ensures { λ r. ⌜ (now (tokens .exit) ≡ put-record tokenWords slot (tokenRow (tokenOf t)) (now (tokens .entry))) × (now (dacls .exit) ≡ put-record maxDacl slot (daclRow (tokenOf t)) (now (dacls .entry))) ⌝ }
-{
-    let at = slot * TOKEN_WORDS;
-    let end = at + TOKEN_WORDS;
-    let from = slot * MAX_DACL;
-    let till = from + MAX_DACL;
-    row::store(t, &mut tokens[at..end], &mut dacls[from..till]);
-}
 
 // A slot's rows become these.
 pub fn put_at(words: &[u64], bytes: &[u8], tokens: &mut [u64], dacls: &mut [u8], slot: usize)

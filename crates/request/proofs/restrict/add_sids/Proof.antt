@@ -1,36 +1,27 @@
--- What is left to add gives what all give. Assumes nothing.
-use Prim.Native.Nat.{_+_, _≤_}
-use mathlib.Core.Path.{_≡_}
-use mathlib.Core.List.{[]}
-use lib.ListN.{drop}
+-- A step for each SID. Assumes nothing.
 use borrow.Author.Needs.{needs}
-use Rattle.rules.specs.Number.{got, bad}
-use Rattle.rules.specs.Request.{times, u32}
-use Rattle.rules.specs.Token.{maxRestricting}
-use Rattle.token.specs.Meaning.{tokenOf, Sized}
-use Rattle.request.specs.Entries.{folded}
-use Rattle.request.proofs.Restricting.{number-narrow, addSid, adding, sids-end, sids-lost, sids-next}
+use Rattle.request.proofs.Restricting.{Adding, add-begin, add-end, add-lost, add-next}
 use Rattle.request.proofs.restrict.add_sids.Statement.{statement}
 use Rattle.request.proofs.restrict.add_sids.Tie as tie
 
 abbrev Inv : tie.InvT-loop
-Inv s at count r₀ from₀ left₀ r from left = (folded addSid bad (got (tokenOf r) []) (times left u32 (drop from s)) ≡ adding r₀ s at count) × Sized r × (r .«restricting_count» + left ≤ maxRestricting)
+Inv words₀ k s at count n₀ from₀ left₀ words n from left = Adding k s at count words₀ n from left words
 
 abbrev μ : tie.MeasureT-loop
-μ s at count r₀ from₀ left₀ r from left = left
+μ words₀ k s at count n₀ from₀ left₀ words n from left = left
 
 pub add-sids-spec : {M : Type 1} → statement M
 add-sids-spec =
     tie.close
     (tie.spec Inv μ
-    (λ c. search needs)
+    (λ c. search (needs, add-begin))
     (λ c κs. search needs)
     (λ c. search needs)
     (λ c. search needs)
-    (λ c. search (needs, sids-lost))
-    (λ c. search (needs, number-narrow))
+    (λ c. search (needs, add-lost))
     (λ c κs. search needs)
     (λ c. search needs)
     (λ c. search needs)
-    (λ c. search (needs, sids-next))
-    (λ c. search (needs, sids-end)))
+    (λ c. search needs)
+    (λ c. search (needs, add-next))
+    (λ c. search (needs, add-end)))

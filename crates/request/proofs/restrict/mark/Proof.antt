@@ -1,6 +1,6 @@
 -- One index more. Assumes nothing.
 use borrow.Author.Needs.{needs}
-use Rattle.request.proofs.Restricting.{index-fits, mark-good, mark-bad}
+use Rattle.request.proofs.Restricting.{mark-good, mark-bad}
 use Rattle.request.proofs.restrict.mark.Statement.{statement}
 use Rattle.request.proofs.restrict.mark.Tie as tie
 
@@ -9,7 +9,6 @@ mark-spec =
     tie.close
     (tie.spec
     (λ c κs. search needs)
-    (λ c κs. search (needs, index-fits))
     (λ c κs. search needs)
     (λ c κs. search needs)
     (λ c. search (needs, mark-good))

@@ -1,6 +1,6 @@
--- By the tests of the copy. Assumes nothing.
+-- The rows, changed. Assumes nothing.
 use borrow.Author.Needs.{needs}
-use Rattle.request.proofs.Restricts.{restrict-refused, restrict-too-many, restrict-issued}
+use Rattle.request.proofs.Restricts.{issues-restricted}
 use Rattle.request.proofs.restrict_token.issue_restricted.Statement.{statement}
 use Rattle.request.proofs.restrict_token.issue_restricted.Tie as tie
 
@@ -11,13 +11,11 @@ issue-restricted-spec =
     (λ c κs. search needs)
     (λ c κs. search needs)
     (λ c κs. search needs)
-    (λ c. search needs)
-    (λ c. search (needs, restrict-refused))
-    (λ c κs. search needs)
-    (λ c. search needs)
-    (λ c. search (needs, restrict-too-many))
     (λ c κs. search needs)
     (λ c. search needs)
     (λ c. search needs)
+    (λ c κs. search needs)
     (λ c. search needs)
-    (λ c. search (needs, restrict-issued)))
+    (λ c. search needs)
+    (λ c. search needs)
+    (λ c. search (needs, issues-restricted)))

@@ -1,6 +1,6 @@
--- By the room for the SIDs. Assumes nothing.
+-- The head, the groups, the SIDs. Assumes nothing.
 use borrow.Author.Needs.{needs}
-use Rattle.request.proofs.Restricts.{too-many, fitting}
+use Rattle.request.proofs.Restricts.{makes}
 use Rattle.request.proofs.restricted.make.Statement.{statement}
 use Rattle.request.proofs.restricted.make.Tie as tie
 
@@ -11,7 +11,4 @@ make-spec =
     (λ c κs. search needs)
     (λ c κs. search needs)
     (λ c κs. search needs)
-    (λ c. search needs)
-    (λ c. search (needs, too-many))
-    (λ c κs. search needs)
-    (λ c. search (needs, fitting)))
+    (λ c. search (needs, makes)))

@@ -1,0 +1,29 @@
+-- Eight words. Assumes nothing.
+use borrow.Author.Needs.{needs}
+use Rattle.request.proofs.RestrictedRows.{limits}
+use Rattle.request.proofs.restricted.limit.Statement.{statement}
+use Rattle.request.proofs.restricted.limit.Tie as tie
+
+pub limit-spec : {M : Type 1} → statement M
+limit-spec =
+    tie.close
+    (tie.spec
+    (λ c. search needs)
+    (λ c κs. search needs)
+    (λ c. search needs)
+    (λ c κs. search needs)
+    (λ c. search needs)
+    (λ c κs. search needs)
+    (λ c. search needs)
+    (λ c κs. search needs)
+    (λ c. search needs)
+    (λ c κs. search needs)
+    (λ c. search needs)
+    (λ c. search needs)
+    (λ c. search needs)
+    (λ c. search needs)
+    (λ c. search needs)
+    (λ c. search needs)
+    (λ c. search needs)
+    (λ c. search needs)
+    (λ c. search (needs, limits)))
