@@ -7,6 +7,7 @@ ghost use Rattle.rules.specs.Frame.{maxAnswer};
 ghost use Rattle.rules.specs.State.{stationCount};
 ghost use Rattle.rules.specs.Memory as Memory;
 ghost use Rattle.rules.specs.Memory.{pendingBytes};
+ghost use Rattle.handle.specs.Words.{recordsIn};
 ghost use Rattle.state.specs.Parts.{Lent};
 ghost use Rattle.state.specs.StationFacts.{stationsSize};
 ghost use Rattle.valid.specs.Meaning as Sizes;
@@ -17,7 +18,7 @@ use crate::Fed;
 use crate::by_value::Turn;
 use crate::station;
 use crate::station::PENDING_BYTES;
-use handle::Handles;
+use handle::HANDLE_WORDS;
 use handle::NONE;
 use handle::SLOTS;
 use state::handles::Change;
@@ -84,15 +85,15 @@ fn serve_frame(
     start: usize,
     count: usize,
     used: usize,
-    handles: Handles,
+    handles: &[u64; HANDLE_WORDS],
     tokens: &mut [u64],
     dacls: &mut [u8],
     stations: &mut [u64],
     row: &mut [u8],
     out: &mut [u8],
 ) -> Turn
-    requires { ⌜ Lent (now tokens) (now dacls) (now stations) × (station < stationCount) × (maxAnswer ≤ length (now out)) × Held (handles .items) (now stations) (now tokens) (now dacls) × (start ≤ count) × (count ≤ length (now row)) ⌝ }
-    ensures { λ r. ⌜ FrameServed station start count used (handles .items) (now (stations .entry)) (now (tokens .entry)) (now (dacls .entry)) (now (row .entry)) (now (out .entry)) (now (stations .exit)) (now (tokens .exit)) (now (dacls .exit)) (now (row .exit)) (now (out .exit)) r ⌝ }
+    requires { ⌜ Lent (now tokens) (now dacls) (now stations) × (station < stationCount) × (maxAnswer ≤ length (now out)) × Held (recordsIn (now handles)) (now stations) (now tokens) (now dacls) × (start ≤ count) × (count ≤ length (now row)) ⌝ }
+    ensures { λ r. ⌜ FrameServed station start count used (recordsIn (now (handles .entry))) (now (stations .entry)) (now (tokens .entry)) (now (dacls .entry)) (now (row .entry)) (now (out .entry)) (now (stations .exit)) (now (tokens .exit)) (now (dacls .exit)) (now (row .exit)) (now (out .exit)) r ⌝ }
 {
     station::set_stream(station, 0, false, stations);
     let reply = serve::serve(
@@ -120,15 +121,15 @@ fn serve_frame(
 fn accept_row(
     station: u32,
     chunk: &[u8],
-    handles: Handles,
+    handles: &[u64; HANDLE_WORDS],
     tokens: &mut [u64],
     dacls: &mut [u8],
     stations: &mut [u64],
     row: &mut [u8],
     out: &mut [u8],
 ) -> Turn
-    requires { ⌜ Lent (now tokens) (now dacls) (now stations) × (station < stationCount) × (maxAnswer ≤ length (now out)) × (length (now row) ≡ pendingBytes) × RowHeld station (handles .items) (now stations) (now tokens) (now dacls) (now row) ⌝ }
-    ensures { λ r. ⌜ RowFed station (now (chunk .entry)) (handles .items) (now (stations .entry)) (now (tokens .entry)) (now (dacls .entry)) (now (row .entry)) (now (out .entry)) (now (stations .exit)) (now (tokens .exit)) (now (dacls .exit)) (now (row .exit)) (now (out .exit)) r ⌝ }
+    requires { ⌜ Lent (now tokens) (now dacls) (now stations) × (station < stationCount) × (maxAnswer ≤ length (now out)) × (length (now row) ≡ pendingBytes) × RowHeld station (recordsIn (now handles)) (now stations) (now tokens) (now dacls) (now row) ⌝ }
+    ensures { λ r. ⌜ RowFed station (now (chunk .entry)) (recordsIn (now (handles .entry))) (now (stations .entry)) (now (tokens .entry)) (now (dacls .entry)) (now (row .entry)) (now (out .entry)) (now (stations .exit)) (now (tokens .exit)) (now (dacls .exit)) (now (row .exit)) (now (out .exit)) r ⌝ }
 {
     let before = station::stream_of(station, stations);
     if before.broken {
@@ -159,15 +160,15 @@ fn accept_row(
 pub fn accept(
     station: u32,
     chunk: &[u8],
-    handles: Handles,
+    handles: &[u64; HANDLE_WORDS],
     tokens: &mut [u64],
     dacls: &mut [u8],
     stations: &mut [u64],
     pending: &mut [u8],
     out: &mut [u8],
 ) -> Turn
-    requires { ⌜ Sizes.Lent (now tokens) (now dacls) (now stations) (now pending) × (Memory.valid (memoryOf (now tokens) (now dacls) (handles .items) (now stations) (now pending)) ≡ true) × (station < stationCount) × (maxAnswer ≤ length (now out)) ⌝ }
-    ensures { λ r. ⌜ Accepted station (now (chunk .entry)) (handles .items) (now (tokens .entry)) (now (dacls .entry)) (now (stations .entry)) (now (pending .entry)) (now (out .entry)) (now (tokens .exit)) (now (dacls .exit)) (now (stations .exit)) (now (pending .exit)) (now (out .exit)) r ⌝ }
+    requires { ⌜ Sizes.Lent (now tokens) (now dacls) (now stations) (now pending) × (Memory.valid (memoryOf (now tokens) (now dacls) (recordsIn (now handles)) (now stations) (now pending)) ≡ true) × (station < stationCount) × (maxAnswer ≤ length (now out)) ⌝ }
+    ensures { λ r. ⌜ Accepted station (now (chunk .entry)) (recordsIn (now (handles .entry))) (now (tokens .entry)) (now (dacls .entry)) (now (stations .entry)) (now (pending .entry)) (now (out .entry)) (now (tokens .exit)) (now (dacls .exit)) (now (stations .exit)) (now (pending .exit)) (now (out .exit)) r ⌝ }
 {
     let at = station as usize * PENDING_BYTES;
     let end = at + PENDING_BYTES;

@@ -1,4 +1,5 @@
 // The three calls with the handle list by value: what the calls over the lent list wrap, and what the program uses.
+ghost use Rattle.handle.specs.Words.{recordsIn};
 ghost use Rattle.broker.specs.Promise.{StartsWith, FeedsWith, ReconnectsWith};
 use crate::Fed;
 use crate::accept;
@@ -63,7 +64,7 @@ pub fn feed(
     stations: &mut [u64],
     pending: &mut [u8],
 ) -> Turn
-    ensures { λ r. ⌜ FeedsWith station (now (chunk .entry)) count (handles .items) (now (tokens .entry)) (now (dacls .entry)) (now (stations .entry)) (now (pending .entry)) (now (out .entry)) (now (tokens .exit)) (now (dacls .exit)) (now (stations .exit)) (now (pending .exit)) (now (out .exit)) r ⌝ }
+    ensures { λ r. ⌜ FeedsWith station (now (chunk .entry)) count (recordsIn (handles .words)) (now (tokens .entry)) (now (dacls .entry)) (now (stations .entry)) (now (pending .entry)) (now (out .entry)) (now (tokens .exit)) (now (dacls .exit)) (now (stations .exit)) (now (pending .exit)) (now (out .exit)) r ⌝ }
 {
     if STATIONS <= station {
         return accept::unanswered(11, 0, count);
@@ -71,13 +72,14 @@ pub fn feed(
     if out.len() < MAX_ANSWER {
         return accept::unanswered(12, 0, count);
     }
-    if !memory::is_valid(tokens, dacls, count, handles, stations, pending) {
+    let words = handles.words;
+    if !memory::is_valid(tokens, dacls, count, &words, stations, pending) {
         return accept::unanswered(13, 0, count);
     }
     accept::accept(
         station,
         chunk,
-        handles,
+        &words,
         tokens,
         dacls,
         stations,
@@ -95,12 +97,13 @@ pub fn reconnect(
     stations: &mut [u64],
     pending: &mut [u8],
 ) -> u32
-    ensures { λ r. ⌜ ReconnectsWith station count (handles .items) (now (tokens .entry)) (now (dacls .entry)) (now (stations .entry)) (now (pending .entry)) (now (stations .exit)) (now (pending .exit)) r ⌝ }
+    ensures { λ r. ⌜ ReconnectsWith station count (recordsIn (handles .words)) (now (tokens .entry)) (now (dacls .entry)) (now (stations .entry)) (now (pending .entry)) (now (stations .exit)) (now (pending .exit)) r ⌝ }
 {
     if STATIONS <= station {
         return 11;
     }
-    if !memory::is_valid(tokens, dacls, count, handles, stations, pending) {
+    let words = handles.words;
+    if !memory::is_valid(tokens, dacls, count, &words, stations, pending) {
         return 13;
     }
     station::drop_stream(station, stations, pending);

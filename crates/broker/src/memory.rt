@@ -1,6 +1,7 @@
-// The lent memory as a whole, with the handle list by value beside its length: its sizes, and refusal 13's test.
+// The lent memory as a whole, with the handle list as words beside its length: its sizes, and refusal 13's test.
+ghost use Rattle.handle.specs.Words.{recordsIn};
 ghost use Rattle.broker.specs.Tested.{ValidTested, SizesTested};
-use handle::Handles;
+use handle::HANDLE_WORDS;
 use handle::SLOTS;
 
 pub const TOKENS: usize = 1600;
@@ -26,11 +27,11 @@ pub fn is_valid(
     tokens: &[u64],
     dacls: &[u8],
     count: usize,
-    handles: Handles,
+    handles: &[u64; HANDLE_WORDS],
     stations: &[u64],
     pending: &[u8],
 ) -> bool
-    ensures { λ r. ⌜ ValidTested count (handles .items) (now (tokens .entry)) (now (dacls .entry)) (now (stations .entry)) (now (pending .entry)) r ⌝ }
+    ensures { λ r. ⌜ ValidTested count (recordsIn (now (handles .entry))) (now (tokens .entry)) (now (dacls .entry)) (now (stations .entry)) (now (pending .entry)) r ⌝ }
 {
     if count != SLOTS {
         return false;

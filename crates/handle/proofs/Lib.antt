@@ -1,5 +1,6 @@
 pub mod Rest
 pub mod Slots
+pub mod Words
 pub mod Lent
 pub mod Records
 pub mod Walk

@@ -46,19 +46,19 @@ module _ {A : Type 0} where
     pub rest : Rest value (λ k. i + k) xs n goal i
 
   module _ {p : A → Bool} {value : List A → ℕ} where
-    chosen : {x : A} {ys : List A} {b : Bool} (c : Bool) → First p value → b ≡ p x → b ≡ c → value (x ∷ ys) ≡ (if c then zero else suc (value ys))
-    chosen {x} {ys} c f e t = f .step x ys ∙ ap (λ a. if a then zero else suc (value ys)) (sym e ∙ t)
+    chosen : {x y : A} {ys : List A} {b : Bool} (c : Bool) → First p value → y ≡ x → b ≡ p y → b ≡ c → value (x ∷ ys) ≡ (if c then zero else suc (value ys))
+    chosen {x} {ys = ys} c f q e t = f .step x ys ∙ ap (λ a. if a then zero else suc (value ys)) (ap p (sym q) ∙ sym e ∙ t)
 
     module _ {d : A} {xs : List A} {n goal i : ℕ} where
-      pub seek-more : {b : Bool} → Seeking p value d xs n goal i → i < n → b ≡ p (getD xs i d) → b ≡ false → Seeking p value d xs n goal (i + 1)
-      seek-more s h e t = record {
+      pub seek-more : {x : A} {b : Bool} → Seeking p value d xs n goal i → i < n → x ≡ getD xs i d → b ≡ p x → b ≡ false → Seeking p value d xs n goal (i + 1)
+      seek-more s h q e t = record {
         first = s .first;
-        rest = rest-more d (λ k. i + 1 + k) (s .rest) h (λ ys. let l : value (getD xs i d ∷ ys) ≡ suc (value ys) = chosen false (s .first) e t in omega arith);
+        rest = rest-more d (λ k. i + 1 + k) (s .rest) h (λ ys. let l : value (getD xs i d ∷ ys) ≡ suc (value ys) = chosen false (s .first) q e t in omega arith);
       }
 
-      pub seek-here : {b : Bool} → Seeking p value d xs n goal i → i < n → b ≡ p (getD xs i d) → b ≡ true → i ≡ goal
-      seek-here s h e t =
-          let l : value (drop i xs) ≡ zero = ap value (drop-cons xs i d (omega arith)) ∙ chosen true (s .first) e t in
+      pub seek-here : {x : A} {b : Bool} → Seeking p value d xs n goal i → i < n → x ≡ getD xs i d → b ≡ p x → b ≡ true → i ≡ goal
+      seek-here s h q e t =
+          let l : value (drop i xs) ≡ zero = ap value (drop-cons xs i d (omega arith)) ∙ chosen true (s .first) q e t in
           let w : i + value (drop i xs) ≡ goal = s .rest .whole in
           omega arith
 

@@ -6,7 +6,8 @@ use Prim.Native.Nat.{ℕ, zero, suc, _≤_}
 use native.Mathlib.Omega.{arith}
 use lib.Dec.{eqb}
 use lib.ListN.{length, getD, set, List·getD-map}
-use lib.Seq.{set-out}
+use lib.Seq.{set-out, getD-set-other}
+use borrow.Author.Tests.{eqb-true, eqb-false}
 pub use Rattle.table.specs.Lists.{long}
 use Rattle.rules.specs.Basic.{if_then_else_, member}
 use Rattle.rules.specs.Table.{free, live, lives, found}
@@ -59,11 +60,24 @@ some-refers t = record { none = refl; step = λ h hs. by (eqb (h .number) 0) h h
     by true h hs = refl
     by false h hs = refl
 
--- ---- arrays
+-- ---- a slot freed
 
 -- a slot past the end
 pub kept : {hs : List Handle} {i : ℕ} (h : Handle) → length hs ≡ handleSlots → handleSlots ≤ i → hs ≡ set hs i h
 kept {hs} {i} h l past = sym (set-out hs i h (omega arith))
+
+freed-none : (hs : List Handle) (k : ℕ) → getD (set hs k none) k none ≡ none
+freed-none [] k = refl
+freed-none (h ∷ hs) zero = refl
+freed-none (h ∷ hs) (suc k) = freed-none hs k
+
+-- were slot k free, slot i would refer to t
+pub refers-beside : (t k : ℕ) (hs : List Handle) (i : ℕ) {h : Handle} {b : Bool} → h ≡ getD hs i none → b ≡ refersTo t h → (not (eqb i k) && b) ≡ refersTo t (getD (set hs k none) i none)
+refers-beside t k hs i q e = ap (λ b. not (eqb i k) && b) (e ∙ ap (refersTo t) q) ∙ by (eqb i k) refl
+  where
+    by : (b : Bool) → eqb i k ≡ b → (not b && refersTo t (getD hs i none)) ≡ refersTo t (getD (set hs k none) i none)
+    by true e = ap (refersTo t) (sym (ap (λ (j : ℕ). getD (set hs k none) j none) (eqb-true i k e) ∙ freed-none hs k))
+    by false e = ap (refersTo t) (sym (getD-set-other hs k i none none (eqb-false i k e)))
 
 pub map-set : {A B : Type 0} (f : A → B) (xs : List A) (i : ℕ) (x : A) → map f (set xs i x) ≡ set (map f xs) i (f x)
 map-set f [] i x = refl

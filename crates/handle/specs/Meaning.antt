@@ -1,16 +1,12 @@
 -- What the code's handles stand for. Assumes nothing.
-use mathlib.Core.Path.{_≡_}
 use mathlib.Core.Bool.{Bool, not, _&&_}
 use mathlib.Core.List.{List, map}
 use Prim.Native.Nat.{ℕ}
 use lib.Dec.{eqb}
-use lib.ListN.{length}
 use Rattle.rules.specs.Handle as rules
 use Rattle.rules.specs.Table.{Slot}
 use Rattle.rules.specs.Memory.{handleAt}
-use Rattle.rules.specs.State.{handleSlots}
 use Rattle.handle.specs.declared.Handle.{Handle}
-use Rattle.handle.specs.declared.Handles.{Handles}
 
 abbrev pub handleOf : Handle → rules.Handle
 handleOf h = record { station = h .station; number = h .number; token = h .token; mask = h .mask }
@@ -22,10 +18,6 @@ slotsOf hs = map handleAt (map handleOf hs)
 -- the all-zero handle, which a free slot holds
 abbrev pub none : Handle
 none = record { station = 0; number = 0; token = 0; mask = 0 }
-
--- the array is as long as its type says
-pub record Sized (handles : Handles) : Type 0 where
-  pub long : length (handles .items) ≡ handleSlots
 
 -- ---- tests of one slot, as the code makes them
 

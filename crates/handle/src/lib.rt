@@ -1,18 +1,27 @@
-// Handles: the list of 32 slots by value; `list` has it as it is lent.
+// Handles: the list of 32 slots as words, which a call passes on; `list` has it as it is lent.
 ghost use mathlib.Core.Path.{_≡_};
 ghost use mathlib.Core.List.{map};
-ghost use Prim.Native.Nat.{_≤_};
-ghost use lib.ListN.{set};
+ghost use Prim.Native.Nat.{_*_, _/_, _%_, _≤_, _<_};
+ghost use lib.ListN.{length, getD, set};
 ghost use Rattle.rules.specs.Basic.{member};
 ghost use Rattle.rules.specs.Table.{lives};
 ghost use Rattle.rules.specs.Index.{freeIndex, foundIndex};
 ghost use Rattle.rules.specs.Handle.{isHandle};
 ghost use Rattle.rules.specs.State.{handleToken, handleSlots};
-ghost use Rattle.handle.specs.Meaning.{slotsOf, none, Sized, isFree, isNamed, refersTo};
+ghost use Rattle.rules.specs.Memory.{word32};
+ghost use Rattle.handle.specs.Meaning.{slotsOf, none, isFree, isNamed, refersTo};
+ghost use Rattle.handle.specs.Words.{slotWords, recordsIn};
 
 pub mod list;
 
 pub const SLOTS: usize = 32;
+
+// A slot's words: station + number * 2^32, the token, the mask.
+const SLOT_WORDS: usize = 3;
+
+pub const HANDLE_WORDS: usize = SLOTS * SLOT_WORDS;
+
+const WORD_32: u64 = 4294967296;
 
 #[repr(C)]
 pub struct Handle {
@@ -32,7 +41,7 @@ pub const NONE: Handle = Handle {
 
 // A slot whose number is 0 is free.
 pub struct Handles {
-    pub items: [Handle; SLOTS],
+    pub words: [u64; HANDLE_WORDS],
 }
 
 // ---- one slot
@@ -55,16 +64,52 @@ fn refers_to(h: Handle, token: u64) -> bool
     (h.number != 0) & (token == h.token)
 }
 
+fn low_half(w: u64) -> u32
+    ensures { λ r. ⌜ r ≡ w % word32 ⌝ }
+{
+    (w % WORD_32) as u32
+}
+
+fn high_half(w: u64) -> u32
+    ensures { λ r. ⌜ r ≡ w / word32 ⌝ }
+{
+    (w / WORD_32) as u32
+}
+
+// The handle in a slot.
+pub fn at(words: &[u64; HANDLE_WORDS], slot: usize) -> Handle
+    requires { ⌜ slot < handleSlots ⌝ }
+    ensures { λ r. ⌜ r ≡ getD (recordsIn (now (words .entry))) slot none ⌝ }
+{
+    let from = slot * SLOT_WORDS;
+    Handle {
+        station: low_half(words[from]),
+        number: high_half(words[from]),
+        token: words[from + 1],
+        mask: low_half(words[from + 2]),
+    }
+}
+
+// A handle into a slot.
+pub fn put(words: &mut [u64], slot: usize, h: Handle)
+    requires { ⌜ (length (now words) ≡ handleSlots * slotWords) × (slot < handleSlots) ⌝ }
+    ensures { λ _. ⌜ recordsIn (now (words .exit)) ≡ set (recordsIn (now (words .entry))) slot h ⌝ }
+{
+    let from = slot * SLOT_WORDS;
+    words[from] = h.station as u64 + h.number as u64 * WORD_32;
+    words[from + 1] = h.token;
+    words[from + 2] = h.mask as u64;
+}
+
 // ---- the list
 
 // The first live handle of this station and number, front to back, or SLOTS.
-pub fn find(handles: Handles, station: u32, number: u32) -> usize
-    ensures { λ r. ⌜ (r ≡ foundIndex (isHandle station number) (slotsOf (handles .items))) × (r ≤ handleSlots) ⌝ }
+pub fn find(words: &[u64; HANDLE_WORDS], station: u32, number: u32) -> usize
+    ensures { λ r. ⌜ (r ≡ foundIndex (isHandle station number) (slotsOf (recordsIn (now (words .entry))))) × (r ≤ handleSlots) ⌝ }
 {
-    let items = handles.items;
     let mut i: usize = 0;
     while i < SLOTS {
-        if is_named(items[i], station, number) {
+        if is_named(at(words, i), station, number) {
             return i;
         }
         i += 1;
@@ -73,13 +118,12 @@ pub fn find(handles: Handles, station: u32, number: u32) -> usize
 }
 
 // The lowest free slot, or SLOTS.
-pub fn free_slot(handles: Handles) -> usize
-    ensures { λ r. ⌜ (r ≡ freeIndex (slotsOf (handles .items))) × (r ≤ handleSlots) ⌝ }
+pub fn free_slot(words: &[u64; HANDLE_WORDS]) -> usize
+    ensures { λ r. ⌜ (r ≡ freeIndex (slotsOf (recordsIn (now (words .entry))))) × (r ≤ handleSlots) ⌝ }
 {
-    let items = handles.items;
     let mut i: usize = 0;
     while i < SLOTS {
-        if is_free(items[i]) {
+        if is_free(at(words, i)) {
             return i;
         }
         i += 1;
@@ -87,15 +131,14 @@ pub fn free_slot(handles: Handles) -> usize
     SLOTS
 }
 
-// Some live handle refers to the token.
-pub fn refers(handles: Handles, token: u64) -> bool
-    ensures { λ r. ⌜ r ≡ member token (map handleToken (lives (slotsOf (handles .items)))) ⌝ }
+// Some live handle refers to the token, were this slot free; a slot past the end is none.
+pub fn refers(words: &[u64; HANDLE_WORDS], freed: usize, token: u64) -> bool
+    ensures { λ r. ⌜ r ≡ member token (map handleToken (lives (slotsOf (set (recordsIn (now (words .entry))) freed none)))) ⌝ }
 {
-    let items = handles.items;
     let mut found = false;
     let mut i: usize = 0;
     while i < SLOTS {
-        found = found | refers_to(items[i], token);
+        found = found | ((i != freed) & refers_to(at(words, i), token));
         i += 1;
     }
     found
@@ -103,19 +146,12 @@ pub fn refers(handles: Handles, token: u64) -> bool
 
 // The list with h in a slot; unchanged for a slot past the end.
 pub fn place(handles: Handles, slot: usize, h: Handle) -> Handles
-    ensures { λ r. ⌜ (r .items ≡ set (handles .items) slot h) × Sized r ⌝ }
+    ensures { λ r. ⌜ recordsIn (r .words) ≡ set (recordsIn (handles .words)) slot h ⌝ }
 {
     if SLOTS <= slot {
         return handles;
     }
-    let mut next = handles;
-    next.items[slot] = h;
-    next
-}
-
-// The list with a slot freed.
-pub fn clear(handles: Handles, slot: usize) -> Handles
-    ensures { λ r. ⌜ (r .items ≡ set (handles .items) slot none) × Sized r ⌝ }
-{
-    place(handles, slot, NONE)
+    let mut words = handles.words;
+    put(&mut words, slot, h);
+    Handles { words: words }
 }

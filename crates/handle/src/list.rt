@@ -1,4 +1,4 @@
-// The handle list as a host lends it, a slice of records. Each function here is thin: it crosses to the list by value, or stores records.
+// The handle list as a host lends it, a slice of records. Each function over it is thin: it crosses to the words, or stores records.
 ghost use mathlib.Core.Path.{_≡_};
 ghost use mathlib.Core.List.{_++_};
 ghost use Prim.Native.Nat.{_≤_};
@@ -6,8 +6,10 @@ ghost use lib.ListN.{length, set, replicate, drop};
 ghost use Rattle.rules.specs.Index.{foundIndex};
 ghost use Rattle.rules.specs.Handle.{isHandle};
 ghost use Rattle.rules.specs.State.{handleSlots};
-ghost use Rattle.handle.specs.Meaning.{slotsOf, none, Sized};
+ghost use Rattle.handle.specs.Meaning.{slotsOf, none};
+ghost use Rattle.handle.specs.Words.{recordsIn};
 ghost use Rattle.handle.specs.Loaded.{loaded};
+use crate::HANDLE_WORDS;
 use crate::Handle;
 use crate::Handles;
 use crate::NONE;
@@ -20,15 +22,22 @@ fn no_items() -> [Handle; SLOTS]
     [NONE; SLOTS]
 }
 
+// The records as words.
 fn of_items(items: [Handle; SLOTS]) -> Handles
-    ensures { λ r. ⌜ (r .items ≡ items) × Sized r ⌝ }
+    ensures { λ r. ⌜ recordsIn (r .words) ≡ items ⌝ }
 {
-    Handles { items: items }
+    let mut words = [0u64; HANDLE_WORDS];
+    let mut i: usize = 0;
+    while i < SLOTS {
+        crate::put(&mut words, i, items[i]);
+        i += 1;
+    }
+    Handles { words: words }
 }
 
-// The first 32 records by value; free slots where the list is shorter.
+// The first 32 records; free slots where the list is shorter.
 pub fn load(list: &[Handle]) -> Handles
-    ensures { λ r. ⌜ (r .items ≡ loaded (now (list .entry))) × Sized r ⌝ }
+    ensures { λ r. ⌜ recordsIn (r .words) ≡ loaded (now (list .entry)) ⌝ }
 {
     let mut items = no_items();
     let mut i: usize = 0;
@@ -67,9 +76,16 @@ pub fn clear_first(list: &mut [Handle], n: usize)
     }
 }
 
+fn find_in(handles: Handles, station: u32, number: u32) -> usize
+    ensures { λ r. ⌜ r ≡ foundIndex (isHandle station number) (slotsOf (recordsIn (handles .words))) ⌝ }
+{
+    let words = handles.words;
+    crate::find(&words, station, number)
+}
+
 // The slot of this station's live handle of that number, front to back among the first 32; 32 if there is none.
 pub fn find(list: &[Handle], station: u32, number: u32) -> usize
     ensures { λ r. ⌜ r ≡ foundIndex (isHandle station number) (slotsOf (loaded (now (list .entry)))) ⌝ }
 {
-    crate::find(load(list), station, number)
+    find_in(load(list), station, number)
 }

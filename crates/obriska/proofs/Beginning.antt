@@ -14,6 +14,7 @@ use Rattle.rules.specs.Calls.{startOn}
 use Rattle.rules.proofs.Logic.{and-i}
 use Rattle.rules.proofs.Memory.{start-written}
 use Rattle.handle.specs.Meaning.{handleOf}
+use Rattle.handle.specs.Words.{recordsIn}
 use Rattle.handle.specs.declared.Handle.{Handle}
 use Rattle.handle.specs.declared.Handles.{Handles}
 use Rattle.valid.specs.Meaning.{memoryOf}
@@ -23,13 +24,13 @@ use Rattle.obriska.specs.Serving.{bufferBytes, Ready}
 module _ (ts ds ss ps ts′ ds′ ss′ ps′ : List ℕ) (r : Handles) (f : Starts ts ds ss ps ts′ ds′ ss′ ps′ r)
     (lt : length ts ≡ tokenSlots * tokenWords) (ld : length ds ≡ tokenSlots * maxDacl)
     (ls : length ss ≡ counterWords + stationCount * stationWords) (lp : length ps ≡ stationCount * pendingBytes) where
-  fits : sized (memoryOf ts ds (r .items) ss ps) ≡ true
+  fits : sized (memoryOf ts ds (recordsIn (r .words)) ss ps) ≡ true
   unfolding sized
   fits = and-i (and-i (and-i (and-i (eq-eqb _ _ lt) (eq-eqb _ _ ld)) (eq-eqb _ _ (ap (λ (hs : List Handle). length (map handleOf hs)) (f .handles)))) (eq-eqb _ _ ls)) (eq-eqb _ _ lp)
 
-  begun : memoryOf ts′ ds′ (r .items) ss′ ps′ ≡ encode start
+  begun : memoryOf ts′ ds′ (recordsIn (r .words)) ss′ ps′ ≡ encode start
   unfolding startOn
   begun = f .memory ∙ rw fits
 
-  pub ready : (b a : List ℕ) → length b ≡ bufferBytes → length a ≡ maxAnswer → Ready b a (memoryOf ts′ ds′ (r .items) ss′ ps′)
+  pub ready : (b a : List ℕ) → length b ≡ bufferBytes → length a ≡ maxAnswer → Ready b a (memoryOf ts′ ds′ (recordsIn (r .words)) ss′ ps′)
   ready b a lb la = record { input = lb; output = omega arith; memory = rw begun start-written }

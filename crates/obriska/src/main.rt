@@ -2,6 +2,7 @@
 ghost use mathlib.Core.Path.{_≡_};
 ghost use Prim.Native.Nat.{_≤_};
 ghost use lib.ListN.{length};
+ghost use Rattle.handle.specs.Words.{recordsIn};
 ghost use Rattle.valid.specs.Meaning.{memoryOf};
 ghost use Rattle.obriska.specs.Serving.{bufferBytes, Ready, Steps, Serves, Room, Refilled, Advances};
 use handle::Handles;
@@ -47,7 +48,7 @@ fn feed_once(
     stations: &mut [u64],
     pending: &mut [u8],
 ) -> Step
-    ensures { λ r. ⌜ Steps station (now (chunk .entry)) (memoryOf (now (tokens .entry)) (now (dacls .entry)) (handles .items) (now (stations .entry)) (now (pending .entry))) (memoryOf (now (tokens .exit)) (now (dacls .exit)) (r .handles .items) (now (stations .exit)) (now (pending .exit))) (length (now (answer .entry))) r ⌝ }
+    ensures { λ r. ⌜ Steps station (now (chunk .entry)) (memoryOf (now (tokens .entry)) (now (dacls .entry)) (recordsIn (handles .words)) (now (stations .entry)) (now (pending .entry))) (memoryOf (now (tokens .exit)) (now (dacls .exit)) (recordsIn (r .handles .words)) (now (stations .exit)) (now (pending .exit))) (length (now (answer .entry))) r ⌝ }
 {
     let t = turn::feed(
         station,
@@ -87,7 +88,7 @@ fn serve(
     stations: &mut [u64],
     pending: &mut [u8],
 ) -> Served
-    ensures { λ r. ⌜ Serves station (now (chunk .entry)) (memoryOf (now (tokens .entry)) (now (dacls .entry)) (handles .items) (now (stations .entry)) (now (pending .entry))) (memoryOf (now (tokens .exit)) (now (dacls .exit)) (r .handles .items) (now (stations .exit)) (now (pending .exit))) (length (now (answer .entry))) (r .written) ⌝ }
+    ensures { λ r. ⌜ Serves station (now (chunk .entry)) (memoryOf (now (tokens .entry)) (now (dacls .entry)) (recordsIn (handles .words)) (now (stations .entry)) (now (pending .entry))) (memoryOf (now (tokens .exit)) (now (dacls .exit)) (recordsIn (r .handles .words)) (now (stations .exit)) (now (pending .exit))) (length (now (answer .entry))) (r .written) ⌝ }
 {
     let mut held = handles;
     let mut used: usize = 0;
@@ -145,7 +146,7 @@ fn advance(
     end: usize,
 ) -> Advanced
     requires { ⌜ (from ≤ end) × (end ≤ length (now buffer)) × (length (now buffer) ≡ bufferBytes) ⌝ }
-    ensures { λ r. ⌜ Advances from end (now (buffer .entry)) (now (buffer .exit)) (memoryOf (now (tokens .entry)) (now (dacls .entry)) (handles .items) (now (stations .entry)) (now (pending .entry))) (memoryOf (now (tokens .exit)) (now (dacls .exit)) (r .handles .items) (now (stations .exit)) (now (pending .exit))) (length (now (answer .entry))) r ⌝ }
+    ensures { λ r. ⌜ Advances from end (now (buffer .entry)) (now (buffer .exit)) (memoryOf (now (tokens .entry)) (now (dacls .entry)) (recordsIn (handles .words)) (now (stations .entry)) (now (pending .entry))) (memoryOf (now (tokens .exit)) (now (dacls .exit)) (recordsIn (r .handles .words)) (now (stations .exit)) (now (pending .exit))) (length (now (answer .entry))) r ⌝ }
 {
     match input::next_chunk(&buffer[..end], from) {
         Next::Stop => Advanced {
@@ -199,7 +200,7 @@ fn run(
     stations: &mut [u64],
     pending: &mut [u8],
 )
-    requires { ⌜ Ready (now buffer) (now answer) (memoryOf (now tokens) (now dacls) (handles .items) (now stations) (now pending)) ⌝ }
+    requires { ⌜ Ready (now buffer) (now answer) (memoryOf (now tokens) (now dacls) (recordsIn (handles .words)) (now stations) (now pending)) ⌝ }
 {
     let mut held = handles;
     let mut left = CHUNKS;

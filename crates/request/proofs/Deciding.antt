@@ -36,13 +36,13 @@ holds b σ x rest e = rw (not-false b e)
 
 -- ---- the parts after it
 
-handles-long : (σ : State) (hs : List Handle) → valid σ ≡ true → HandlesIn σ hs → length hs ≡ handleSlots
-handles-long σ hs v i =
+records-long : (σ : State) (hs : List Handle) → valid σ ≡ true → HandlesIn σ hs → length hs ≡ handleSlots
+records-long σ hs v i =
     sym (length-map hs handleOf) ∙ ap length (i .records) ∙ length-map (σ .handles .slots) slotHandle ∙ valid-facts σ v .loose .handles .sized
 
 -- a slot past the end is none
 no-change : (σ : State) (hs : List Handle) (a : Answer) (r : Outcome) → valid σ ≡ true → HandlesIn σ hs → Ends a r → changed hs (r .change) ≡ hs
-no-change σ hs a r v i e = set-out hs (r .change .slot) (r .change .handle) (let l = handles-long σ hs v i in let s = e .slot in omega arith)
+no-change σ hs a r v i e = set-out hs (r .change .slot) (r .change .handle) (let l = records-long σ hs v i in let s = e .slot in omega arith)
 
 module _ {x : State → Decision} {hs : List Handle} {ss ts ds : List ℕ} where
   -- a refusal: nothing changes

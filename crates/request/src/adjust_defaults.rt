@@ -3,6 +3,7 @@ ghost use mathlib.Core.List.{[]};
 ghost use Prim.Native.Nat.{_≤_};
 ghost use lib.ListN.{length};
 ghost use Rattle.rules.specs.Request.{byte};
+ghost use Rattle.handle.specs.Words.{recordsIn};
 ghost use Rattle.state.specs.Parts.{Lent};
 ghost use Rattle.request.specs.Layout.{valuesAt, There};
 ghost use Rattle.request.specs.Defaults.{DefaultsCarried};
@@ -10,7 +11,7 @@ use crate::defaults;
 use crate::located::locate;
 use crate::outcome;
 use crate::outcome::Outcome;
-use handle::Handles;
+use handle::HANDLE_WORDS;
 use privilege::mask::Mask;
 use token::MAX_DACL;
 use token::row::TOKEN_WORDS;
@@ -25,13 +26,13 @@ pub fn adjust_defaults(
     size: u64,
     s: &[u8],
     at: usize,
-    handles: Handles,
+    handles: &[u64; HANDLE_WORDS],
     tokens: &mut [u64],
     dacls: &mut [u8],
     stations: &[u64],
 ) -> Outcome
     requires { ⌜ Lent (now tokens) (now dacls) (now stations) × (at ≤ length (now s)) × There byte (now s) at size [] ⌝ }
-    ensures { λ r. ⌜ DefaultsCarried station number owner group flag (valuesAt byte (now (s .entry)) at size) (handles .items) (now (stations .entry)) (now (tokens .entry)) (now (dacls .entry)) (now (stations .entry)) (now (tokens .exit)) (now (dacls .exit)) r ⌝ }
+    ensures { λ r. ⌜ DefaultsCarried station number owner group flag (valuesAt byte (now (s .entry)) at size) (recordsIn (now (handles .entry))) (now (stations .entry)) (now (tokens .entry)) (now (dacls .entry)) (now (stations .entry)) (now (tokens .exit)) (now (dacls .exit)) r ⌝ }
 {
     let x = locate(station, number, Mask::ADJUST_DEFAULT, handles, tokens);
     if x.refusal != 0 {

@@ -3,6 +3,7 @@ ghost use mathlib.Core.Path.{_≡_};
 ghost use lib.ListN.{length, drop};
 ghost use Rattle.rules.specs.Memory.{tokenWords};
 ghost use Rattle.rules.specs.AdjustGroups.{adjust};
+ghost use Rattle.handle.specs.Words.{recordsIn};
 ghost use Rattle.state.specs.Parts.{Lent};
 ghost use Rattle.request.specs.Adjusts.{EntriesCarried};
 ghost use Rattle.request.specs.Switching.{RowSwitched};
@@ -11,7 +12,7 @@ use crate::groups;
 use crate::located;
 use crate::outcome;
 use crate::outcome::Outcome;
-use handle::Handles;
+use handle::HANDLE_WORDS;
 use privilege::mask::Mask;
 use token::MAX_GROUPS;
 use token::row;
@@ -40,13 +41,13 @@ pub fn adjust_groups(
     s: &[u8],
     at: usize,
     count: u64,
-    handles: Handles,
+    handles: &[u64; HANDLE_WORDS],
     tokens: &mut [u64],
     dacls: &[u8],
     stations: &[u64],
 ) -> Outcome
     requires { ⌜ Lent (now tokens) (now dacls) (now stations) ⌝ }
-    ensures { λ r. ⌜ EntriesCarried adjust station number (now (s .entry)) at count (handles .items) (now (stations .entry)) (now (tokens .entry)) (now (dacls .entry)) (now (stations .entry)) (now (tokens .exit)) (now (dacls .entry)) r ⌝ }
+    ensures { λ r. ⌜ EntriesCarried adjust station number (now (s .entry)) at count (recordsIn (now (handles .entry))) (now (stations .entry)) (now (tokens .entry)) (now (dacls .entry)) (now (stations .entry)) (now (tokens .exit)) (now (dacls .entry)) r ⌝ }
 {
     let x = located::locate(station, number, Mask::ADJUST_GROUPS, handles, tokens);
     if x.refusal != 0 {

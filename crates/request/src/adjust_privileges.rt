@@ -4,6 +4,7 @@ ghost use lib.ListN.{length, drop};
 ghost use Rattle.rules.specs.Memory.{tokenWords};
 ghost use Rattle.rules.specs.Request.{times, entry};
 ghost use Rattle.rules.specs.AdjustPrivileges.{adjust};
+ghost use Rattle.handle.specs.Words.{recordsIn};
 ghost use Rattle.state.specs.Parts.{Lent};
 ghost use Rattle.request.specs.Ending.{RowEnds};
 ghost use Rattle.request.specs.Adjusting.{privilegesEnding};
@@ -13,7 +14,7 @@ use crate::located;
 use crate::outcome;
 use crate::outcome::Outcome;
 use crate::privileges;
-use handle::Handles;
+use handle::HANDLE_WORDS;
 use privilege::mask::Mask;
 use token::row;
 use token::row::TOKEN_WORDS;
@@ -40,13 +41,13 @@ pub fn adjust_privileges(
     s: &[u8],
     at: usize,
     count: u64,
-    handles: Handles,
+    handles: &[u64; HANDLE_WORDS],
     tokens: &mut [u64],
     dacls: &[u8],
     stations: &[u64],
 ) -> Outcome
     requires { ⌜ Lent (now tokens) (now dacls) (now stations) ⌝ }
-    ensures { λ r. ⌜ EntriesCarried adjust station number (now (s .entry)) at count (handles .items) (now (stations .entry)) (now (tokens .entry)) (now (dacls .entry)) (now (stations .entry)) (now (tokens .exit)) (now (dacls .entry)) r ⌝ }
+    ensures { λ r. ⌜ EntriesCarried adjust station number (now (s .entry)) at count (recordsIn (now (handles .entry))) (now (stations .entry)) (now (tokens .entry)) (now (dacls .entry)) (now (stations .entry)) (now (tokens .exit)) (now (dacls .entry)) r ⌝ }
 {
     let x = located::locate(station, number, Mask::ADJUST_PRIVILEGES, handles, tokens);
     if x.refusal != 0 {

@@ -5,6 +5,7 @@ ghost use lib.ListN.{length, replicate};
 ghost use Rattle.rules.specs.State.{stationCount};
 ghost use Rattle.rules.specs.Memory.{tokenWords};
 ghost use Rattle.rules.specs.Create.{validIntegrity};
+ghost use Rattle.handle.specs.Words.{recordsIn};
 ghost use Rattle.state.specs.Parts.{Lent};
 ghost use Rattle.request.specs.Creates.{RowMade, RowCreated, CreateCarried};
 use crate::create::read_groups;
@@ -12,7 +13,7 @@ use crate::issue::can_issue;
 use crate::issue::issue_row;
 use crate::outcome;
 use crate::outcome::Outcome;
-use handle::Handles;
+use handle::HANDLE_WORDS;
 use privilege::mask::Mask;
 use privilege::privileges::Privileges;
 use privilege::words;
@@ -68,13 +69,13 @@ fn make(
 fn issue_created(
     station: u32,
     row: &[u64],
-    handles: Handles,
+    handles: &[u64; HANDLE_WORDS],
     tokens: &mut [u64],
     dacls: &mut [u8],
     stations: &mut [u64],
 ) -> Outcome
     requires { ⌜ Lent (now tokens) (now dacls) (now stations) × (station < stationCount) × (length (now row) ≡ tokenWords) ⌝ }
-    ensures { λ r. ⌜ RowCreated station (now (row .entry)) (handles .items) (now (stations .entry)) (now (tokens .entry)) (now (dacls .entry)) (now (stations .exit)) (now (tokens .exit)) (now (dacls .exit)) r ⌝ }
+    ensures { λ r. ⌜ RowCreated station (now (row .entry)) (recordsIn (now (handles .entry))) (now (stations .entry)) (now (tokens .entry)) (now (dacls .entry)) (now (stations .exit)) (now (tokens .exit)) (now (dacls .exit)) r ⌝ }
 {
     if !can_issue(handles, tokens, stations) {
         return outcome::refused(8);
@@ -95,13 +96,13 @@ pub fn create_token(
     s: &[u8],
     at: usize,
     count: u64,
-    handles: Handles,
+    handles: &[u64; HANDLE_WORDS],
     tokens: &mut [u64],
     dacls: &mut [u8],
     stations: &mut [u64],
 ) -> Outcome
     requires { ⌜ Lent (now tokens) (now dacls) (now stations) × (station < stationCount) ⌝ }
-    ensures { λ r. ⌜ CreateCarried station user session integrity present «by_default» (now (s .entry)) at count (handles .items) (now (stations .entry)) (now (tokens .entry)) (now (dacls .entry)) (now (stations .exit)) (now (tokens .exit)) (now (dacls .exit)) r ⌝ }
+    ensures { λ r. ⌜ CreateCarried station user session integrity present «by_default» (now (s .entry)) at count (recordsIn (now (handles .entry))) (now (stations .entry)) (now (tokens .entry)) (now (dacls .entry)) (now (stations .exit)) (now (tokens .exit)) (now (dacls .exit)) r ⌝ }
 {
     if !held(Privileges::CREATE_TOKEN, station, tokens, stations) {
         return outcome::refused(4);

@@ -5,6 +5,7 @@ ghost use lib.ListN.{length};
 ghost use Rattle.rules.specs.State.{tokenSlots, stationCount};
 ghost use Rattle.rules.specs.Memory.{tokenWords};
 ghost use Rattle.rules.specs.Duplicate as rules;
+ghost use Rattle.handle.specs.Words.{recordsIn};
 ghost use Rattle.state.specs.Parts.{Lent};
 ghost use Rattle.request.specs.Carried.{Carried};
 ghost use Rattle.request.specs.Issue.{NumbersLeft};
@@ -15,7 +16,7 @@ use crate::issue::issue_row;
 use crate::located;
 use crate::outcome;
 use crate::outcome::Outcome;
-use handle::Handles;
+use handle::HANDLE_WORDS;
 use privilege::mask::Mask;
 use state::tokens::identity_at;
 use state::tokens::next_token;
@@ -63,13 +64,13 @@ fn issue_copy(
     slot: usize,
     kind: u32,
     level: u32,
-    handles: Handles,
+    handles: &[u64; HANDLE_WORDS],
     tokens: &mut [u64],
     dacls: &mut [u8],
     stations: &mut [u64],
 ) -> Outcome
     requires { ⌜ Lent (now tokens) (now dacls) (now stations) × (slot < tokenSlots) × NumbersLeft (now stations) ⌝ }
-    ensures { λ r. ⌜ CopyIssued (copiedAs kind level) slot station mask (handles .items) (now (stations .entry)) (now (tokens .entry)) (now (dacls .entry)) (now (stations .exit)) (now (tokens .exit)) (now (dacls .exit)) r ⌝ }
+    ensures { λ r. ⌜ CopyIssued (copiedAs kind level) slot station mask (recordsIn (now (handles .entry))) (now (stations .entry)) (now (tokens .entry)) (now (dacls .entry)) (now (stations .exit)) (now (tokens .exit)) (now (dacls .exit)) r ⌝ }
 {
     let n = next_token(stations);
     let mut copy = copies::words_at(slot, tokens);
@@ -92,13 +93,13 @@ fn issue_anonymous(
     station: u32,
     mask: u32,
     slot: usize,
-    handles: Handles,
+    handles: &[u64; HANDLE_WORDS],
     tokens: &mut [u64],
     dacls: &mut [u8],
     stations: &mut [u64],
 ) -> Outcome
     requires { ⌜ Lent (now tokens) (now dacls) (now stations) × (slot < tokenSlots) × NumbersLeft (now stations) ⌝ }
-    ensures { λ r. ⌜ CopyIssued rules.anonymousCopy slot station mask (handles .items) (now (stations .entry)) (now (tokens .entry)) (now (dacls .entry)) (now (stations .exit)) (now (tokens .exit)) (now (dacls .exit)) r ⌝ }
+    ensures { λ r. ⌜ CopyIssued rules.anonymousCopy slot station mask (recordsIn (now (handles .entry))) (now (stations .entry)) (now (tokens .entry)) (now (dacls .entry)) (now (stations .exit)) (now (tokens .exit)) (now (dacls .exit)) r ⌝ }
 {
     let at = slot * TOKEN_WORDS;
     let end = at + TOKEN_WORDS;
@@ -131,13 +132,13 @@ fn issue_duplicate(
     slot: usize,
     kind: u32,
     level: u32,
-    handles: Handles,
+    handles: &[u64; HANDLE_WORDS],
     tokens: &mut [u64],
     dacls: &mut [u8],
     stations: &mut [u64],
 ) -> Outcome
     requires { ⌜ Lent (now tokens) (now dacls) (now stations) × (slot < tokenSlots) × NumbersLeft (now stations) ⌝ }
-    ensures { λ r. ⌜ CopyIssued (duplicatedAs kind level) slot station mask (handles .items) (now (stations .entry)) (now (tokens .entry)) (now (dacls .entry)) (now (stations .exit)) (now (tokens .exit)) (now (dacls .exit)) r ⌝ }
+    ensures { λ r. ⌜ CopyIssued (duplicatedAs kind level) slot station mask (recordsIn (now (handles .entry))) (now (stations .entry)) (now (tokens .entry)) (now (dacls .entry)) (now (stations .exit)) (now (tokens .exit)) (now (dacls .exit)) r ⌝ }
 {
     let anonymous = (kind != PRIMARY) & (level == 0);
     if anonymous {
@@ -177,13 +178,13 @@ pub fn duplicate(
     kind: u32,
     level: u32,
     mask: u32,
-    handles: Handles,
+    handles: &[u64; HANDLE_WORDS],
     tokens: &mut [u64],
     dacls: &mut [u8],
     stations: &mut [u64],
 ) -> Outcome
     requires { ⌜ Lent (now tokens) (now dacls) (now stations) × (station < stationCount) ⌝ }
-    ensures { λ r. ⌜ Carried (λ σ. rules.duplicate σ station number kind level mask) (handles .items) (now (stations .entry)) (now (tokens .entry)) (now (dacls .entry)) (now (stations .exit)) (now (tokens .exit)) (now (dacls .exit)) r ⌝ }
+    ensures { λ r. ⌜ Carried (λ σ. rules.duplicate σ station number kind level mask) (recordsIn (now (handles .entry))) (now (stations .entry)) (now (tokens .entry)) (now (dacls .entry)) (now (stations .exit)) (now (tokens .exit)) (now (dacls .exit)) r ⌝ }
 {
     let x = located::locate(station, number, Mask::DUPLICATE, handles, tokens);
     if x.refusal != 0 {

@@ -5,6 +5,7 @@ ghost use lib.ListN.{length};
 ghost use Rattle.rules.specs.Install as rules;
 ghost use Rattle.rules.specs.State.{tokenSlots, stationCount};
 ghost use Rattle.rules.specs.Memory.{tokenWords};
+ghost use Rattle.handle.specs.Words.{recordsIn};
 ghost use Rattle.state.specs.Parts.{Lent};
 ghost use Rattle.state.specs.StationFacts.{stationsSize};
 ghost use Rattle.request.specs.Carried.{Carried};
@@ -13,7 +14,7 @@ use crate::answer::Answer;
 use crate::lookup::lookup;
 use crate::outcome;
 use crate::outcome::Outcome;
-use handle::Handles;
+use handle::HANDLE_WORDS;
 use privilege::mask::Mask;
 use privilege::privileges::Privileges;
 use state::release;
@@ -71,13 +72,13 @@ fn place(
     same: bool,
     token: u64,
     station: u32,
-    handles: Handles,
+    handles: &[u64; HANDLE_WORDS],
     tokens: &mut [u64],
     dacls: &mut [u8],
     stations: &mut [u64],
 )
     requires { ⌜ Lent (now tokens) (now dacls) (now stations) × (station < stationCount) ⌝ }
-    ensures { λ _. ⌜ Placed same token station (handles .items) (now (stations .entry)) (now (tokens .entry)) (now (dacls .entry)) (now (stations .exit)) (now (tokens .exit)) (now (dacls .exit)) ⌝ }
+    ensures { λ _. ⌜ Placed same token station (recordsIn (now (handles .entry))) (now (stations .entry)) (now (tokens .entry)) (now (dacls .entry)) (now (stations .exit)) (now (tokens .exit)) (now (dacls .exit)) ⌝ }
 {
     mark(same, station, tokens, stations);
     release::install(station, token, handles, tokens, dacls, stations);
@@ -86,13 +87,13 @@ fn place(
 pub fn install(
     station: u32,
     number: u32,
-    handles: Handles,
+    handles: &[u64; HANDLE_WORDS],
     tokens: &mut [u64],
     dacls: &mut [u8],
     stations: &mut [u64],
 ) -> Outcome
     requires { ⌜ Lent (now tokens) (now dacls) (now stations) × (station < stationCount) ⌝ }
-    ensures { λ r. ⌜ Carried (λ σ. rules.install σ station number) (handles .items) (now (stations .entry)) (now (tokens .entry)) (now (dacls .entry)) (now (stations .exit)) (now (tokens .exit)) (now (dacls .exit)) r ⌝ }
+    ensures { λ r. ⌜ Carried (λ σ. rules.install σ station number) (recordsIn (now (handles .entry))) (now (stations .entry)) (now (tokens .entry)) (now (dacls .entry)) (now (stations .exit)) (now (tokens .exit)) (now (dacls .exit)) r ⌝ }
 {
     let target = lookup(station, number, Mask::ASSIGN_PRIMARY, handles);
     if target.refusal != 0 {

@@ -5,21 +5,22 @@ ghost use lib.ListN.{length};
 ghost use Rattle.rules.specs.Token.{maxDacl};
 ghost use Rattle.rules.specs.State.{tokenSlots};
 ghost use Rattle.rules.specs.Memory.{tokenWords};
+ghost use Rattle.handle.specs.Words.{recordsIn};
 ghost use Rattle.state.specs.Parts.{Lent};
 ghost use Rattle.state.specs.StationFacts.{stationsSize};
 ghost use Rattle.request.specs.Issue.{NumbersLeft, IssueRoom, RowIssued};
 use crate::answer::Answer;
 use crate::outcome::Outcome;
-use handle::Handles;
+use handle::HANDLE_WORDS;
 use state::handles::add_handle;
 use state::handles::can_add_handle;
 use state::tokens::add_row;
 use state::tokens::can_add_token;
 
 // Both tables have a free slot and a number left.
-pub fn can_issue(handles: Handles, tokens: &[u64], stations: &[u64]) -> bool
+pub fn can_issue(handles: &[u64; HANDLE_WORDS], tokens: &[u64], stations: &[u64]) -> bool
     requires { ⌜ (length (now tokens) ≡ tokenSlots * tokenWords) × (length (now stations) ≡ stationsSize) ⌝ }
-    ensures { λ r. ⌜ IssueRoom (handles .items) (now (tokens .entry)) (now (stations .entry)) r ⌝ }
+    ensures { λ r. ⌜ IssueRoom (recordsIn (now (handles .entry))) (now (tokens .entry)) (now (stations .entry)) r ⌝ }
 {
     let handle = can_add_handle(handles, stations);
     let token = can_add_token(tokens, stations);
@@ -32,13 +33,13 @@ pub fn issue_row(
     mask: u32,
     words: &[u64],
     bytes: &[u8],
-    handles: Handles,
+    handles: &[u64; HANDLE_WORDS],
     tokens: &mut [u64],
     dacls: &mut [u8],
     stations: &mut [u64],
 ) -> Outcome
     requires { ⌜ Lent (now tokens) (now dacls) (now stations) × (length (now words) ≡ tokenWords) × (length (now bytes) ≡ maxDacl) × NumbersLeft (now stations) ⌝ }
-    ensures { λ r. ⌜ RowIssued station mask (now (words .entry)) (now (bytes .entry)) (handles .items) (now (stations .entry)) (now (tokens .entry)) (now (dacls .entry)) (now (stations .exit)) (now (tokens .exit)) (now (dacls .exit)) r ⌝ }
+    ensures { λ r. ⌜ RowIssued station mask (now (words .entry)) (now (bytes .entry)) (recordsIn (now (handles .entry))) (now (stations .entry)) (now (tokens .entry)) (now (dacls .entry)) (now (stations .exit)) (now (tokens .exit)) (now (dacls .exit)) r ⌝ }
 {
     add_row(words, bytes, tokens, dacls, stations);
     let change = add_handle(station, words[0], mask, handles, stations);

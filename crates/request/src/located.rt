@@ -4,9 +4,10 @@ ghost use Prim.Native.Nat.{_*_};
 ghost use lib.ListN.{length};
 ghost use Rattle.rules.specs.State.{tokenSlots};
 ghost use Rattle.rules.specs.Memory.{tokenWords};
+ghost use Rattle.handle.specs.Words.{recordsIn};
 ghost use Rattle.request.specs.Located.{TokenLocated};
 use crate::lookup;
-use handle::Handles;
+use handle::HANDLE_WORDS;
 use privilege::mask::Mask;
 use token::slots;
 use token::slots::TOKEN_SLOTS;
@@ -20,9 +21,15 @@ pub struct Located {
 }
 
 // In a valid state the token of a live handle is in a slot.
-pub fn locate(station: u32, number: u32, right: Mask, handles: Handles, tokens: &[u64]) -> Located
+pub fn locate(
+    station: u32,
+    number: u32,
+    right: Mask,
+    handles: &[u64; HANDLE_WORDS],
+    tokens: &[u64],
+) -> Located
     requires { ⌜ length (now tokens) ≡ tokenSlots * tokenWords ⌝ }
-    ensures { λ r. ⌜ TokenLocated station number (right .0) (handles .items) (now (tokens .entry)) r ⌝ }
+    ensures { λ r. ⌜ TokenLocated station number (right .0) (recordsIn (now (handles .entry))) (now (tokens .entry)) r ⌝ }
 {
     let target = lookup::lookup(station, number, right, handles);
     let h = target.handle;

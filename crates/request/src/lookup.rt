@@ -1,8 +1,9 @@
 // The handle that a request names.
 ghost use mathlib.Core.Path.{_≡_};
+ghost use Rattle.handle.specs.Words.{recordsIn};
 ghost use Rattle.request.specs.Lookup.{handleRefusal, LookedUp};
+use handle::HANDLE_WORDS;
 use handle::Handle;
-use handle::Handles;
 use privilege::mask::Mask;
 use state::handles::find_handle;
 
@@ -26,8 +27,8 @@ fn refusal_of(found: Handle, right: Mask) -> u64
     3
 }
 
-pub fn lookup(station: u32, number: u32, right: Mask, handles: Handles) -> Target
-    ensures { λ r. ⌜ LookedUp station number (right .0) (handles .items) r ⌝ }
+pub fn lookup(station: u32, number: u32, right: Mask, handles: &[u64; HANDLE_WORDS]) -> Target
+    ensures { λ r. ⌜ LookedUp station number (right .0) (recordsIn (now (handles .entry))) r ⌝ }
 {
     let found = find_handle(station, number, handles);
     Target {

@@ -5,6 +5,7 @@ ghost use lib.ListN.{length};
 ghost use Rattle.rules.specs.State.{tokenSlots};
 ghost use Rattle.rules.specs.Memory.{tokenWords};
 ghost use Rattle.rules.specs.Query as rules;
+ghost use Rattle.handle.specs.Words.{recordsIn};
 ghost use Rattle.state.specs.Parts.{Lent};
 ghost use Rattle.request.specs.Carried.{Carried};
 ghost use Rattle.request.specs.Query.{ClassAnswered};
@@ -13,7 +14,7 @@ use crate::class::size;
 use crate::lookup::lookup;
 use crate::outcome;
 use crate::outcome::Outcome;
-use handle::Handles;
+use handle::HANDLE_WORDS;
 use privilege::mask::Mask;
 use token::row::TOKEN_WORDS;
 use token::slots;
@@ -46,13 +47,13 @@ pub fn query(
     number: u32,
     class: u64,
     capacity: u64,
-    handles: Handles,
+    handles: &[u64; HANDLE_WORDS],
     tokens: &[u64],
     dacls: &[u8],
     stations: &[u64],
 ) -> Outcome
     requires { ⌜ Lent (now tokens) (now dacls) (now stations) ⌝ }
-    ensures { λ r. ⌜ Carried (λ σ. rules.query σ station number class capacity) (handles .items) (now (stations .entry)) (now (tokens .entry)) (now (dacls .entry)) (now (stations .entry)) (now (tokens .entry)) (now (dacls .entry)) r ⌝ }
+    ensures { λ r. ⌜ Carried (λ σ. rules.query σ station number class capacity) (recordsIn (now (handles .entry))) (now (stations .entry)) (now (tokens .entry)) (now (dacls .entry)) (now (stations .entry)) (now (tokens .entry)) (now (dacls .entry)) r ⌝ }
 {
     let target = lookup(station, number, Mask::QUERY, handles);
     if target.refusal != 0 {

@@ -5,6 +5,7 @@ ghost use lib.ListN.{length};
 ghost use Rattle.rules.specs.Token.{maxGroups, maxRestricting};
 ghost use Rattle.rules.specs.State.{tokenSlots, stationCount};
 ghost use Rattle.rules.specs.Memory.{tokenWords};
+ghost use Rattle.handle.specs.Words.{recordsIn};
 ghost use Rattle.state.specs.Parts.{Lent};
 ghost use Rattle.state.specs.StationFacts.{stationsSize};
 ghost use Rattle.request.specs.Issue.{NumbersLeft};
@@ -18,7 +19,7 @@ use crate::outcome::Outcome;
 use crate::restrict::valid_indexes;
 use crate::restricted;
 use crate::restricted::Counts;
-use handle::Handles;
+use handle::HANDLE_WORDS;
 use privilege::mask::Mask;
 use privilege::privileges::Privileges;
 use privilege::words;
@@ -33,12 +34,12 @@ fn refusal_of(
     deny_at: usize,
     deny_count: u64,
     sid_count: u64,
-    handles: Handles,
+    handles: &[u64; HANDLE_WORDS],
     tokens: &[u64],
     stations: &[u64],
 ) -> u64
     requires { ⌜ (counts .groups ≤ maxGroups) × (counts .restricting ≤ maxRestricting) × (length (now tokens) ≡ tokenSlots * tokenWords) × (length (now stations) ≡ stationsSize) ⌝ }
-    ensures { λ r. ⌜ RestrictRefusal counts mark removed (now (s .entry)) «deny_at» «deny_count» «sid_count» (handles .items) (now (stations .entry)) (now (tokens .entry)) r ⌝ }
+    ensures { λ r. ⌜ RestrictRefusal counts mark removed (now (s .entry)) «deny_at» «deny_count» «sid_count» (recordsIn (now (handles .entry))) (now (stations .entry)) (now (tokens .entry)) r ⌝ }
 {
     let indexes = valid_indexes(counts.groups, s, deny_at, deny_count);
     let valid = (mark <= 1) & words::within(removed, Privileges::EXISTING) & indexes;
@@ -67,13 +68,13 @@ fn issue_restricted(
     deny_count: u64,
     sid_at: usize,
     sid_count: u64,
-    handles: Handles,
+    handles: &[u64; HANDLE_WORDS],
     tokens: &mut [u64],
     dacls: &mut [u8],
     stations: &mut [u64],
 ) -> Outcome
     requires { ⌜ Lent (now tokens) (now dacls) (now stations) × (slot < tokenSlots) × NumbersLeft (now stations) × (counts .groups ≤ maxGroups) × (counts .restricting + «sid_count» ≤ maxRestricting) ⌝ }
-    ensures { λ r. ⌜ RestrictedIssued slot counts mark removed (now (s .entry)) «deny_at» «deny_count» «sid_at» «sid_count» station mask (handles .items) (now (stations .entry)) (now (tokens .entry)) (now (dacls .entry)) (now (stations .exit)) (now (tokens .exit)) (now (dacls .exit)) r ⌝ }
+    ensures { λ r. ⌜ RestrictedIssued slot counts mark removed (now (s .entry)) «deny_at» «deny_count» «sid_at» «sid_count» station mask (recordsIn (now (handles .entry))) (now (stations .entry)) (now (tokens .entry)) (now (dacls .entry)) (now (stations .exit)) (now (tokens .exit)) (now (dacls .exit)) r ⌝ }
 {
     let n = next_token(stations);
     let mut copy = copies::words_at(slot, tokens);
@@ -112,13 +113,13 @@ pub fn restrict_token(
     deny_count: u64,
     sid_at: usize,
     sid_count: u64,
-    handles: Handles,
+    handles: &[u64; HANDLE_WORDS],
     tokens: &mut [u64],
     dacls: &mut [u8],
     stations: &mut [u64],
 ) -> Outcome
     requires { ⌜ Lent (now tokens) (now dacls) (now stations) × (station < stationCount) ⌝ }
-    ensures { λ r. ⌜ RestrictCarried station number mark removed (now (s .entry)) «deny_at» «deny_count» «sid_at» «sid_count» (handles .items) (now (stations .entry)) (now (tokens .entry)) (now (dacls .entry)) (now (stations .exit)) (now (tokens .exit)) (now (dacls .exit)) r ⌝ }
+    ensures { λ r. ⌜ RestrictCarried station number mark removed (now (s .entry)) «deny_at» «deny_count» «sid_at» «sid_count» (recordsIn (now (handles .entry))) (now (stations .entry)) (now (tokens .entry)) (now (dacls .entry)) (now (stations .exit)) (now (tokens .exit)) (now (dacls .exit)) r ⌝ }
 {
     let x = located::locate(station, number, Mask::DUPLICATE, handles, tokens);
     if x.refusal != 0 {

@@ -10,12 +10,13 @@ ghost use Rattle.request.specs.Carried.{Carried};
 ghost use Rattle.state.specs.StationFacts.{stationsSize};
 ghost use Rattle.state.specs.TokenCalls.{WordsChanged};
 ghost use Rattle.token.specs.Row.{Becomes};
+ghost use Rattle.handle.specs.Words.{recordsIn};
 ghost use Rattle.request.specs.Scope.{ScopeApplied};
 use crate::answer::Answer;
 use crate::lookup::lookup;
 use crate::outcome;
 use crate::outcome::Outcome;
-use handle::Handles;
+use handle::HANDLE_WORDS;
 use privilege::mask::Mask;
 use privilege::privileges::Privileges;
 use state::tokens::held;
@@ -59,13 +60,13 @@ pub fn scope(
     station: u32,
     number: u32,
     value: u32,
-    handles: Handles,
+    handles: &[u64; HANDLE_WORDS],
     tokens: &mut [u64],
     dacls: &[u8],
     stations: &[u64],
 ) -> Outcome
     requires { ⌜ Lent (now tokens) (now dacls) (now stations) × (station < stationCount) ⌝ }
-    ensures { λ r. ⌜ Carried (λ σ. rules.scope σ station number value) (handles .items) (now (stations .entry)) (now (tokens .entry)) (now (dacls .entry)) (now (stations .entry)) (now (tokens .exit)) (now (dacls .entry)) r ⌝ }
+    ensures { λ r. ⌜ Carried (λ σ. rules.scope σ station number value) (recordsIn (now (handles .entry))) (now (stations .entry)) (now (tokens .entry)) (now (dacls .entry)) (now (stations .entry)) (now (tokens .exit)) (now (dacls .entry)) r ⌝ }
 {
     let target = lookup(station, number, Mask::ADJUST_SCOPE, handles);
     if target.refusal != 0 {

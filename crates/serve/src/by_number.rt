@@ -4,9 +4,10 @@ ghost use lib.ListN.{length};
 ghost use Rattle.rules.specs.State.{stationCount};
 ghost use Rattle.rules.specs.Request as rules;
 ghost use Rattle.rules.specs.Request.{numberLayout, createLayout, queryLayout, entriesLayout, scopeLayout, defaultsLayout, duplicateLayout, restrictLayout};
+ghost use Rattle.handle.specs.Words.{recordsIn};
 ghost use Rattle.state.specs.Parts.{Lent};
 ghost use Rattle.serve.specs.Served.{LayoutCarried};
-use handle::Handles;
+use handle::HANDLE_WORDS;
 use number::Cursor;
 use request::layout;
 use request::outcome;
@@ -16,13 +17,13 @@ pub fn open_own(
     station: u32,
     s: &[u8],
     c: Cursor,
-    handles: Handles,
+    handles: &[u64; HANDLE_WORDS],
     tokens: &mut [u64],
     dacls: &mut [u8],
     stations: &mut [u64],
 ) -> Outcome
     requires { ⌜ Lent (now tokens) (now dacls) (now stations) × (station < stationCount) ⌝ }
-    ensures { λ r. ⌜ LayoutCarried (numberLayout rules.openOwn) station (now (s .entry)) c (handles .items) (now (stations .entry)) (now (tokens .entry)) (now (dacls .entry)) (now (stations .exit)) (now (tokens .exit)) (now (dacls .exit)) r ⌝ }
+    ensures { λ r. ⌜ LayoutCarried (numberLayout rules.openOwn) station (now (s .entry)) c (recordsIn (now (handles .entry))) (now (stations .entry)) (now (tokens .entry)) (now (dacls .entry)) (now (stations .exit)) (now (tokens .exit)) (now (dacls .exit)) r ⌝ }
 {
     let f = layout::number(s, c);
     if !f.ok {
@@ -35,13 +36,13 @@ pub fn close(
     station: u32,
     s: &[u8],
     c: Cursor,
-    handles: Handles,
+    handles: &[u64; HANDLE_WORDS],
     tokens: &mut [u64],
     dacls: &mut [u8],
     stations: &mut [u64],
 ) -> Outcome
     requires { ⌜ Lent (now tokens) (now dacls) (now stations) × (station < stationCount) ⌝ }
-    ensures { λ r. ⌜ LayoutCarried (numberLayout rules.close) station (now (s .entry)) c (handles .items) (now (stations .entry)) (now (tokens .entry)) (now (dacls .entry)) (now (stations .exit)) (now (tokens .exit)) (now (dacls .exit)) r ⌝ }
+    ensures { λ r. ⌜ LayoutCarried (numberLayout rules.close) station (now (s .entry)) c (recordsIn (now (handles .entry))) (now (stations .entry)) (now (tokens .entry)) (now (dacls .entry)) (now (stations .exit)) (now (tokens .exit)) (now (dacls .exit)) r ⌝ }
 {
     let f = layout::number(s, c);
     if !f.ok {
@@ -54,13 +55,13 @@ pub fn create(
     station: u32,
     s: &[u8],
     c: Cursor,
-    handles: Handles,
+    handles: &[u64; HANDLE_WORDS],
     tokens: &mut [u64],
     dacls: &mut [u8],
     stations: &mut [u64],
 ) -> Outcome
     requires { ⌜ Lent (now tokens) (now dacls) (now stations) × (station < stationCount) ⌝ }
-    ensures { λ r. ⌜ LayoutCarried createLayout station (now (s .entry)) c (handles .items) (now (stations .entry)) (now (tokens .entry)) (now (dacls .entry)) (now (stations .exit)) (now (tokens .exit)) (now (dacls .exit)) r ⌝ }
+    ensures { λ r. ⌜ LayoutCarried createLayout station (now (s .entry)) c (recordsIn (now (handles .entry))) (now (stations .entry)) (now (tokens .entry)) (now (dacls .entry)) (now (stations .exit)) (now (tokens .exit)) (now (dacls .exit)) r ⌝ }
 {
     let f = layout::create(s, c);
     if !f.ok {
@@ -87,13 +88,13 @@ pub fn query(
     station: u32,
     s: &[u8],
     c: Cursor,
-    handles: Handles,
+    handles: &[u64; HANDLE_WORDS],
     tokens: &mut [u64],
     dacls: &mut [u8],
     stations: &mut [u64],
 ) -> Outcome
     requires { ⌜ Lent (now tokens) (now dacls) (now stations) × (station < stationCount) ⌝ }
-    ensures { λ r. ⌜ LayoutCarried queryLayout station (now (s .entry)) c (handles .items) (now (stations .entry)) (now (tokens .entry)) (now (dacls .entry)) (now (stations .exit)) (now (tokens .exit)) (now (dacls .exit)) r ⌝ }
+    ensures { λ r. ⌜ LayoutCarried queryLayout station (now (s .entry)) c (recordsIn (now (handles .entry))) (now (stations .entry)) (now (tokens .entry)) (now (dacls .entry)) (now (stations .exit)) (now (tokens .exit)) (now (dacls .exit)) r ⌝ }
 {
     let f = layout::query(s, c);
     if !f.ok {
@@ -115,13 +116,13 @@ pub fn privileges(
     station: u32,
     s: &[u8],
     c: Cursor,
-    handles: Handles,
+    handles: &[u64; HANDLE_WORDS],
     tokens: &mut [u64],
     dacls: &mut [u8],
     stations: &mut [u64],
 ) -> Outcome
     requires { ⌜ Lent (now tokens) (now dacls) (now stations) × (station < stationCount) ⌝ }
-    ensures { λ r. ⌜ LayoutCarried (entriesLayout rules.privileges) station (now (s .entry)) c (handles .items) (now (stations .entry)) (now (tokens .entry)) (now (dacls .entry)) (now (stations .exit)) (now (tokens .exit)) (now (dacls .exit)) r ⌝ }
+    ensures { λ r. ⌜ LayoutCarried (entriesLayout rules.privileges) station (now (s .entry)) c (recordsIn (now (handles .entry))) (now (stations .entry)) (now (tokens .entry)) (now (dacls .entry)) (now (stations .exit)) (now (tokens .exit)) (now (dacls .exit)) r ⌝ }
 {
     let f = layout::entries(s, c);
     if !f.ok {
@@ -144,13 +145,13 @@ pub fn groups(
     station: u32,
     s: &[u8],
     c: Cursor,
-    handles: Handles,
+    handles: &[u64; HANDLE_WORDS],
     tokens: &mut [u64],
     dacls: &mut [u8],
     stations: &mut [u64],
 ) -> Outcome
     requires { ⌜ Lent (now tokens) (now dacls) (now stations) × (station < stationCount) ⌝ }
-    ensures { λ r. ⌜ LayoutCarried (entriesLayout rules.groups) station (now (s .entry)) c (handles .items) (now (stations .entry)) (now (tokens .entry)) (now (dacls .entry)) (now (stations .exit)) (now (tokens .exit)) (now (dacls .exit)) r ⌝ }
+    ensures { λ r. ⌜ LayoutCarried (entriesLayout rules.groups) station (now (s .entry)) c (recordsIn (now (handles .entry))) (now (stations .entry)) (now (tokens .entry)) (now (dacls .entry)) (now (stations .exit)) (now (tokens .exit)) (now (dacls .exit)) r ⌝ }
 {
     let f = layout::entries(s, c);
     if !f.ok {
@@ -173,13 +174,13 @@ pub fn scope(
     station: u32,
     s: &[u8],
     c: Cursor,
-    handles: Handles,
+    handles: &[u64; HANDLE_WORDS],
     tokens: &mut [u64],
     dacls: &mut [u8],
     stations: &mut [u64],
 ) -> Outcome
     requires { ⌜ Lent (now tokens) (now dacls) (now stations) × (station < stationCount) ⌝ }
-    ensures { λ r. ⌜ LayoutCarried scopeLayout station (now (s .entry)) c (handles .items) (now (stations .entry)) (now (tokens .entry)) (now (dacls .entry)) (now (stations .exit)) (now (tokens .exit)) (now (dacls .exit)) r ⌝ }
+    ensures { λ r. ⌜ LayoutCarried scopeLayout station (now (s .entry)) c (recordsIn (now (handles .entry))) (now (stations .entry)) (now (tokens .entry)) (now (dacls .entry)) (now (stations .exit)) (now (tokens .exit)) (now (dacls .exit)) r ⌝ }
 {
     let f = layout::scope(s, c);
     if !f.ok {
@@ -192,13 +193,13 @@ pub fn defaults(
     station: u32,
     s: &[u8],
     c: Cursor,
-    handles: Handles,
+    handles: &[u64; HANDLE_WORDS],
     tokens: &mut [u64],
     dacls: &mut [u8],
     stations: &mut [u64],
 ) -> Outcome
     requires { ⌜ Lent (now tokens) (now dacls) (now stations) × (station < stationCount) × (c .at ≤ length (now s)) ⌝ }
-    ensures { λ r. ⌜ LayoutCarried defaultsLayout station (now (s .entry)) c (handles .items) (now (stations .entry)) (now (tokens .entry)) (now (dacls .entry)) (now (stations .exit)) (now (tokens .exit)) (now (dacls .exit)) r ⌝ }
+    ensures { λ r. ⌜ LayoutCarried defaultsLayout station (now (s .entry)) c (recordsIn (now (handles .entry))) (now (stations .entry)) (now (tokens .entry)) (now (dacls .entry)) (now (stations .exit)) (now (tokens .exit)) (now (dacls .exit)) r ⌝ }
 {
     let f = layout::defaults(s, c);
     if !f.ok {
@@ -224,13 +225,13 @@ pub fn duplicate(
     station: u32,
     s: &[u8],
     c: Cursor,
-    handles: Handles,
+    handles: &[u64; HANDLE_WORDS],
     tokens: &mut [u64],
     dacls: &mut [u8],
     stations: &mut [u64],
 ) -> Outcome
     requires { ⌜ Lent (now tokens) (now dacls) (now stations) × (station < stationCount) ⌝ }
-    ensures { λ r. ⌜ LayoutCarried duplicateLayout station (now (s .entry)) c (handles .items) (now (stations .entry)) (now (tokens .entry)) (now (dacls .entry)) (now (stations .exit)) (now (tokens .exit)) (now (dacls .exit)) r ⌝ }
+    ensures { λ r. ⌜ LayoutCarried duplicateLayout station (now (s .entry)) c (recordsIn (now (handles .entry))) (now (stations .entry)) (now (tokens .entry)) (now (dacls .entry)) (now (stations .exit)) (now (tokens .exit)) (now (dacls .exit)) r ⌝ }
 {
     let f = layout::duplicate(s, c);
     if !f.ok {
@@ -253,13 +254,13 @@ pub fn restrict(
     station: u32,
     s: &[u8],
     c: Cursor,
-    handles: Handles,
+    handles: &[u64; HANDLE_WORDS],
     tokens: &mut [u64],
     dacls: &mut [u8],
     stations: &mut [u64],
 ) -> Outcome
     requires { ⌜ Lent (now tokens) (now dacls) (now stations) × (station < stationCount) ⌝ }
-    ensures { λ r. ⌜ LayoutCarried restrictLayout station (now (s .entry)) c (handles .items) (now (stations .entry)) (now (tokens .entry)) (now (dacls .entry)) (now (stations .exit)) (now (tokens .exit)) (now (dacls .exit)) r ⌝ }
+    ensures { λ r. ⌜ LayoutCarried restrictLayout station (now (s .entry)) c (recordsIn (now (handles .entry))) (now (stations .entry)) (now (tokens .entry)) (now (dacls .entry)) (now (stations .exit)) (now (tokens .exit)) (now (dacls .exit)) r ⌝ }
 {
     let f = layout::restrict(s, c);
     if !f.ok {
@@ -286,13 +287,13 @@ pub fn install(
     station: u32,
     s: &[u8],
     c: Cursor,
-    handles: Handles,
+    handles: &[u64; HANDLE_WORDS],
     tokens: &mut [u64],
     dacls: &mut [u8],
     stations: &mut [u64],
 ) -> Outcome
     requires { ⌜ Lent (now tokens) (now dacls) (now stations) × (station < stationCount) ⌝ }
-    ensures { λ r. ⌜ LayoutCarried (numberLayout rules.install) station (now (s .entry)) c (handles .items) (now (stations .entry)) (now (tokens .entry)) (now (dacls .entry)) (now (stations .exit)) (now (tokens .exit)) (now (dacls .exit)) r ⌝ }
+    ensures { λ r. ⌜ LayoutCarried (numberLayout rules.install) station (now (s .entry)) c (recordsIn (now (handles .entry))) (now (stations .entry)) (now (tokens .entry)) (now (dacls .entry)) (now (stations .exit)) (now (tokens .exit)) (now (dacls .exit)) r ⌝ }
 {
     let f = layout::number(s, c);
     if !f.ok {

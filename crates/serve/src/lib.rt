@@ -3,9 +3,10 @@ ghost use Prim.Native.Nat.{_≤_, _<_};
 ghost use lib.ListN.{length};
 ghost use Rattle.rules.specs.State.{stationCount};
 ghost use Rattle.rules.specs.Frame.{maxAnswer};
+ghost use Rattle.handle.specs.Words.{recordsIn};
 ghost use Rattle.state.specs.Parts.{Lent};
 ghost use Rattle.serve.specs.Served.{Held, BodyCarried, BodyServed};
-use handle::Handles;
+use handle::HANDLE_WORDS;
 use request::answer;
 use request::layout;
 use request::outcome;
@@ -24,13 +25,13 @@ pub struct Reply {
 fn carry_out(
     station: u32,
     body: &[u8],
-    handles: Handles,
+    handles: &[u64; HANDLE_WORDS],
     tokens: &mut [u64],
     dacls: &mut [u8],
     stations: &mut [u64],
 ) -> Outcome
     requires { ⌜ Lent (now tokens) (now dacls) (now stations) × (station < stationCount) ⌝ }
-    ensures { λ r. ⌜ BodyCarried station (now (body .entry)) (handles .items) (now (stations .entry)) (now (tokens .entry)) (now (dacls .entry)) (now (stations .exit)) (now (tokens .exit)) (now (dacls .exit)) r ⌝ }
+    ensures { λ r. ⌜ BodyCarried station (now (body .entry)) (recordsIn (now (handles .entry))) (now (stations .entry)) (now (tokens .entry)) (now (dacls .entry)) (now (stations .exit)) (now (tokens .exit)) (now (dacls .exit)) r ⌝ }
 {
     let first = layout::request_number(body);
     let n = first.value;
@@ -54,14 +55,14 @@ fn carry_out(
 pub fn serve(
     station: u32,
     body: &[u8],
-    handles: Handles,
+    handles: &[u64; HANDLE_WORDS],
     tokens: &mut [u64],
     dacls: &mut [u8],
     stations: &mut [u64],
     out: &mut [u8],
 ) -> Reply
-    requires { ⌜ Lent (now tokens) (now dacls) (now stations) × (station < stationCount) × (maxAnswer ≤ length (now out)) × Held (handles .items) (now stations) (now tokens) (now dacls) ⌝ }
-    ensures { λ r. ⌜ BodyServed station (now (body .entry)) (handles .items) (now (stations .entry)) (now (tokens .entry)) (now (dacls .entry)) (now (stations .exit)) (now (tokens .exit)) (now (dacls .exit)) (now (out .entry)) (now (out .exit)) r ⌝ }
+    requires { ⌜ Lent (now tokens) (now dacls) (now stations) × (station < stationCount) × (maxAnswer ≤ length (now out)) × Held (recordsIn (now handles)) (now stations) (now tokens) (now dacls) ⌝ }
+    ensures { λ r. ⌜ BodyServed station (now (body .entry)) (recordsIn (now (handles .entry))) (now (stations .entry)) (now (tokens .entry)) (now (dacls .entry)) (now (stations .exit)) (now (tokens .exit)) (now (dacls .exit)) (now (out .entry)) (now (out .exit)) r ⌝ }
 {
     let done = carry_out(station, body, handles, tokens, dacls, stations);
     let a = done.answer;

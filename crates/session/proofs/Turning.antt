@@ -1,14 +1,15 @@
 -- What the broker's calls by value give to the session. Assumes nothing.
-use Prim.Native.Nat.{ℕ, zero, suc, _≤_, _<_}
+use Prim.Native.Nat.{ℕ, zero, suc, _*_, _≤_, _<_}
 use native.Mathlib.Omega.{arith}
 use mathlib.Core.Path.{_≡_, refl, sym, ap, _∙_}
 use mathlib.Core.List.{List, _∷_}
-use lib.ListN.{length, getD, take, drop, replicate, length-append, length-set, length-replicate}
+use lib.ListN.{length, getD, take, drop, replicate, length-append, length-replicate}
 use lib.Seq.{take-at}
 use Rattle.rules.specs.State.{handleSlots}
 use Rattle.rules.specs.Memory.{Memory}
 use Rattle.rules.specs.Calls.{feedOn, buffer}
-use Rattle.handle.specs.Meaning.{none, Sized}
+use Rattle.handle.specs.Meaning.{none}
+use Rattle.handle.specs.Words.{slotWords, recordsFrom, recordsIn}
 use Rattle.handle.specs.Loaded.{loaded}
 use Rattle.handle.specs.declared.Handle.{Handle}
 use Rattle.handle.specs.declared.Handles.{Handles}
@@ -17,6 +18,7 @@ use Rattle.state.specs.HandleFacts.{changed}
 use Rattle.broker.specs.Promise.{Feeds, freed, StartsWith, FeedsWith}
 use Rattle.broker.specs.declared.by_value.Turn.{Turn}
 use Rattle.broker.specs.declared.by_value.Started.{Started}
+use Rattle.handle.proofs.Words.{records-long}
 use Rattle.broker.proofs.Freeing.{of-bytes}
 use Rattle.session.specs.Program.{fed}
 use Rattle.session.specs.Turns.{Starts, Turns}
@@ -25,18 +27,23 @@ use Rattle.session.proofs.Feeding.{call-goes, call-valid, call-taken, c
 
 -- ---- start
 
+-- zeros are free slots
+records-none : recordsIn (replicate (handleSlots * slotWords) 0) ≡ replicate handleSlots none
+unfolding recordsFrom
+records-none = refl
+
 none-freed : (n k : ℕ) → k ≤ n → freed k (replicate n none) ≡ replicate n none
 none-freed n zero h = refl
 none-freed zero (suc k) h = absurd (omega arith)
 none-freed (suc n) (suc k) h = ap (λ (hs : List Handle). none ∷ hs) (none-freed n k (omega arith))
 
 pub started : (ts ds ss ps ts′ ds′ ss′ ps′ : List ℕ) (x : Started) → StartsWith handleSlots ts ds ss ps ts′ ds′ ss′ ps′ x
-    → Starts ts ds ss ps ts′ ds′ ss′ ps′ (record { items = replicate handleSlots none })
+    → Starts ts ds ss ps ts′ ds′ ss′ ps′ (record { words = replicate (handleSlots * slotWords) 0 })
 started ts ds ss ps ts′ ds′ ss′ ps′ x w =
     let hs : List Handle = replicate handleSlots none in
     record {
-      handles = refl;
-      memory = ap (λ (y : List Handle). memoryOf ts′ ds′ y ss′ ps′) (sym (none-freed handleSlots (x .freed) (w .inside))) ∙ w .started hs (length-replicate handleSlots none) .memory;
+      handles = records-none;
+      memory = rw records-none (ap (λ (y : List Handle). memoryOf ts′ ds′ y ss′ ps′) (sym (none-freed handleSlots (x .freed) (w .inside))) ∙ w .started hs (length-replicate handleSlots none) .memory);
     }
 
 -- ---- feed
@@ -61,12 +68,15 @@ module _ (s : ℕ) (chunk : List ℕ) (bytes : (i : ℕ) → getD chunk i 0 < 25
         skipped = λ v fits some z. rw (f .memory) (call-skipped m v s chunk (length out) (of-bytes chunk bytes) fits some (λ e. z (f .refusal ∙ e)));
       }
 
-module _ (chunk : List ℕ) (bytes : (i : ℕ) → getD chunk i 0 < 256) (s : ℕ) (hs : List Handle) (ts ds ss ps out ts′ ds′ ss′ ps′ out′ : List ℕ) (x : Turn) where
+module _ (chunk : List ℕ) (bytes : (i : ℕ) → getD chunk i 0 < 256) (s : ℕ) (ws ts ds ss ps out ts′ ds′ ss′ ps′ out′ : List ℕ) (x : Turn) where
+  abbrev hs : List Handle
+  hs = recordsIn ws
+
   pub turned : FeedsWith s chunk handleSlots hs ts ds ss ps out ts′ ds′ ss′ ps′ out′ x
-      → (n : Handles) → (n .items ≡ changed hs (x .change)) × Sized n
-      → Turns s chunk (memoryOf ts ds hs ss ps) (memoryOf ts′ ds′ (n .items) ss′ ps′) out out′ (record { fed = x .fed; handles = n })
+      → (n : Handles) → recordsIn (n .words) ≡ changed hs (x .change)
+      → Turns s chunk (memoryOf ts ds hs ss ps) (memoryOf ts′ ds′ (recordsIn (n .words)) ss′ ps′) out out′ (record { fed = x .fed; handles = n })
   turned w n e =
-      let l : length hs ≡ handleSlots = sym (length-set hs (x .change .slot) (x .change .handle)) ∙ sym (ap length (e .0)) ∙ e .1 .long in
+      let l : length hs ≡ handleSlots = records-long handleSlots ws in
       let all : loaded hs ≡ hs = take-at hs (replicate handleSlots none) handleSlots l in
-      turns s chunk bytes (memoryOf ts ds hs ss ps) (memoryOf ts′ ds′ (n .items) ss′ ps′) out out′ (record { fed = x .fed; handles = n })
-      (rw (e .0) (w .fed hs l all))
+      turns s chunk bytes (memoryOf ts ds hs ss ps) (memoryOf ts′ ds′ (recordsIn (n .words)) ss′ ps′) out out′ (record { fed = x .fed; handles = n })
+      (rw e (w .fed hs l all))

@@ -9,6 +9,7 @@ use Rattle.rules.specs.Frame.{maxAnswer}
 use Rattle.rules.specs.Memory.{Memory, decode, valid}
 use Rattle.rules.specs.Calls.{startOn, feedOn}
 use Rattle.handle.specs.Meaning.{none}
+use Rattle.handle.specs.Words.{recordsIn}
 use Rattle.handle.specs.declared.Handles.{Handles}
 use Rattle.valid.specs.Meaning.{memoryOf}
 use Rattle.broker.specs.Promise.{Feeds}
@@ -17,8 +18,8 @@ use Rattle.session.specs.declared.turn.Turned.{Turned}
 
 -- a start over no handles
 pub record Starts (ts ds ss ps ts′ ds′ ss′ ps′ : List ℕ) (r : Handles) : Type 0 where
-  pub handles : r .items ≡ replicate handleSlots none
-  pub memory : memoryOf ts′ ds′ (r .items) ss′ ps′ ≡ startOn (memoryOf ts ds (r .items) ss ps) .memory
+  pub handles : recordsIn (r .words) ≡ replicate handleSlots none
+  pub memory : memoryOf ts′ ds′ (recordsIn (r .words)) ss′ ps′ ≡ startOn (memoryOf ts ds (recordsIn (r .words)) ss ps) .memory
 
 -- the answer that was written, before what the rest of a chunk brings
 abbrev pub answering : List ℕ → Output → Output

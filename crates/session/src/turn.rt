@@ -1,10 +1,11 @@
 // The broker's calls over memory that the program holds: the lent parts, and the handles by value.
+ghost use Rattle.handle.specs.Words.{recordsIn};
 ghost use Rattle.valid.specs.Meaning.{memoryOf};
 ghost use Rattle.session.specs.Turns.{Starts, Turns};
 use broker::Fed;
 use broker::by_value;
+use handle::HANDLE_WORDS;
 use handle::Handles;
-use handle::NONE;
 use handle::SLOTS;
 
 // What a feed returns, and the handles after it.
@@ -24,7 +25,7 @@ pub fn start(
 {
     by_value::start(tokens, dacls, SLOTS, stations, pending);
     Handles {
-        items: [NONE; SLOTS],
+        words: [0; HANDLE_WORDS],
     }
 }
 
@@ -39,7 +40,7 @@ pub fn feed(
     stations: &mut [u64],
     pending: &mut [u8],
 ) -> Turned
-    ensures { λ r. ⌜ Turns station (now (chunk .entry)) (memoryOf (now (tokens .entry)) (now (dacls .entry)) (handles .items) (now (stations .entry)) (now (pending .entry))) (memoryOf (now (tokens .exit)) (now (dacls .exit)) (r .handles .items) (now (stations .exit)) (now (pending .exit))) (now (out .entry)) (now (out .exit)) r ⌝ }
+    ensures { λ r. ⌜ Turns station (now (chunk .entry)) (memoryOf (now (tokens .entry)) (now (dacls .entry)) (recordsIn (handles .words)) (now (stations .entry)) (now (pending .entry))) (memoryOf (now (tokens .exit)) (now (dacls .exit)) (recordsIn (r .handles .words)) (now (stations .exit)) (now (pending .exit))) (now (out .entry)) (now (out .exit)) r ⌝ }
 {
     let turn = by_value::feed(
         station,

@@ -86,6 +86,7 @@ module _ (s n : ℕ) (hs : List Handle) {i : ℕ} (e : i ≡ findIndex s n hs) w
           ∙ ap (λ (k : ℕ). map slotHandle (set (σ .handles .slots) k free)) (index σ v h)
           ∙ ap (map slotHandle) (sym (exchanged-set (rules.isHandle s n) free (σ .handles .slots)));
     };
+    freed = refl;
   }
 
 -- ---- a new handle

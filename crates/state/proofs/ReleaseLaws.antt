@@ -14,7 +14,7 @@ use Rattle.rules.specs.Table.{free, lives, exchanged, withSlots}
 use Rattle.rules.specs.Index.{foundIndex, freedOne}
 use Rattle.rules.specs.Handle as rules
 use Rattle.rules.specs.State as state
-use Rattle.rules.specs.State.{State, tokenSlots, withTokens, withHandles, withStations, changeStation, isNumbered, setToken, findHandle, dropHandle, handleToken, stationToken, references, released}
+use Rattle.rules.specs.State.{State, tokenSlots, handleSlots, withTokens, withHandles, withStations, changeStation, isNumbered, setToken, findHandle, dropHandle, handleToken, stationToken, references, released}
 use Rattle.rules.specs.Memory.{tokenWords, slotRow, slotDacl}
 use Rattle.rules.proofs.Tables.{live-slot}
 use Rattle.rules.proofs.Index.{exchanged-set}
@@ -22,7 +22,10 @@ use Rattle.rules.proofs.Facts.{Loose, valid-facts}
 use Rattle.rules.proofs.Changes.{drop-loose, token-loose}
 use Rattle.rules.proofs.Released.{close-frees, token-frees}
 use Rattle.handle.specs.declared.Handle.{Handle}
-use Rattle.handle.proofs.Slots.{isReferred}
+use Rattle.handle.specs.Meaning.{none}
+use Rattle.handle.specs.Words.{recordsIn}
+use Rattle.handle.proofs.Slots.{isReferred, kept}
+use Rattle.handle.proofs.Words.{records-long}
 use Rattle.token.specs.Meaning.{slotsOf}
 use Rattle.token.proofs.Laws.{put-words, put-dacls}
 use Rattle.state.specs.Parts.{TokensIn}
@@ -94,28 +97,29 @@ swept {ts′ = ts′} {ds′ = ds′} σ l e f p = record {
   tokens = subst (λ (τ : State). TokensIn τ ts′ ds′) (sym e) (f .tokens σ (loose-formed σ l) p);
 }
 
-pub closed : (s n : ℕ) (hs : List Handle) {rest : List Handle} {ss ts ds ts′ ds′ : List ℕ} {h : Handle} {x : Change}
-    → HandleGiven s n hs h → HandleDropped s n hs x → rest ≡ changed hs x → TokenFreed (h .token) rest ss ts ds ts′ ds′
+pub closed : (s n : ℕ) (hs : List Handle) {ss ts ds ts′ ds′ : List ℕ} {h : Handle} {x : Change}
+    → HandleGiven s n hs h → HandleDropped s n hs x → TokenFreed (h .token) (set hs (x .slot) none) ss ts ds ts′ ds′
     → Closed s n hs ss ts ds ts′ ds′ x
 unfolding state.handleOf dropHandle withHandles withSlots handleToken
-closed s n hs {h = h} {x = x} g d e f = record {
+closed s n hs {h = h} {x = x} g d f = record {
   parts = λ σ v p known.
       let facts = valid-facts σ v in
       let one = close-frees σ s n (state.handleOf σ s n) facts (live-slot rules.noHandle (findHandle σ s n) known) in
       let same : state.handleOf σ s n .token ≡ h .token = ap handleToken (sym (g .handle σ v (p .handles))) in
-      swept (dropHandle s n σ) (drop-loose σ s n (facts .loose)) (rw same at one) (rw e at f)
+      swept (dropHandle s n σ) (drop-loose σ s n (facts .loose)) (rw same at one) (rw (sym (d .freed)) at f)
       (record { handles = d .handles σ v (p .handles); stations = stations-same refl refl refl (p .stations); tokens = tokens-same refl (p .tokens) });
 }
 
-pub installed : (s n : ℕ) {hs : List Handle} {ss ts ds ss′ ts′ ds′ : List ℕ} {before : ℕ}
-    → CallerNumber s ss before → TokenSet s n ss ss′ → TokenFreed before hs ss′ ts ds ts′ ds′
-    → Installed s n hs ss ts ds ss′ ts′ ds′
+-- no slot is freed
+pub installed : (s n : ℕ) (ws : List ℕ) {ss ts ds ss′ ts′ ds′ : List ℕ} {before : ℕ}
+    → CallerNumber s ss before → TokenSet s n ss ss′ → TokenFreed before (set (recordsIn ws) handleSlots none) ss′ ts ds ts′ ds′
+    → Installed s n (recordsIn ws) ss ts ds ss′ ts′ ds′
 unfolding setToken changeStation withStations
-installed s n g k f = record {
+installed s n ws g k f = record {
   parts = λ σ v p t m number type.
       let facts = valid-facts σ v in
       let loose : Loose (setToken s n σ) = subst (λ (i : ℕ). Loose (setToken s i σ)) number (token-loose σ s t m type (facts .loose)) in
       let one = token-frees σ s n facts loose in
-      swept (setToken s n σ) loose (rw (sym (g .number σ (p .stations))) at one) f
+      swept (setToken s n σ) loose (rw (sym (g .number σ (p .stations))) at one) (rw (sym (kept {hs = recordsIn ws} {i = handleSlots} none (records-long handleSlots ws) (omega arith))) at f)
       (record { handles = handles-same refl (p .handles); stations = k .stations σ (p .stations); tokens = tokens-same refl (p .tokens) });
 }

@@ -10,7 +10,7 @@ use Rattle.rules.specs.Table.{isLive}
 use Rattle.rules.specs.Valid.{valid}
 use Rattle.rules.specs.State as state
 use Rattle.rules.specs.State.{State, findHandle, canAddHandle, addHandle, dropHandle}
-use Rattle.handle.specs.Meaning.{handleOf}
+use Rattle.handle.specs.Meaning.{handleOf, none}
 use Rattle.handle.specs.declared.Handle.{Handle}
 use Rattle.state.specs.Parts.{StationsIn, HandlesIn}
 use Rattle.state.specs.Formed.{Formed}
@@ -38,3 +38,4 @@ pub record HandleAdded (station token mask : ℕ) (hs : List Handle) (ss ss′ :
 
 pub record HandleDropped (station number : ℕ) (hs : List Handle) (r : Change) : Type 0 where
   pub handles : (σ : State) → valid σ ≡ true → HandlesIn σ hs → HandlesIn (dropHandle station number σ) (changed hs r)
+  pub freed : r .handle ≡ none

@@ -1,14 +1,15 @@
-// The handles, which come by value: a request changes one of them at most.
+// The handles, which come as words: a request changes one of them at most.
 ghost use mathlib.Core.Path.{_≡_};
 ghost use Prim.Native.Nat.{_<_};
 ghost use lib.ListN.{length};
 ghost use Rattle.rules.specs.Number.{max32};
+ghost use Rattle.handle.specs.Words.{recordsIn};
 ghost use Rattle.state.specs.StationFacts.{stationsSize, nextHandle};
 ghost use Rattle.state.specs.HandleFacts.{HandleGiven, HandleRoom, HandleAdded, HandleDropped};
 use crate::stations::NEXT_HANDLE;
 use crate::stations::next_handle;
+use handle::HANDLE_WORDS;
 use handle::Handle;
-use handle::Handles;
 use handle::NONE;
 use handle::SLOTS;
 
@@ -22,21 +23,20 @@ pub struct Change {
 }
 
 // The station's handle of that number, or NONE.
-pub fn find_handle(station: u32, number: u32, handles: Handles) -> Handle
-    ensures { λ r. ⌜ HandleGiven station number (handles .items) r ⌝ }
+pub fn find_handle(station: u32, number: u32, handles: &[u64; HANDLE_WORDS]) -> Handle
+    ensures { λ r. ⌜ HandleGiven station number (recordsIn (now (handles .entry))) r ⌝ }
 {
     let slot = handle::find(handles, station, number);
-    let items = handles.items;
     if slot < SLOTS {
-        return items[slot];
+        return handle::at(handles, slot);
     }
     NONE
 }
 
 // A slot is free, and a number is left.
-pub fn can_add_handle(handles: Handles, stations: &[u64]) -> bool
+pub fn can_add_handle(handles: &[u64; HANDLE_WORDS], stations: &[u64]) -> bool
     requires { ⌜ length (now stations) ≡ stationsSize ⌝ }
-    ensures { λ r. ⌜ HandleRoom (handles .items) (now (stations .entry)) r ⌝ }
+    ensures { λ r. ⌜ HandleRoom (recordsIn (now (handles .entry))) (now (stations .entry)) r ⌝ }
 {
     let slot = handle::free_slot(handles);
     let next = next_handle(stations);
@@ -48,11 +48,11 @@ pub fn add_handle(
     station: u32,
     token: u64,
     mask: u32,
-    handles: Handles,
+    handles: &[u64; HANDLE_WORDS],
     stations: &mut [u64],
 ) -> Change
     requires { ⌜ (length (now stations) ≡ stationsSize) × (nextHandle (now stations) < max32) ⌝ }
-    ensures { λ r. ⌜ HandleAdded station token mask (handles .items) (now (stations .entry)) (now (stations .exit)) r ⌝ }
+    ensures { λ r. ⌜ HandleAdded station token mask (recordsIn (now (handles .entry))) (now (stations .entry)) (now (stations .exit)) r ⌝ }
 {
     let slot = handle::free_slot(handles);
     let next = stations[NEXT_HANDLE];
@@ -69,8 +69,8 @@ pub fn add_handle(
 }
 
 // The station's handle of that number is freed.
-pub fn drop_handle(station: u32, number: u32, handles: Handles) -> Change
-    ensures { λ r. ⌜ HandleDropped station number (handles .items) r ⌝ }
+pub fn drop_handle(station: u32, number: u32, handles: &[u64; HANDLE_WORDS]) -> Change
+    ensures { λ r. ⌜ HandleDropped station number (recordsIn (now (handles .entry))) r ⌝ }
 {
     let slot = handle::find(handles, station, number);
     Change {

@@ -1,27 +1,32 @@
 // A token lives while a handle or a station refers to it: the changes that take a reference away free the token that lost it.
 ghost use Prim.Native.Nat.{_<_};
+ghost use lib.ListN.{set};
 ghost use Rattle.rules.specs.State.{stationCount};
+ghost use Rattle.handle.specs.Meaning.{none};
+ghost use Rattle.handle.specs.Words.{recordsIn};
 ghost use Rattle.state.specs.Parts.{Lent};
 ghost use Rattle.state.specs.ReleaseFacts.{TokenFreed, Closed, Installed};
 use crate::handles::Change;
 use crate::handles::drop_handle;
 use crate::handles::find_handle;
 use crate::stations;
-use handle::Handles;
+use handle::HANDLE_WORDS;
+use handle::SLOTS;
 use token::slots;
 
-// The token is freed if neither a handle nor a station refers to it.
+// The token is freed if neither a handle, but for the one in a slot that is freed, nor a station refers to it.
 pub fn free_unreferenced(
     token: u64,
-    handles: Handles,
+    freed: usize,
+    handles: &[u64; HANDLE_WORDS],
     tokens: &mut [u64],
     dacls: &mut [u8],
     stations: &[u64],
 )
     requires { ⌜ Lent (now tokens) (now dacls) (now stations) ⌝ }
-    ensures { λ _. ⌜ TokenFreed token (handles .items) (now (stations .entry)) (now (tokens .entry)) (now (dacls .entry)) (now (tokens .exit)) (now (dacls .exit)) ⌝ }
+    ensures { λ _. ⌜ TokenFreed token (set (recordsIn (now (handles .entry))) freed none) (now (stations .entry)) (now (tokens .entry)) (now (dacls .entry)) (now (tokens .exit)) (now (dacls .exit)) ⌝ }
 {
-    let by_handle = handle::refers(handles, token);
+    let by_handle = handle::refers(handles, freed, token);
     let by_station = stations::refers(token, stations);
     if by_handle | by_station {
         return;
@@ -36,18 +41,17 @@ pub fn free_unreferenced(
 pub fn close(
     station: u32,
     number: u32,
-    handles: Handles,
+    handles: &[u64; HANDLE_WORDS],
     tokens: &mut [u64],
     dacls: &mut [u8],
     stations: &[u64],
 ) -> Change
     requires { ⌜ Lent (now tokens) (now dacls) (now stations) ⌝ }
-    ensures { λ r. ⌜ Closed station number (handles .items) (now (stations .entry)) (now (tokens .entry)) (now (dacls .entry)) (now (tokens .exit)) (now (dacls .exit)) r ⌝ }
+    ensures { λ r. ⌜ Closed station number (recordsIn (now (handles .entry))) (now (stations .entry)) (now (tokens .entry)) (now (dacls .entry)) (now (tokens .exit)) (now (dacls .exit)) r ⌝ }
 {
     let found = find_handle(station, number, handles);
     let change = drop_handle(station, number, handles);
-    let rest = handle::place(handles, change.slot, change.handle);
-    free_unreferenced(found.token, rest, tokens, dacls, stations);
+    free_unreferenced(found.token, change.slot, handles, tokens, dacls, stations);
     change
 }
 
@@ -55,15 +59,15 @@ pub fn close(
 pub fn install(
     station: u32,
     number: u64,
-    handles: Handles,
+    handles: &[u64; HANDLE_WORDS],
     tokens: &mut [u64],
     dacls: &mut [u8],
     stations: &mut [u64],
 )
     requires { ⌜ (station < stationCount) × Lent (now tokens) (now dacls) (now stations) ⌝ }
-    ensures { λ _. ⌜ Installed station number (handles .items) (now (stations .entry)) (now (tokens .entry)) (now (dacls .entry)) (now (stations .exit)) (now (tokens .exit)) (now (dacls .exit)) ⌝ }
+    ensures { λ _. ⌜ Installed station number (recordsIn (now (handles .entry))) (now (stations .entry)) (now (tokens .entry)) (now (dacls .entry)) (now (stations .exit)) (now (tokens .exit)) (now (dacls .exit)) ⌝ }
 {
     let before = stations::caller_number(station, stations);
     stations::set_token(station, number, stations);
-    free_unreferenced(before, handles, tokens, dacls, stations);
+    free_unreferenced(before, SLOTS, handles, tokens, dacls, stations);
 }

@@ -1,7 +1,7 @@
 -- How often numbers stand in lists: a list is distinct where each stands in it once, and what that says of the references. Assumes nothing.
-use mathlib.Core.Path.{_≡_, refl, sym, ap, _∙_}
+use mathlib.Core.Path.{_≡_, refl, ap, _∙_}
 use mathlib.Core.Bool.{Bool, true, false, not, _&&_, _||_}
-use mathlib.Core.List.{List, [], _∷_, _++_}
+use mathlib.Core.List.{List, [], _∷_}
 use Prim.Native.Nat.{ℕ, suc, _+_, _≤_}
 use native.Mathlib.Omega.{arith}
 use borrow.Author.Tests.{eq-eqb, ne-eqb, eqb-true, eqb-false, le-leb, lt-leb}
@@ -102,19 +102,9 @@ module _ (ns : List ℕ) (d : distinct ns ≡ true) where
   pub listed : (ys : List ℕ) → eqb (tally ns ys) (length ys) ≡ all (λ y. member y ns) ys
   listed ys = ap (λ (n : ℕ). eqb n (length ys)) (tally-flip ns ys) ∙ among ys
 
-member-append : (n : ℕ) (xs ys : List ℕ) → member n (xs ++ ys) ≡ (member n xs || member n ys)
-unfolding member
-member-append n [] ys = refl
-member-append n (x ∷ xs) ys = by (eqb n x) (member-append n xs ys)
+pub referred : (rs : List ℕ) (x : ℕ) → leb 1 (count x rs) ≡ member x rs
+referred rs x = by (member x rs) (count-none x rs)
   where
-    by : (b : Bool) → member n (xs ++ ys) ≡ (member n xs || member n ys) → (b || member n (xs ++ ys)) ≡ ((b || member n xs) || member n ys)
-    by true e = refl
-    by false e = e
-
-pub referred : (hs ss : List ℕ) (x : ℕ) → leb 1 (count x hs + count x ss) ≡ member x (hs ++ ss)
-referred hs ss x = by (member x hs) (member x ss) (count-none x hs) (count-none x ss) ∙ sym (member-append x hs ss)
-  where
-    by : (a b : Bool) → eqb (count x hs) 0 ≡ not a → eqb (count x ss) 0 ≡ not b → leb 1 (count x hs + count x ss) ≡ (a || b)
-    by true b e f = le-leb 1 (count x hs + count x ss) (let n = eqb-false (count x hs) 0 e in omega (arith, n))
-    by false true e f = le-leb 1 (count x hs + count x ss) (let n = eqb-false (count x ss) 0 f in omega (arith, n))
-    by false false e f = lt-leb 1 (count x hs + count x ss) (omega (arith, eqb-true (count x hs) 0 e, eqb-true (count x ss) 0 f))
+    by : (b : Bool) → eqb (count x rs) 0 ≡ not b → leb 1 (count x rs) ≡ b
+    by true e = le-leb 1 (count x rs) (let n = eqb-false (count x rs) 0 e in omega (arith, n))
+    by false e = lt-leb 1 (count x rs) (omega (arith, eqb-true (count x rs) 0 e))

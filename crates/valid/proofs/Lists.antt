@@ -2,33 +2,33 @@
 use mathlib.Core.Path.{_≡_, refl, sym, ap, ap₂, _∙_}
 use mathlib.Core.Bool.{Bool, true, false, not, _&&_, _||_, and-true, and-comm}
 use mathlib.Core.Logic.{_⊎_, inl, inr, ⊎-elim}
-use mathlib.Core.List.{List, [], _∷_, map}
+use mathlib.Core.List.{List, [], _∷_, _++_, map}
 use Prim.Native.Nat.{ℕ, zero, suc, _+_, _-_, _*_, _%_, _≤_, _<_}
 use native.Mathlib.Nat.{zero-mul, suc-mul, add-comm, add-sub-cancel-left, not-suc-le-zero}
+use native.Mathlib.Numerals.{add-one}
 use native.Mathlib.Omega.{arith}
 use borrow.Author.Tests.{eqb-false, leb-true, le-leb, ltb-true, lt-ltb}
 use lib.Bits.{bitAnd}
 use lib.Dec.{eqb, leb, ltb}
-use lib.ListN.{length, take, drop, getD, set}
-use lib.Seq.{drop-drop}
+use lib.ListN.{length, take, drop, getD, set, length-set, length-drop}
+use lib.Seq.{drop-drop, take-all, take-suc, take-set-le, take-suc-set, drop-set-add}
 use Rattle.table.specs.Rows.{readRows}
-use Rattle.table.specs.Filling.{Filling, filling-more, filling-none}
 use Rattle.rules.specs.Basic.{if_then_else_, all, member, distinct, implies}
 use Rattle.rules.specs.Bits.{within}
 use Rattle.rules.specs.Mask.{validMask}
 use Rattle.rules.specs.Token.{Token, maxDacl, primary}
 use Rattle.rules.specs.Table.{Slot, free, live, lives}
 use Rattle.rules.specs.Handle.{Handle, noHandle}
-use Rattle.rules.specs.State.{numberOf, handleNumber, stationToken}
+use Rattle.rules.specs.State.{handleSlots, stationCount, numberOf, handleNumber, stationToken}
 use Rattle.rules.specs.Valid.{between, handleValid}
 use Rattle.rules.specs.Memory.{slotAt, tokenAt, identityAt, handleAt, slotHandle, sameHandle, sameHandles, stationAt, tokenWords, stationWords, pendingBytes}
 use Rattle.rules.proofs.Logic.{and-r, and-i, or-e, or-l, or-r, either}
-use Rattle.valid.specs.Tests.{slotTest, columnBy, firstWord, otherWord, kept, nonzero, isKept, count, isGiven, isApart, fieldsTest}
+use Rattle.valid.specs.Tests.{slotTest, columnBy, firstWord, otherWord, kept, nonzero, isKept, referenceSlots, Referred, count, isGiven, isApart, fieldsTest}
 use Rattle.valid.proofs.Truth.{same-truth, all-cong, all-and, all-map, eqb-same, eqb-flip}
 use Rattle.valid.proofs.Loops.{Keeping, keeping-none, keeping-more}
 use Rattle.valid.proofs.Counts.{count-none, distinct-count}
 
--- ---- loops over rows: they fill a column, or keep what is not 0 of it
+-- ---- loops over rows: they keep what is not 0 of a column, or write a column behind other elements
 
 module _ (f : List ℕ → ℕ) (w : ℕ) where
   length-column : (n : ℕ) (ws : List ℕ) → length (columnBy f w n ws) ≡ n
@@ -44,22 +44,58 @@ module _ (f : List ℕ → ℕ) (w : ℕ) where
       column-at n i (drop w ws) (omega arith)
       ∙ ap (λ l. f (take w l)) (drop-drop (i * w) w ws ∙ ap (λ (k : ℕ). drop k ws) (add-comm w (i * w) ∙ sym (suc-mul i w)))
 
-  pub column-none : (n : ℕ) (ws out : List ℕ) → length out ≡ n → Filling n (columnBy f w n ws) out 0
-  column-none n ws out e = filling-none n (columnBy f w n ws) out (length-column n ws) e
+  -- the row as the code lends it
+  column-lent : (n i : ℕ) (ws : List ℕ) {v : ℕ} → i < n → v ≡ f (take (i * w + w - i * w) (drop (i * w) ws)) → v ≡ getD (columnBy f w n ws) i 0
+  column-lent n i ws h e = e ∙ ap (λ (k : ℕ). f (take k (drop (i * w) ws))) (add-sub-cancel-left (i * w) w) ∙ sym (column-at n i ws h)
 
-  pub column-more : (ws : List ℕ) {n i v : ℕ} {out : List ℕ} → Filling n (columnBy f w n ws) out i → i < n → v ≡ f (take (i * w + w - i * w) (drop (i * w) ws))
-      → Filling n (columnBy f w n ws) (set out i v) (i + 1)
-  column-more ws {n} {i} {v} t h e =
-      filling-more 0 v t h (e ∙ ap (λ (k : ℕ). f (take k (drop (i * w) ws))) (add-sub-cancel-left (i * w) w) ∙ sym (column-at n i ws h))
+  pub given-none : (n : ℕ) (ws out : List ℕ) → length out ≡ n → Keeping (λ x. x) (λ x. x) (columnBy f w n ws) n n out 0 0
+  given-none n ws out e = keeping-none _ _ _ n n out (length-column n ws) (omega arith) e
 
-  pub given-none : (n : ℕ) (ws out : List ℕ) → length out ≡ n → Keeping (λ x. x) (λ x. x) (columnBy f w n ws) n out 0 0
-  given-none n ws out e = keeping-none _ _ _ n out (length-column n ws) e
-
-  pub given-more : (ws : List ℕ) {n i m v j : ℕ} {out : List ℕ} → Keeping (λ x. x) (λ x. x) (columnBy f w n ws) n out m i → i < n
-      → v ≡ f (take (i * w + w - i * w) (drop (i * w) ws)) → j ≡ isKept v → Keeping (λ x. x) (λ x. x) (columnBy f w n ws) n (set out m v) (m + j) (i + 1)
-  given-more ws {n} {i} {m} {v} t h e ej =
-      let x : v ≡ getD (columnBy f w n ws) i 0 = e ∙ ap (λ (k : ℕ). f (take k (drop (i * w) ws))) (add-sub-cancel-left (i * w) w) ∙ sym (column-at n i ws h) in
+  pub given-more : (ws : List ℕ) {n i m v j : ℕ} {out : List ℕ} → Keeping (λ x. x) (λ x. x) (columnBy f w n ws) n n out m i → i < n
+      → v ≡ f (take (i * w + w - i * w) (drop (i * w) ws)) → j ≡ isKept v → Keeping (λ x. x) (λ x. x) (columnBy f w n ws) n n (set out m v) (m + j) (i + 1)
+  given-more ws {n} {i} t h e ej =
+      let x = column-lent n i ws h e in
       keeping-more _ _ _ 0 t h x (ej ∙ ap isKept x)
+
+-- the stations' tokens are written behind the first n elements of an array
+module _ (n : ℕ) (ws before : List ℕ) where
+  abbrev added : List ℕ
+  added = columnBy firstWord stationWords stationCount ws
+
+  -- after i of them
+  pub record Adding (items : List ℕ) (i : ℕ) : Type 0 where
+    pub within : i ≤ stationCount
+    pub fits : n ≤ handleSlots
+    pub long : length items ≡ referenceSlots
+    pub held : take n items ≡ take n before
+    pub behind : take i (drop n items) ≡ take i added
+
+  pub adding-none : n ≤ handleSlots → length before ≡ referenceSlots → Adding before 0
+  adding-none f l = record { within = omega arith; fits = f; long = l; held = refl; behind = refl }
+
+  pub adding-more : {items : List ℕ} {i v : ℕ} → Adding items i → i < stationCount → v ≡ firstWord (take (i * stationWords + stationWords - i * stationWords) (drop (i * stationWords) ws))
+      → Adding (set items (n + i) v) (i + 1)
+  adding-more {items} {i} {v} t h e = record {
+    within = omega arith;
+    fits = t .fits;
+    long = length-set items (n + i) v ∙ t .long;
+    held = take-set-le n items (n + i) v (omega arith) ∙ t .held;
+    behind =
+        ap₂ take (add-one i) (drop-set-add n items i v)
+        ∙ take-suc-set (drop n items) i v (simp length-drop (omega (arith, t .fits, t .long)))
+        ∙ ap₂ (λ l x. l ++ (x ∷ [])) (t .behind) (column-lent firstWord stationWords stationCount i ws h e)
+        ∙ sym (take-suc added i 0 (omega (arith, length-column firstWord stationWords stationCount ws)))
+        ∙ ap (λ (k : ℕ). take k added) (sym (add-one i));
+  }
+
+  pub adding-done : {items : List ℕ} {i : ℕ} → Adding items i → stationCount ≤ i → Referred (take n before) added n items
+  adding-done {items} {i} t h =
+      let e : i ≡ stationCount = omega (arith, t .within) in
+      record {
+        room = record { fits = omega (arith, t .fits); long = t .long };
+        held = t .held;
+        behind = ap (λ (k : ℕ). take k (drop n items)) (sym e) ∙ t .behind ∙ take-all i added (omega (arith, length-column firstWord stationWords stationCount ws));
+      }
 
 -- ---- what is kept of a list
 

@@ -1,5 +1,5 @@
 -- Loops that test, count or keep elements of a list and are not left early: what is left to do gives what the whole gives. Assumes nothing.
-use mathlib.Core.Path.{_≡_, refl, sym, ap, ap₂, _∙_}
+use mathlib.Core.Path.{_≡_, refl, sym, ap, _∙_}
 use mathlib.Core.Bool.{Bool, true, false, _&&_, and-true, and-assoc}
 use mathlib.Core.List.{List, [], _∷_, _++_, append-assoc, append-nil}
 use Prim.Native.Nat.{ℕ, suc, _+_, _*_, _≤_, _<_}
@@ -11,8 +11,7 @@ use lib.Dec.{eqb, leb}
 use lib.ListN.{length, take, drop, getD, set, length-set, drop-of-length-le}
 use lib.Seq.{drop-cons, take-set-le, take-suc-set}
 use Rattle.rules.specs.Basic.{if_then_else_, all}
-use Rattle.rules.specs.State.{handleSlots}
-use Rattle.valid.specs.Tests.{one, count, tally, isReferred, refsTest, kept, isKept, Front}
+use Rattle.valid.specs.Tests.{one, count, tally, isReferred, refsTest, kept, isKept, Front, referenceSlots, Referred}
 
 -- ---- every element passes
 
@@ -117,61 +116,57 @@ module _ (x : ℕ) (s : List ℕ) where
       let none : count x (drop i s) ≡ 0 = ap (count x) (drop-of-length-le s {i = i} h) in
       omega (arith, none, t .rest)
 
--- ---- the numbers of s are counted in two lists
+-- ---- the numbers of s are counted in a list
 
-module _ (s hs ss : List ℕ) where
-  pub record Tallying (ok : Bool) (h a i : ℕ) : Type 0 where
-    pub referred : Tested (isReferred hs ss) 0 s ok i
-    pub held-few : h ≤ i * handleSlots
-    pub at-few : a ≤ i * handleSlots
-    pub held : h + tally (drop i s) hs ≡ tally s hs
-    pub at : a + tally (drop i s) ss ≡ tally s ss
+module _ (s rs : List ℕ) where
+  -- after i elements
+  pub record Tallying (ok : Bool) (n i : ℕ) : Type 0 where
+    pub referred : Tested (isReferred rs) 0 s ok i
+    pub few : n ≤ i * referenceSlots
+    pub rest : n + tally (drop i s) rs ≡ tally s rs
 
-  pub tallying-none : Tallying true 0 0 0
-  tallying-none = record { referred = tested-none _ _ _; held-few = omega arith; at-few = omega arith; held = omega arith; at = omega arith }
+  pub tallying-none : Tallying true 0 0
+  tallying-none = record { referred = tested-none _ _ _; few = omega arith; rest = omega arith }
 
-  pub tallying-more : {ok : Bool} {h a i x y : ℕ} → Tallying ok h a i → i < length s → length hs ≤ handleSlots → length ss ≤ handleSlots → x ≤ length hs → y ≤ length ss
-      → x ≡ count (getD s i 0) hs → y ≡ count (getD s i 0) ss → Tallying (ok && leb 1 (x + y)) (h + x) (a + y) (i + 1)
+  pub tallying-more : {ok : Bool} {n i x : ℕ} → Tallying ok n i → i < length s → length rs ≤ referenceSlots → x ≤ length rs → x ≡ count (getD s i 0) rs
+      → Tallying (ok && leb 1 x) (n + x) (i + 1)
   unfolding tally
-  tallying-more {ok} {h} {a} {i} {x} {y} t l lh ls fx fy ex ey =
-      let n : ℕ = getD s i 0 in
-      let cut : (zs : List ℕ) → tally (drop i s) zs ≡ count n zs + tally (drop (i + 1) s) zs =
-      λ zs. ap (λ l. tally l zs) (drop-cons s i 0 l) ∙ ap (λ (k : ℕ). count n zs + tally (drop k s) zs) (sym (add-one i)) in
+  tallying-more {ok} {n} {i} {x} t l lr f e =
+      let cut : tally (drop i s) rs ≡ count (getD s i 0) rs + tally (drop (i + 1) s) rs =
+      ap (λ l. tally l rs) (drop-cons s i 0 l) ∙ ap (λ (k : ℕ). count (getD s i 0) rs + tally (drop k s) rs) (sym (add-one i)) in
       record {
-        referred = tested-more _ _ _ (t .referred) l (ap₂ (λ (a b : ℕ). leb 1 (a + b)) ex ey);
-        held-few = omega (arith, t .held-few);
-        at-few = omega (arith, t .at-few);
-        held = omega (arith, t .held, cut hs);
-        at = omega (arith, t .at, cut ss);
+        referred = tested-more _ _ _ (t .referred) l (ap (λ (k : ℕ). leb 1 k) e);
+        few = omega (arith, t .few);
+        rest = omega (arith, t .rest, cut);
       }
 
-  pub tallying-done : {ok : Bool} {h a i : ℕ} → Tallying ok h a i → length s ≤ i → (ok && eqb h (length hs) && eqb a (length ss)) ≡ refsTest s hs ss
+  pub tallying-done : {ok : Bool} {n i : ℕ} → Tallying ok n i → length s ≤ i → (ok && eqb n (length rs)) ≡ refsTest s rs
   unfolding tally refsTest
-  tallying-done {ok} {h} {a} {i} t l =
-      let none : (zs : List ℕ) → tally (drop i s) zs ≡ 0 = λ zs. ap (λ l. tally l zs) (drop-of-length-le s {i = i} l) in
-      let r : ok ≡ all (isReferred hs ss) s = tested-done _ _ _ (t .referred) l in
-      let eh : h ≡ tally s hs = omega (arith, t .held, none hs) in
-      let ea : a ≡ tally s ss = omega (arith, t .at, none ss) in
+  tallying-done {ok} {n} {i} t l =
+      let none : tally (drop i s) rs ≡ 0 = ap (λ l. tally l rs) (drop-of-length-le s {i = i} l) in
+      let r : ok ≡ all (isReferred rs) s = tested-done _ _ _ (t .referred) l in
+      let e : n ≡ tally s rs = omega (arith, t .rest, none) in
       cc
 
 -- ---- elements are kept in the front of an array
 
 module _ {A : Type 0} (k f : A → ℕ) (src : List A) where
   -- after i elements, n were kept
-  pub record Keeping (size : ℕ) (items : List ℕ) (n i : ℕ) : Type 0 where
+  pub record Keeping (size room : ℕ) (items : List ℕ) (n i : ℕ) : Type 0 where
     pub within : i ≤ size
     pub source : length src ≡ size
-    pub long : length items ≡ size
+    pub enough : size ≤ room
+    pub long : length items ≡ room
     pub few : n ≤ i
     pub rest : take n items ++ kept k f (drop i src) ≡ kept k f src
 
-  pub keeping-none : (size : ℕ) (items : List ℕ) → length src ≡ size → length items ≡ size → Keeping size items 0 0
-  keeping-none size items e l = record { within = omega arith; source = e; long = l; few = omega arith; rest = refl }
+  pub keeping-none : (size room : ℕ) (items : List ℕ) → length src ≡ size → size ≤ room → length items ≡ room → Keeping size room items 0 0
+  keeping-none size room items e r l = record { within = omega arith; source = e; enough = r; long = l; few = omega arith; rest = refl }
 
-  pub keeping-more : {size : ℕ} {items : List ℕ} {n i v j : ℕ} (d : A) → Keeping size items n i → i < size → v ≡ f (getD src i d) → j ≡ isKept (k (getD src i d))
-      → Keeping size (set items n v) (n + j) (i + 1)
+  pub keeping-more : {size room : ℕ} {items : List ℕ} {n i v j : ℕ} (d : A) → Keeping size room items n i → i < size → v ≡ f (getD src i d) → j ≡ isKept (k (getD src i d))
+      → Keeping size room (set items n v) (n + j) (i + 1)
   unfolding kept
-  keeping-more {size} {items} {n} {i} {v} {j} d t h ev ej = by (eqb (k a) 0) refl
+  keeping-more {size} {room} {items} {n} {i} {v} {j} d t h ev ej = by (eqb (k a) 0) refl
     where
       a : A
       a = getD src i d
@@ -179,12 +174,13 @@ module _ {A : Type 0} (k f : A → ℕ) (src : List A) where
       cut : kept k f (drop i src) ≡ (if eqb (k a) 0 then kept k f (drop (i + 1) src) else f a ∷ kept k f (drop (i + 1) src))
       cut = ap (kept k f) (drop-cons src i d (omega (arith, t .source))) ∙ ap (λ (m : ℕ). if eqb (k a) 0 then kept k f (drop m src) else f a ∷ kept k f (drop m src)) (sym (add-one i))
 
-      by : (b : Bool) → eqb (k a) 0 ≡ b → Keeping size (set items n v) (n + j) (i + 1)
+      by : (b : Bool) → eqb (k a) 0 ≡ b → Keeping size room (set items n v) (n + j) (i + 1)
       by true e =
           let z : n + j ≡ n = let q : j ≡ 0 = ej ∙ rw e in omega arith in
           record {
             within = omega arith;
             source = t .source;
+            enough = t .enough;
             long = length-set items n v ∙ t .long;
             few = omega (arith, z, t .few);
             rest =
@@ -198,52 +194,57 @@ module _ {A : Type 0} (k f : A → ℕ) (src : List A) where
           record {
             within = omega arith;
             source = t .source;
+            enough = t .enough;
             long = length-set items n v ∙ t .long;
             few = omega (arith, z, t .few);
             rest =
                 ap (λ (m : ℕ). take m (set items n v) ++ kept k f (drop (i + 1) src)) z
-                ∙ ap (λ l. l ++ kept k f (drop (i + 1) src)) (take-suc-set items n v (omega (arith, t .few, t .long)))
+                ∙ ap (λ l. l ++ kept k f (drop (i + 1) src)) (take-suc-set items n v (omega (arith, t .few, t .enough, t .long)))
                 ∙ append-assoc (take n items) (v ∷ []) (kept k f (drop (i + 1) src))
                 ∙ ap (λ x. take n items ++ (x ∷ kept k f (drop (i + 1) src))) ev
                 ∙ ap (λ l. take n items ++ l) (sym (cut ∙ rw e))
                 ∙ t .rest;
           }
 
-  pub keeping-done : {size : ℕ} {items : List ℕ} {n i : ℕ} → Keeping size items n i → size ≤ i → Front size (kept k f src) n items
+  pub keeping-done : {size room : ℕ} {items : List ℕ} {n i : ℕ} → Keeping size room items n i → size ≤ i → Front room (kept k f src) n items
   unfolding kept
   keeping-done {items = items} {n = n} {i = i} t h = record {
-    room = record { fits = omega (arith, t .few, t .within); long = t .long };
+    room = record { fits = omega (arith, t .few, t .within, t .enough); long = t .long };
     front =
         sym (append-nil (take n items))
         ∙ ap (λ l. take n items ++ kept k f l) (sym (drop-of-length-le src {i = i} (omega (arith, t .source))))
         ∙ t .rest;
   }
 
--- the same of two numbers at once, where each element is tested too
+-- the same of two numbers at once, where each element is tested too, and the second array has room for more
 module _ {A : Type 0} (t : A → Bool) (k f g : A → ℕ) (d : A) (src : List A) where
-  pub record Sorting (size : ℕ) (ok : Bool) (fs gs : List ℕ) (n i : ℕ) : Type 0 where
+  pub record Sorting (size room : ℕ) (ok : Bool) (fs gs : List ℕ) (n i : ℕ) : Type 0 where
     pub tested : TestedArray t d src size ok i
-    pub first : Keeping k f src size fs n i
-    pub second : Keeping k g src size gs n i
+    pub first : Keeping k f src size size fs n i
+    pub second : Keeping k g src size room gs n i
 
-  pub sorting-none : (size : ℕ) (fs gs : List ℕ) → length src ≡ size → length fs ≡ size → length gs ≡ size → Sorting size true fs gs 0 0
-  sorting-none size fs gs e lf lg =
-      record { tested = array-none t d src size e; first = keeping-none k f src size fs e lf; second = keeping-none k g src size gs e lg }
+  pub sorting-none : (size room : ℕ) (fs gs : List ℕ) → length src ≡ size → size ≤ room → length fs ≡ size → length gs ≡ room → Sorting size room true fs gs 0 0
+  sorting-none size room fs gs e r lf lg =
+      record { tested = array-none t d src size e; first = keeping-none k f src size size fs e (omega arith) lf; second = keeping-none k g src size room gs e r lg }
 
-  pub sorting-more : {size : ℕ} {ok r : Bool} {fs gs : List ℕ} {n i v w j : ℕ} → Sorting size ok fs gs n i → i < size
-      → r ≡ t (getD src i d) → v ≡ f (getD src i d) → w ≡ g (getD src i d) → j ≡ isKept (k (getD src i d))
-      → Sorting size (ok && r) (set fs n v) (set gs n w) (n + j) (i + 1)
-  sorting-more s h er ev ew ej = record {
-    tested = array-more t d src (s .tested) h er;
-    first = keeping-more k f src d (s .first) h ev ej;
-    second = keeping-more k g src d (s .second) h ew ej;
-  }
+  pub sorting-more : {size room : ℕ} {ok r : Bool} {fs gs : List ℕ} {n i v w j : ℕ} {x : A} → Sorting size room ok fs gs n i → i < size
+      → x ≡ getD src i d → r ≡ t x → v ≡ f x → w ≡ g x → j ≡ isKept (k x)
+      → Sorting size room (ok && r) (set fs n v) (set gs n w) (n + j) (i + 1)
+  sorting-more s h q er ev ew ej =
+      let kept-or-not = ej ∙ ap (λ x. isKept (k x)) q in
+      record {
+        tested = array-more t d src (s .tested) h (er ∙ ap t q);
+        first = keeping-more k f src d (s .first) h (ev ∙ ap f q) kept-or-not;
+        second = keeping-more k g src d (s .second) h (ew ∙ ap g q) kept-or-not;
+      }
 
-  pub sorting-tested : {size : ℕ} {ok : Bool} {fs gs : List ℕ} {n i : ℕ} → Sorting size ok fs gs n i → size ≤ i → ok ≡ all t src
+  pub sorting-tested : {size room : ℕ} {ok : Bool} {fs gs : List ℕ} {n i : ℕ} → Sorting size room ok fs gs n i → size ≤ i → ok ≡ all t src
   sorting-tested s h = array-done t d src (s .tested) h
 
-  pub sorting-first : {size : ℕ} {ok : Bool} {fs gs : List ℕ} {n i : ℕ} → Sorting size ok fs gs n i → size ≤ i → Front size (kept k f src) n fs
+  pub sorting-first : {size room : ℕ} {ok : Bool} {fs gs : List ℕ} {n i : ℕ} → Sorting size room ok fs gs n i → size ≤ i → Front size (kept k f src) n fs
   sorting-first s h = keeping-done k f src (s .first) h
 
-  pub sorting-second : {size : ℕ} {ok : Bool} {fs gs : List ℕ} {n i : ℕ} → Sorting size ok fs gs n i → size ≤ i → Front size (kept k g src) n gs
-  sorting-second s h = keeping-done k g src (s .second) h
+  -- others stand behind those that were kept
+  pub sorting-second : {size room : ℕ} {ok : Bool} {fs gs ss out : List ℕ} {n i : ℕ} → Sorting size room ok fs gs n i → size ≤ i
+      → Referred (take n gs) ss n out → Referred (kept k g src) ss n out
+  sorting-second s h r = record { room = r .room; held = r .held ∙ keeping-done k g src (s .second) h .front; behind = r .behind }

@@ -6,8 +6,8 @@ use Prim.Native.Nat.{ℕ, _+_, _-_, _*_, _^_, _<_}
 use native.Mathlib.Omega.{arith}
 use borrow.Author.Tests.{eq-eqb, ne-eqb, le-leb}
 use lib.Dec.{eqb, leb}
-use lib.ListN.{length, take, drop, getD, length-drop, length-map}
-use lib.Seq.{drop-cons, take-all}
+use lib.ListN.{length, take, drop, getD, length-drop, length-map, take-append-drop}
+use lib.Seq.{drop-cons, take-all, take-take}
 use Rattle.table.specs.Table.{flat}
 use Rattle.table.specs.Rows.{readRows, testRows, length-rows}
 use Rattle.handle.specs.declared.Handle as code
@@ -24,30 +24,31 @@ use Rattle.rules.specs.Valid as Valid
 use Rattle.rules.specs.Valid.{between, tableValid, tokenValid, handleValid, streamValid, isToken, primaryAtStation}
 use Rattle.rules.specs.Memory.{Memory, same, sameHandles, sameMemory, sized, isImage, valid, encode, decode, slotAt, slotRow, slotDacl, slotHandle, handleAt, stationAt, stationRow, pendingRow, tokenWords, stationWords, counterWords, pendingBytes}
 use Rattle.rules.proofs.Rows.{length-slotRow, length-slotDacl, length-stationRow, length-pendingRow}
-use Rattle.valid.specs.Tests.{slotTest, tokenTest, stationTest, columnBy, firstWord, otherWord, kept, nonzero, Front, tally, isGiven, isApart, isReferred, refsTest, fieldsTest, numbersTest, linksTest, partsTest}
+use Rattle.valid.specs.Tests.{slotTest, tokenTest, stationTest, columnBy, firstWord, otherWord, kept, nonzero, Front, Referred, tally, isGiven, isApart, isReferred, refsTest, fieldsTest, numbersTest, linksTest, partsTest}
 use Rattle.valid.specs.Meaning as Meaning
 use Rattle.valid.specs.Meaning.{memoryOf, Lent, tokenOf, fieldsOf}
-use Rattle.valid.proofs.Truth.{same-tests, eqb-same, all-append, all-cong, all-map}
+use Rattle.valid.proofs.Truth.{same-tests, eqb-same, all-cong, all-map}
 use Rattle.valid.proofs.Counts.{listed, referred}
 use Rattle.valid.proofs.Same.{same-rows}
+use Rattle.valid.proofs.TokenRow.{drop-take}
 use Rattle.valid.proofs.Lists.{given, kept-map, kept-lives, token-numbers, primaryIn, other-numbers, station-tokens, all-lives, fields}
 
 -- ---- the tests, as they stand in the code and as they stand in the rules
 
--- L′ and M′ are L and M where A₁ holds
-shuffle : (T D H S P a A₁ A₂ b B₁ B₂ c E F G L M R Q : Bool) {L′ M′ : Bool} → (A₁ ≡ true → L′ ≡ L) → (A₁ ≡ true → M′ ≡ M)
-    → ((T && D && E) && (S && P && G) && ((H && F) && ((a && (A₁ && A₂)) && (b && (B₁ && B₂)) && c && (R && L′ && M′) && Q)))
-    ≡ ((T && D && H && S && P) && ((a && A₁ && A₂) && (b && c && B₁ && B₂) && E && F && G && (L && M) && R && Q))
+-- L′ is L where A₁ holds
+shuffle : (T D H S P a A₁ A₂ b B₁ B₂ c E F G L R Q : Bool) {L′ : Bool} → (A₁ ≡ true → L′ ≡ L)
+    → ((T && D && E) && (S && P && G) && ((H && F) && ((a && (A₁ && A₂)) && (b && (B₁ && B₂)) && c && (R && L′) && Q)))
+    ≡ ((T && D && H && S && P) && ((a && A₁ && A₂) && (b && c && B₁ && B₂) && E && F && G && L && R && Q))
 unfolding all member
-shuffle T D H S P a false A₂ b B₁ B₂ c E F G L M R Q l m = simp (and-false)
-shuffle T D H S P a true A₂ b B₁ B₂ c E F G L M R Q {L′} {M′} l m =
-    rw (l refl, m refl)
+shuffle T D H S P a false A₂ b B₁ B₂ c E F G L R Q l = simp (and-false)
+shuffle T D H S P a true A₂ b B₁ B₂ c E F G L R Q l =
+    rw (l refl)
     (simp and-assoc
     (simp and-true at
     (same-tests
-    (T ∷ D ∷ E ∷ S ∷ P ∷ G ∷ H ∷ F ∷ a ∷ A₂ ∷ b ∷ B₁ ∷ B₂ ∷ c ∷ R ∷ L ∷ M ∷ Q ∷ [])
-    (0 ∷ 1 ∷ 2 ∷ 3 ∷ 4 ∷ 5 ∷ 6 ∷ 7 ∷ 8 ∷ 9 ∷ 10 ∷ 11 ∷ 12 ∷ 13 ∷ 14 ∷ 15 ∷ 16 ∷ 17 ∷ [])
-    (0 ∷ 1 ∷ 6 ∷ 3 ∷ 4 ∷ 8 ∷ 9 ∷ 10 ∷ 13 ∷ 11 ∷ 12 ∷ 2 ∷ 7 ∷ 5 ∷ 15 ∷ 16 ∷ 14 ∷ 17 ∷ [])
+    (T ∷ D ∷ E ∷ S ∷ P ∷ G ∷ H ∷ F ∷ a ∷ A₂ ∷ b ∷ B₁ ∷ B₂ ∷ c ∷ R ∷ L ∷ Q ∷ [])
+    (0 ∷ 1 ∷ 2 ∷ 3 ∷ 4 ∷ 5 ∷ 6 ∷ 7 ∷ 8 ∷ 9 ∷ 10 ∷ 11 ∷ 12 ∷ 13 ∷ 14 ∷ 15 ∷ 16 ∷ [])
+    (0 ∷ 1 ∷ 6 ∷ 3 ∷ 4 ∷ 8 ∷ 9 ∷ 10 ∷ 13 ∷ 11 ∷ 12 ∷ 2 ∷ 7 ∷ 5 ∷ 15 ∷ 14 ∷ 16 ∷ [])
     refl refl)))
 
 module _ (m : Memory)
@@ -98,10 +99,9 @@ module _ (m : Memory)
       let et : map handleToken hl ≡ ht = kept-lives handleToken hs in
       let g₁ : (leb 1 nt && all (isGiven nt ns) ns) ≡ (leb 1 nt && (distinct tn && all (between 1 (nt - 1)) tn)) = sym (rw en (given (λ x. x) nt col)) in
       let g₂ : (leb 1 nh && all (isGiven nh hn) hn) ≡ (leb 1 nh && (distinct (map handleNumber hl) && all (between 1 (nh - 1)) (map handleNumber hl))) = sym (rw eh (given handleNumber nh hs)) in
-      let l : distinct tn ≡ true → eqb (tally ns ht) (length ht) ≡ all (λ n. member n tn) (map handleToken hl) = λ d. sym (rw (en, et) (sym (listed ns (sym (ap distinct en) ∙ d) ht))) in
-      let k : distinct tn ≡ true → eqb (tally ns ss) (length ss) ≡ all (λ n. member n tn) (map stationToken xs) = λ d. sym (rw (en, es) (sym (listed ns (sym (ap distinct en) ∙ d) ss))) in
-      let r : all (isReferred ht ss) ns ≡ all (λ t. member (t .number) (map handleToken hl ++ map stationToken xs)) (lives rows) =
-      sym (sym (all-map numberOf (λ n. member n (map handleToken hl ++ map stationToken xs)) (lives rows)) ∙ rw (en, es, et) (all-cong _ _ (λ x. sym (referred ht ss x)) ns)) in
+      let l : distinct tn ≡ true → eqb (tally ns (ht ++ ss)) (length (ht ++ ss)) ≡ all (λ n. member n tn) (map handleToken hl ++ map stationToken xs) = λ d. sym (rw (en, et, es) (sym (listed ns (sym (ap distinct en) ∙ d) (ht ++ ss)))) in
+      let r : all (isReferred (ht ++ ss)) ns ≡ all (λ t. member (t .number) (map handleToken hl ++ map stationToken xs)) (lives rows) =
+      sym (sym (all-map numberOf (λ n. member n (map handleToken hl ++ map stationToken xs)) (lives rows)) ∙ rw (en, es, et) (all-cong _ _ (λ x. sym (referred (ht ++ ss) x)) ns)) in
       let q : all (isApart ss) (nonzero (columnBy otherWord tokenWords tokenSlots (m .tokens))) ≡ all (primaryIn (map stationToken xs)) (lives rows) =
       sym (ap (λ zs. all (primaryIn zs) (lives rows)) es ∙ other-numbers ss tokenSlots (m .tokens) (m .dacls)) in
       let c₁ : eqb (length rows) tokenSlots ≡ true = eq-eqb (length rows) tokenSlots (length-rows slotAt tokenWords maxDacl tokenSlots (m .tokens) (m .dacls)) in
@@ -109,31 +109,37 @@ module _ (m : Memory)
       let c₃ : eqb (length xs) stationCount ≡ true = eq-eqb (length xs) stationCount (length-rows stationAt stationWords pendingBytes stationCount (drop counterWords (m .stations)) (m .pending)) in
       let c₄ : leb nt max64 ≡ true = le-leb nt max64 (omega arith) in
       ap₂ _&&_ (ap₂ _&&_ (sym tokens-tested) (sym stations-tested))
-      (ap₂ _&&_ (sym (fields hs)) (ap₂ _&&_ (ap₂ _&&_ (ap (λ b. b && leb nh max32) (ap₂ _&&_ g₁ g₂)) (ap (λ b. b && eqb (tally ns ht) (length ht) && eqb (tally ns ss) (length ss)) r)) q))
+      (ap₂ _&&_ (sym (fields hs)) (ap₂ _&&_ (ap₂ _&&_ (ap (λ b. b && leb nh max32) (ap₂ _&&_ g₁ g₂)) (ap (λ b. b && eqb (tally ns (ht ++ ss)) (length (ht ++ ss))) r)) q))
       ∙ shuffle
       (same (flat slotRow rows) (m .tokens)) (same (flat slotDacl rows) (m .dacls)) (sameHandles (map slotHandle (map handleAt hs)) hs)
       (same (nt ∷ nh ∷ flat stationRow xs) (m .stations)) (same (flat pendingRow xs) (m .pending))
       (leb 1 nt) (distinct tn) (all (between 1 (nt - 1)) tn)
       (leb 1 nh) (distinct (map handleNumber hl)) (all (between 1 (nh - 1)) (map handleNumber hl)) (leb nh max32)
       (all tokenValid (lives rows)) (all handleValid hl) (all streamValid xs)
-      (all (λ n. member n tn) (map handleToken hl)) (all (λ n. member n tn) (map stationToken xs))
+      (all (λ n. member n tn) (map handleToken hl ++ map stationToken xs))
       (all (λ t. member (t .number) (map handleToken hl ++ map stationToken xs)) (lives rows)) (all (primaryIn (map stationToken xs)) (lives rows))
-      l k
-      ∙ sym (rw (c₁, c₂, c₃, c₄, and-true, and-true, all-append (λ n. member n tn) (map handleToken hl) (map stationToken xs)))
+      l
+      ∙ sym (rw (c₁, c₂, c₃, c₄, and-true, and-true))
 
 -- ---- with what the code has at each return
 
-pub at-numbers : (ns os ss hs ts : List ℕ) (nt nh : ℕ) {a b r q : Bool}
-    → a ≡ all (isGiven nt ns) ns → b ≡ all (isGiven nh hs) hs → r ≡ refsTest ns ts ss → q ≡ all (isApart ss) os
-    → ((leb 1 nt && a) && (leb 1 nh && b) && leb nh max32 && r && q) ≡ numbersTest ns os ss hs ts nt nh
+pub at-numbers : (ns os hs rs : List ℕ) (h nt nh : ℕ) {a b r q : Bool}
+    → a ≡ all (isGiven nt ns) ns → b ≡ all (isGiven nh hs) hs → r ≡ refsTest ns rs → q ≡ all (isApart (take (length rs - h) (drop h rs))) os
+    → ((leb 1 nt && a) && (leb 1 nh && b) && leb nh max32 && r && q) ≡ numbersTest ns os hs (take h rs) (drop h rs) nt nh
 unfolding numbersTest
-at-numbers ns os ss hs ts nt nh ea eb er eq = cc
+at-numbers ns os hs rs h nt nh ea eb er eq =
+    let e : refsTest ns rs ≡ refsTest ns (take h rs ++ drop h rs) = ap (refsTest ns) (sym (take-append-drop h rs)) in
+    let d : take (length rs - h) (drop h rs) ≡ drop h rs = take-all (length rs - h) (drop h rs) (simp length-drop (omega arith)) in
+    cc
 
-pub at-fronts : (ns os ss hs ts : List ℕ) (n o h nt nh : ℕ) {r : Bool}
-    → r ≡ numbersTest (take (n - 0) ns) (take (o - 0) os) ss (take (h - 0) hs) (take (h - 0) ts) nt nh
-    → r ≡ numbersTest (take n ns) (take o os) ss (take h hs) (take h ts) nt nh
-at-fronts ns os ss hs ts n o h nt nh e =
+pub at-fronts : (ns os hs rs : List ℕ) (n o h nt nh : ℕ) {r : Bool}
+    → r ≡ numbersTest (take (n - 0) ns) (take (o - 0) os) (take (h - 0) hs) (take h (take (h + stationCount - 0) rs)) (drop h (take (h + stationCount - 0) rs)) nt nh
+    → r ≡ numbersTest (take n ns) (take o os) (take h hs) (take h rs) (take stationCount (drop h rs)) nt nh
+at-fronts ns os hs rs n o h nt nh e =
     let c : (k : ℕ) → k - 0 ≡ k = λ k. omega arith in
+    let t : take h (take (h + stationCount - 0) rs) ≡ take h rs = take-take h (h + stationCount - 0) rs (omega arith) in
+    let d : drop h (take (h + stationCount - 0) rs) ≡ take stationCount (drop h rs) =
+    drop-take h (h + stationCount - 0) rs ∙ ap (λ (k : ℕ). take k (drop h rs)) {x = h + stationCount - 0 - h} {y = stationCount} (omega arith) in
     cc (c n, c o, c h)
 
 -- the stations' rows, as the code lends them
@@ -143,19 +149,20 @@ rowsPart ss = take (counterWords + stationCount * stationWords - counterWords) (
 rows-apart : (ss : List ℕ) → length ss ≡ counterWords + stationCount * stationWords → rowsPart ss ≡ drop counterWords ss
 rows-apart ss l = take-all (stationCount * stationWords) (drop counterWords ss) (simp length-drop (omega arith))
 
-pub at-links : (ts : List ℕ) (hs : List code.Handle) (ss : List ℕ) {ns os st hn ht : List ℕ} {n o h : ℕ} {f r : Bool}
-    → r ≡ numbersTest (take n ns) (take o os) st (take h hn) (take h ht) (getD ss 0 0) (getD ss 1 0)
+pub at-links : (ts : List ℕ) (hs : List code.Handle) (ss : List ℕ) {ns os hn rs : List ℕ} {n o h : ℕ} {f r : Bool}
+    → r ≡ numbersTest (take n ns) (take o os) (take h hn) (take h rs) (take stationCount (drop h rs)) (getD ss 0 0) (getD ss 1 0)
     → length ss ≡ counterWords + stationCount * stationWords
     → Front tokenSlots (nonzero (columnBy firstWord tokenWords tokenSlots ts)) n ns → Front tokenSlots (nonzero (columnBy otherWord tokenWords tokenSlots ts)) o os
-    → st ≡ columnBy firstWord stationWords stationCount (rowsPart ss)
-    → Front handleSlots (kept Meaning.numberOf Meaning.numberOf hs) h hn → Front handleSlots (kept Meaning.numberOf tokenOf hs) h ht
+    → Front handleSlots (kept Meaning.numberOf Meaning.numberOf hs) h hn
+    → Referred (kept Meaning.numberOf tokenOf hs) (columnBy firstWord stationWords stationCount (rowsPart ss)) h rs
     → f ≡ all fieldsOf hs → (f && r) ≡ linksTest ts (map handleOf hs) ss
 unfolding linksTest handleNumber handleToken
-at-links ts hs ss {st = st} {hn = hn} {ht = ht} {n = n} {o = o} {h = h} er ls en eo es eh ek ef =
-    let x : st ≡ columnBy firstWord stationWords stationCount (drop counterWords ss) = es ∙ ap (columnBy firstWord stationWords stationCount) (rows-apart ss ls) in
+at-links ts hs ss {hn = hn} {rs = rs} {h = h} er ls en eo eh ek ef =
+    let x : take stationCount (drop h rs) ≡ columnBy firstWord stationWords stationCount (drop counterWords ss) =
+    ek .behind ∙ ap (columnBy firstWord stationWords stationCount) (rows-apart ss ls) in
     let z : all fieldsOf hs ≡ all fieldsTest (map handleOf hs) = sym (all-map handleOf fieldsTest hs) in
     let u : take h hn ≡ kept handleNumber handleNumber (map handleOf hs) = eh .front ∙ sym (kept-map handleNumber handleNumber handleOf hs) in
-    let v : take h ht ≡ kept handleNumber handleToken (map handleOf hs) = ek .front ∙ sym (kept-map handleNumber handleToken handleOf hs) in
+    let v : take h rs ≡ kept handleNumber handleToken (map handleOf hs) = ek .held ∙ sym (kept-map handleNumber handleToken handleOf hs) in
     cc (en .front, eo .front)
 
 module _ (ts ds : List ℕ) (hs : List code.Handle) (ss ps : List ℕ) where

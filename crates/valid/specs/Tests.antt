@@ -3,7 +3,7 @@
 use Prim.Native.Nat.{ℕ, zero, suc, _+_, _-_, _%_, _^_, _≤_}
 use mathlib.Core.Path.{_≡_}
 use mathlib.Core.Bool.{Bool, true, not, _&&_, _||_}
-use mathlib.Core.List.{List, [], _∷_}
+use mathlib.Core.List.{List, [], _∷_, _++_}
 use lib.Bits.{bitAnd}
 use lib.Dec.{eqb, leb, ltb}
 use lib.ListN.{length, take, drop, getD}
@@ -15,7 +15,7 @@ use Rattle.rules.specs.Mask.{allRights}
 use Rattle.rules.specs.Token.{maxGroups, maxRestricting, maxDacl, primary}
 use Rattle.rules.specs.Table.{Slot, free, live}
 use Rattle.rules.specs.Handle.{Handle}
-use Rattle.rules.specs.State.{handleNumber, handleToken, tokenSlots, stationCount}
+use Rattle.rules.specs.State.{handleNumber, handleToken, tokenSlots, handleSlots, stationCount}
 use Rattle.rules.specs.Valid.{groupValid, tokenValid, streamValid}
 use Rattle.rules.specs.Memory.{Memory, same, slotRow, slotDacl, slotAt, tokenRow, daclRow, tokenAt, stationRow, pendingRow, stationAt, unpack, word32, headWords, tokenWords, stationWords, pendingBytes, counterWords}
 
@@ -143,6 +143,17 @@ pub record Front (size : ℕ) (xs : List ℕ) (n : ℕ) (items : List ℕ) : Typ
   pub room : Room size n items
   pub front : take n items ≡ xs
 
+-- the references of handles and stations
+
+abbrev pub referenceSlots : ℕ
+referenceSlots = handleSlots + stationCount
+
+-- an array has n handles' tokens in its front, which are ts, and behind them the stations', which are ss
+pub record Referred (ts ss : List ℕ) (n : ℕ) (items : List ℕ) : Type 0 where
+  pub room : Room referenceSlots (n + stationCount) items
+  pub held : take n items ≡ ts
+  pub behind : take stationCount (drop n items) ≡ ss
+
 abbrev pub one : ℕ → ℕ → ℕ
 one x y = if eqb x y then 1 else 0
 
@@ -163,12 +174,12 @@ isGiven next xs x = ltb x next && eqb (count x xs) 1
 abbrev pub isApart : List ℕ → ℕ → Bool
 isApart xs x = eqb (count x xs) 0
 
-abbrev pub isReferred : List ℕ → List ℕ → ℕ → Bool
-isReferred hs ss x = leb 1 (count x hs + count x ss)
+abbrev pub isReferred : List ℕ → ℕ → Bool
+isReferred rs x = leb 1 (count x rs)
 
--- of distinct tokens `ns`: handles and stations refer to them, to all of them and to no other
-unfoldable pub refsTest : List ℕ → List ℕ → List ℕ → Bool
-refsTest ns hs ss = all (isReferred hs ss) ns && eqb (tally ns hs) (length hs) && eqb (tally ns ss) (length ss)
+-- of distinct tokens `ns`: the references `rs` are to all of them and to no other
+unfoldable pub refsTest : List ℕ → List ℕ → Bool
+refsTest ns rs = all (isReferred rs) ns && eqb (tally ns rs) (length rs)
 
 -- ---- handles
 
@@ -180,13 +191,13 @@ fieldsTest h =
 
 -- ---- all of it
 
--- numbers of tokens, of those that are not primary, of stations' tokens, of handles and of handles' tokens
+-- numbers of tokens, of those that are not primary, of handles, of handles' tokens and of stations' tokens
 unfoldable pub numbersTest : List ℕ → List ℕ → List ℕ → List ℕ → List ℕ → ℕ → ℕ → Bool
-numbersTest ns os ss hs ts nextToken nextHandle =
+numbersTest ns os hs ts ss nextToken nextHandle =
     (leb 1 nextToken && all (isGiven nextToken ns) ns)
     && (leb 1 nextHandle && all (isGiven nextHandle hs) hs)
     && leb nextHandle max32
-    && refsTest ns ts ss
+    && refsTest ns (ts ++ ss)
     && all (isApart ss) os
 
 -- the parts of the lent memory: tokens, handles, counters and stations
@@ -194,7 +205,7 @@ unfoldable pub linksTest : List ℕ → List Handle → List ℕ → Bool
 linksTest ts hs ss =
     all fieldsTest hs
     && numbersTest (nonzero (columnBy firstWord tokenWords tokenSlots ts)) (nonzero (columnBy otherWord tokenWords tokenSlots ts))
-    (columnBy firstWord stationWords stationCount (drop counterWords ss)) (kept handleNumber handleNumber hs) (kept handleNumber handleToken hs) (getD ss 0 0) (getD ss 1 0)
+    (kept handleNumber handleNumber hs) (kept handleNumber handleToken hs) (columnBy firstWord stationWords stationCount (drop counterWords ss)) (getD ss 0 0) (getD ss 1 0)
 
 unfoldable pub partsTest : Memory → Bool
 partsTest m =

@@ -1,10 +1,10 @@
-// The numbers of tokens, in the order of their slots. Those of free slots are left out, so that loops over the list are short.
+// The numbers of tokens, in the order of their slots, and of stations' tokens. Those of free slots are left out, so that loops over the list are short.
 ghost use mathlib.Core.Path.{_≡_};
 ghost use Prim.Native.Nat.{_*_, _≤_, _<_};
-ghost use lib.ListN.{length};
-ghost use Rattle.rules.specs.State.{tokenSlots, stationCount};
+ghost use lib.ListN.{length, take};
+ghost use Rattle.rules.specs.State.{tokenSlots, handleSlots, stationCount};
 ghost use Rattle.rules.specs.Memory.{tokenWords, stationWords};
-ghost use Rattle.valid.specs.Tests.{columnBy, firstWord, otherWord, nonzero, isKept, Front};
+ghost use Rattle.valid.specs.Tests.{columnBy, firstWord, otherWord, nonzero, isKept, Front, referenceSlots, Referred};
 use crate::layout::*;
 
 // The first `count` of `numbers`.
@@ -78,17 +78,17 @@ pub fn other_numbers(tokens: &[u64]) -> Given
     }
 }
 
-pub fn station_tokens(rows: &[u64]) -> [u64; STATIONS]
-    requires { ⌜ length (now rows) ≡ stationCount * stationWords ⌝ }
-    ensures { λ r. ⌜ r ≡ columnBy firstWord stationWords stationCount (now (rows .entry)) ⌝ }
+// The stations' tokens, behind the first n of `referred`.
+pub fn add_stations(referred: &mut [u64; REFERENCES], n: usize, rows: &[u64])
+    requires { ⌜ (length (now referred) ≡ referenceSlots) × (n ≤ handleSlots) × (length (now rows) ≡ stationCount * stationWords) ⌝ }
+    ensures { λ _. ⌜ Referred (take n (now (referred .entry))) (columnBy firstWord stationWords stationCount (now (rows .entry))) n (now (referred .exit)) ⌝ }
 {
-    let mut out = [0u64; STATIONS];
     let mut i: usize = 0;
     while i < STATIONS {
         let at = i * STATION_WORDS;
         let end = at + STATION_WORDS;
-        out[i] = first_word(&rows[at..end]);
+        let behind = n + i;
+        referred[behind] = first_word(&rows[at..end]);
         i += 1;
     }
-    out
 }

@@ -1,22 +1,29 @@
-// The handles (document 01: free places are zero, and ranges are kept), and what the live ones are called and refer to.
+// The handles (document 01: free places are zero, and ranges are kept), what the live ones are called, and what they and the stations refer to.
 ghost use mathlib.Core.Path.{_≡_};
-ghost use Prim.Native.Nat.{_≤_};
+ghost use Prim.Native.Nat.{_*_, _≤_};
+ghost use lib.ListN.{length};
 ghost use Rattle.rules.specs.Basic.{all};
-ghost use Rattle.rules.specs.State.{handleSlots};
-ghost use Rattle.valid.specs.Tests.{isKept, kept, Front};
+ghost use Rattle.rules.specs.State.{handleSlots, stationCount};
+ghost use Rattle.rules.specs.Memory.{stationWords};
+ghost use Rattle.handle.specs.Words.{recordsIn};
+ghost use Rattle.valid.specs.Tests.{columnBy, firstWord, isKept, kept, Front, Referred};
 ghost use Rattle.valid.specs.Meaning.{numberOf, tokenOf, fieldsOf};
+use crate::columns::add_stations;
+use crate::layout::REFERENCES;
 use crate::layout::STATIONS;
+use handle::HANDLE_WORDS;
 use handle::Handle;
 use handle::SLOTS;
 
 const ALL_RIGHTS: u32 = 0x1EF;
 
-// Whether the fields of all are valid; of the live ones, the first `count` of each list, their numbers and their tokens'.
+// Whether the fields of all are valid; of the live ones, the first `count` of each list, their numbers and their tokens'. Behind these in
+// `referred` stand the stations' tokens, so that all references are counted in one list.
 pub struct Held {
     pub ok: bool,
     pub count: usize,
     pub numbers: [u32; SLOTS],
-    pub tokens: [u64; SLOTS],
+    pub referred: [u64; REFERENCES],
 }
 
 fn fields_valid(h: Handle) -> bool
@@ -48,27 +55,30 @@ fn is_kept(h: Handle) -> usize
     if h.number == 0 { 0 } else { 1 }
 }
 
-pub fn live(items: [Handle; SLOTS]) -> Held
-    ensures fields { λ r. ⌜ r .ok ≡ all fieldsOf items ⌝ }
-    ensures called { λ r. ⌜ Front handleSlots (kept numberOf numberOf items) (r .count) (r .numbers) ⌝ }
-    ensures refers { λ r. ⌜ Front handleSlots (kept numberOf tokenOf items) (r .count) (r .tokens) ⌝ }
+pub fn live(handles: &[u64; HANDLE_WORDS], rows: &[u64]) -> Held
+    requires { ⌜ length (now rows) ≡ stationCount * stationWords ⌝ }
+    ensures fields { λ r. ⌜ r .ok ≡ all fieldsOf (recordsIn (now (handles .entry))) ⌝ }
+    ensures called { λ r. ⌜ Front handleSlots (kept numberOf numberOf (recordsIn (now (handles .entry)))) (r .count) (r .numbers) ⌝ }
+    ensures refers { λ r. ⌜ Referred (kept numberOf tokenOf (recordsIn (now (handles .entry)))) (columnBy firstWord stationWords stationCount (now (rows .entry))) (r .count) (r .referred) ⌝ }
 {
     let mut ok = true;
     let mut numbers = [0u32; SLOTS];
-    let mut tokens = [0u64; SLOTS];
+    let mut referred = [0u64; REFERENCES];
     let mut n: usize = 0;
     let mut i: usize = 0;
     while i < SLOTS {
-        ok = ok & fields_valid(items[i]);
-        numbers[n] = number_of(items[i]);
-        tokens[n] = token_of(items[i]);
-        n = n + is_kept(items[i]);
+        let h = handle::at(handles, i);
+        ok = ok & fields_valid(h);
+        numbers[n] = number_of(h);
+        referred[n] = token_of(h);
+        n = n + is_kept(h);
         i += 1;
     }
+    add_stations(&mut referred, n, rows);
     Held {
         ok: ok,
         count: n,
         numbers: numbers,
-        tokens: tokens,
+        referred: referred,
     }
 }

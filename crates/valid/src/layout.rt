@@ -1,7 +1,12 @@
 // The sizes of the lent memory's parts and rows, and the places of a token's words.
+use handle::SLOTS;
+
 pub const TOKEN_SLOTS: usize = 16;
 
 pub const STATIONS: usize = 8;
+
+// All that can refer to a token: handles and stations.
+pub const REFERENCES: usize = SLOTS + STATIONS;
 
 pub const MAX_GROUPS: usize = 64;
 

@@ -4,8 +4,8 @@ ghost use mathlib.Core.Path.{_≡_};
 ghost use Prim.Native.Nat.{_≤_};
 ghost use lib.ListN.{length};
 ghost use Rattle.rules.specs.Basic.{all};
-ghost use Rattle.rules.specs.State.{handleSlots};
-ghost use Rattle.valid.specs.Tests.{one, count, isGiven, isApart, refsTest};
+ghost use Rattle.rules.specs.State.{tokenSlots, handleSlots};
+ghost use Rattle.valid.specs.Tests.{one, count, isGiven, isApart, referenceSlots, refsTest};
 
 fn same(x: u64, y: u64) -> u64
     ensures { λ r. ⌜ (r ≡ one x y) × (r ≤ 1) ⌝ }
@@ -83,24 +83,21 @@ pub fn all_given_32(s: &[u32], next: u64) -> bool
     ok
 }
 
-// Each number stands in `held` or in `at`, and those that stand there are numbers of the list.
-pub fn refs_valid(s: &[u64], held: &[u64], at: &[u64]) -> bool
-    requires { ⌜ (length (now s) ≤ handleSlots) × (length (now held) ≤ handleSlots) × (length (now at) ≤ handleSlots) ⌝ }
-    ensures { λ r. ⌜ r ≡ refsTest (now (s .entry)) (now (held .entry)) (now (at .entry)) ⌝ }
+// Each number stands in `referred`, and all that stand there are numbers of the list.
+pub fn refs_valid(s: &[u64], referred: &[u64]) -> bool
+    requires { ⌜ (length (now s) ≤ tokenSlots) × (length (now referred) ≤ referenceSlots) ⌝ }
+    ensures { λ r. ⌜ r ≡ refsTest (now (s .entry)) (now (referred .entry)) ⌝ }
 {
     let mut ok = true;
-    let mut of_held: u64 = 0;
-    let mut of_at: u64 = 0;
+    let mut total: u64 = 0;
     let mut i: usize = 0;
     while i < s.len() {
-        let h = count_of(s[i], held);
-        let a = count_of(s[i], at);
-        ok = ok & (1 <= h + a);
-        of_held = of_held + h;
-        of_at = of_at + a;
+        let n = count_of(s[i], referred);
+        ok = ok & (1 <= n);
+        total = total + n;
         i += 1;
     }
-    ok & (of_held == held.len() as u64) & (of_at == at.len() as u64)
+    ok & (total == referred.len() as u64)
 }
 
 fn is_apart(x: u64, s: &[u64]) -> bool

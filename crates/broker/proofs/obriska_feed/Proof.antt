@@ -17,7 +17,8 @@ use types.Run.{land-last}
 use Rattle.rules.specs.Calls.{feedOn}
 use Rattle.handle.specs.declared.Handle.{Handle}
 use Rattle.handle.specs.declared.Handles.{Handles}
-use Rattle.handle.specs.Meaning.{none, Sized}
+use Rattle.handle.specs.Meaning.{none}
+use Rattle.handle.specs.Words.{recordsIn}
 use Rattle.handle.specs.Loaded.{loaded}
 use Rattle.handle.proofs.Records.{R, word, shr-to, shr-slice, mut-to, mut-slice, one, all, All}
 use Rattle.handle.proofs.Walk.Steps.{full, room, var, count, sets, lands, relends}
@@ -214,8 +215,8 @@ module _ {M : Type 1} (𝓤 : URA M) (H : Heap 𝓤) (A : Atoms 𝓤) (W : Given
           by ! (exits az ts ds ss ps zs (r .fed) la lt ld ls lp lh e (parts .0))
 
       -- with what by_value::feed returned in `_11`
-      changes : (az ts ds ss ps : List ℕ) (hs : Handles) (r : Turn) → hs .items ≡ loaded ys → Out r → length az ≡ length (a .now) → length ts ≡ length (t .now) → length ds ≡ length (d .now) → length ss ≡ length (s .now) → length ps ≡ length (p .now)
-          → FeedsWith st (c .now) (length ys) (hs .items) (t .now) (d .now) (s .now) (p .now) (a .now) ts ds ss ps az r
+      changes : (az ts ds ss ps : List ℕ) (hs : Handles) (r : Turn) → recordsIn (hs .words) ≡ loaded ys → Out r → length az ≡ length (a .now) → length ts ≡ length (t .now) → length ds ≡ length (d .now) → length ss ≡ length (s .now) → length ps ≡ length (p .now)
+          → FeedsWith st (c .now) (length ys) (recordsIn (hs .words)) (t .now) (d .now) (s .now) (p .now) (a .now) ts ds ss ps az r
           → Sq W (Locals (λ Γ. room word l₉ (room S′.mir l₁₀ (full B′.mir l₁₁ (out r) Γ))) (‵ (flft κ₄ q₄) ∷ ‵ OwnH ∷ ‵ (chain Theirs) ∷ ‵ OwnC ∷ items (Lasts az ts ds ss ps) [])) (runs (𝓣 .C) (𝓣 .Λ) En mir.t-16 (atRet En Post))
       changes az ts ds ss ps hs r is-loaded g la lt ld ls lp e =
           let parts = LL.owed B.the-type B′.the-laws r (out r ∷ []) g in
@@ -247,7 +248,7 @@ module _ {M : Type 1} (𝓤 : URA M) (H : Heap 𝓤) (A : Atoms 𝓤) (W : Given
           leaves az ts ds ss ps (ws .0) r g la lt ld ls lp lh (fed-at ys e is-loaded placed)))))
 
       -- with the length in `_9` and the list in `_10`
-      feeds : (hs : Handles) → All hs → hs .items ≡ loaded ys
+      feeds : (hs : Handles) → All hs → recordsIn (hs .words) ≡ loaded ys
           → Sq W (Locals (λ Γ. full word l₉ (vint w64 (length ys)) (full S′.mir l₁₀ (all hs) (room B′.mir l₁₁ Γ))) (‵ OwnH ∷ ‵ (flft κ₄ q₄) ∷ items (Own ∷ OwnC ∷ OwnA ∷ OwnT ∷ OwnD ∷ OwnS ∷ OwnP ∷ []) (items Theirs []))) (runs (𝓣 .C) (𝓣 .Λ) En mir.t-5 (atRet En Post))
       feeds hs g is-loaded =
           relends ! 6 28 30 refl refl refl (tt, tt) refl refl refl (tt, (tt, (record { fits = ga .0 }, tt))) $
@@ -264,7 +265,7 @@ module _ {M : Type 1} (𝓤 : URA M) (H : Heap 𝓤) (A : Atoms 𝓤) (W : Given
           calls-at ! (fmOf 𝓤 H (W .laws) 𝓣) (ByValue 𝓤 H A at-mem run) known-by-value (to-by-value hs)
           (and-then ! (var ! 4 refl) (and-then ! (var ! 6 refl) (and-then ! (var ! 32 refl) (and-then ! (var ! 36 refl) (and-then ! (var ! 40 refl) (and-then ! (var ! 20 refl) (and-then ! (var ! 22 refl) (and-then ! (var ! 44 refl) (and-then ! (var ! 48 refl) (no-more !)))))))))) (λ u.
           returned ! tt B.the-row (‵ (chain Theirs)) _ (λ ws. lasts by-value.ended (κ₀, (κ₁, (κ₂, (κ₃, (κ₅, (κ₆, tt)))))) (st, (c, (a, (t, (d, (length ys, (hs, (s, (p, tt))))))))) ws)
-          (λ r ws. FeedsWith st (c .now) (length ys) (hs .items) (t .now) (d .now) (s .now) (p .now) (a .now) (ws .1 .1 .1 .0) (ws .1 .1 .1 .1 .0) (ws .1 .1 .1 .1 .1 .1 .1 .0) (ws .1 .1 .1 .1 .1 .1 .1 .1 .0) (ws .1 .1 .0) r) u (λ r ws is e.
+          (λ r ws. FeedsWith st (c .now) (length ys) (recordsIn (hs .words)) (t .now) (d .now) (s .now) (p .now) (a .now) (ws .1 .1 .1 .0) (ws .1 .1 .1 .1 .0) (ws .1 .1 .1 .1 .1 .1 .1 .0) (ws .1 .1 .1 .1 .1 .1 .1 .1 .0) (ws .1 .1 .0) r) u (λ r ws is e.
           fsplit ! $ drop ! $ fsplit ! $ drop ! $ lasting ! (λ la. lasting ! (λ lt. lasting ! (λ ld. fsplit ! $ drop ! $ fsplit ! $ drop ! $ lasting ! (λ ls. lasting ! (λ lp. drop ! $
           -- [pending's; stations'; dacls'; tokens'; answer's; the tokens; chunk's; the locals, local k at 2 k + 7; handles'; κ₄]
           lands ! (init ! 29 refl (held B.the-type B′.the-laws W r u is)) $ rewrite ! 29 (λ (v : Val). ‵ (fat fullShare B′.mir l₁₁ 0 v)) (spelled B.the-type B′.the-laws r u is) refl $
@@ -282,11 +283,11 @@ module _ {M : Type 1} (𝓤 : URA M) (H : Heap 𝓤) (A : Atoms 𝓤) (W : Given
           move ! (2 ∷ 0 ∷ []) $ hands W (flft (ν ∷ []) fullShare ∷ []) (ShrSlice (named 0) (ν ∷ []) R .own (x δ) (h ∷ []) ∷ []) $
           -- [what list::load asks; what is lent; the locals, local k at 2 k + 2; …]
           calls-at ! (fmOf 𝓤 H (W .laws) 𝓣) (Load 𝓤 H A at-mem run) known-load (to-load ν δ) (and-then ! (var ! 28 refl) (no-more !)) (λ u.
-          returned ! tt S.the-row (‵ (chain (flft (ν ∷ []) fullShare ∷ []))) _ (λ ws. lasts load′.ended (ν ∷ [], tt) (x δ, tt) ws) (λ r ws. (r .items ≡ loaded ys) × Sized r) u (λ hs ws is e. drop ! $
+          returned ! tt S.the-row (‵ (chain (flft (ν ∷ []) fullShare ∷ []))) _ (λ ws. lasts load′.ended (ν ∷ [], tt) (x δ, tt) ws) (λ r ws. recordsIn (r .words) ≡ loaded ys) u (λ hs ws is e. drop ! $
           lands ! (init ! 22 refl (held S.the-type S′.the-laws W hs u is)) $ rewrite ! 22 (λ (v : Val). ‵ (fat fullShare S′.mir l₁₀ 0 v)) (spelled S.the-type S′.the-laws hs u is) refl $
           -- the lifetime is ended, and the list comes back
           unchain W (flft (ν ∷ []) fullShare ∷ []) $ lft-end ! tt $ use2 W (later (‵ OwnH ⊛ ‵ (flft κ₄ q₄))) (shared-back R κ₄ (ν ∷ []) q₄ γ b o ys 𝓤 H A W (named 4) (named 0) gh) $ await ! tt $ split ! $
-          forget ! 26 refl $ forget ! 28 refl $ move ! (2 ∷ 3 ∷ 4 ∷ 5 ∷ 6 ∷ 7 ∷ 8 ∷ 9 ∷ 10 ∷ 11 ∷ 12 ∷ 13 ∷ 14 ∷ 15 ∷ 16 ∷ 17 ∷ 18 ∷ 19 ∷ 20 ∷ 21 ∷ 22 ∷ 23 ∷ 24 ∷ 25 ∷ 26 ∷ 27 ∷ 28 ∷ 29 ∷ 30 ∷ 31 ∷ 32 ∷ 33 ∷ 34 ∷ 35 ∷ 36 ∷ 37 ∷ 38 ∷ 39 ∷ 40 ∷ 41 ∷ 42 ∷ 43 ∷ 44 ∷ 45 ∷ 46 ∷ 47 ∷ 48 ∷ 49 ∷ 50 ∷ 51 ∷ 52 ∷ 53 ∷ 54 ∷ 55 ∷ 56 ∷ 57 ∷ 58 ∷ 59 ∷ 60 ∷ 61 ∷ 62 ∷ 63 ∷ []) $ feeds hs (good S.the-type S′.the-laws hs u is) (e .0)))))
+          forget ! 26 refl $ forget ! 28 refl $ move ! (2 ∷ 3 ∷ 4 ∷ 5 ∷ 6 ∷ 7 ∷ 8 ∷ 9 ∷ 10 ∷ 11 ∷ 12 ∷ 13 ∷ 14 ∷ 15 ∷ 16 ∷ 17 ∷ 18 ∷ 19 ∷ 20 ∷ 21 ∷ 22 ∷ 23 ∷ 24 ∷ 25 ∷ 26 ∷ 27 ∷ 28 ∷ 29 ∷ 30 ∷ 31 ∷ 32 ∷ 33 ∷ 34 ∷ 35 ∷ 36 ∷ 37 ∷ 38 ∷ 39 ∷ 40 ∷ 41 ∷ 42 ∷ 43 ∷ 44 ∷ 45 ∷ 46 ∷ 47 ∷ 48 ∷ 49 ∷ 50 ∷ 51 ∷ 52 ∷ 53 ∷ 54 ∷ 55 ∷ 56 ∷ 57 ∷ 58 ∷ 59 ∷ 60 ∷ 61 ∷ 62 ∷ 63 ∷ []) $ feeds hs (good S.the-type S′.the-laws hs u is) e))))
 
     walk : ent 𝓤 (onEntry 𝓤 H A feed.signature (κ₀, (κ₁, (κ₂, (κ₃, (κ₄, (κ₅, (κ₆, tt))))))) (q₀, (q₁, (q₂, (q₃, (q₄, (q₅, (q₆, tt))))))) (st, (c, (a, (t, (d, (x γ, (s, (p, tt)))))))) at)
         (WpFn 𝓤 H (𝓣 .C) (𝓣 .Λ) code.function (vint w32 st ∷ sv c ∷ sv a ∷ sv t ∷ sv d ∷ h ∷ sv s ∷ sv p ∷ []) Post)

@@ -12,7 +12,7 @@ use Rattle.handle.proofs.Walk.{tripleOf, says, Stays, walkOf, ends-at}
 use Rattle.rules.specs.Calls.{reconnectOn}
 use Rattle.handle.specs.declared.Handle.{Handle}
 use Rattle.handle.specs.declared.Handles.{Handles}
-use Rattle.handle.specs.Meaning.{Sized}
+use Rattle.handle.specs.Words.{recordsIn}
 use Rattle.handle.specs.Loaded.{loaded}
 use Rattle.handle.proofs.Records.{R, word, shr-slice, mut-to, mut-slice, all, All}
 use Rattle.handle.proofs.Walk.Steps.{full, room, var, count, sets, lands, relends}
@@ -135,7 +135,7 @@ module _ {M : Type 1} (𝓤 : URA M) (H : Heap 𝓤) (A : Atoms 𝓤) (W : Given
           (full (mut-slice (named 3) u64) l₅ (sv s) (full (mut-slice (named 4) u8) l₆ (sv p) (seven (room word l₈ (room (mut-to erased u64) l₉ (room (mut-slice erased u64) l₁₀ (room (mut-to erased u8) l₁₁ (room (mut-slice erased u8) l₁₂ Γ))))))))))))
 
       -- with the list in `_7`
-      calls : (hs : Handles) → All hs → hs .items ≡ loaded (h .now) → Sq W (Locals (full S′.mir l₇ (all hs)) (‵ (flft κ₂ q₂) ∷ ‵ OwnH ∷ items (Own ∷ OwnT ∷ OwnD ∷ OwnS ∷ OwnP ∷ []) (items Theirs []))) (runs (𝓣 .C) (𝓣 .Λ) En mir.t-2 (atRet En Post))
+      calls : (hs : Handles) → All hs → recordsIn (hs .words) ≡ loaded (h .now) → Sq W (Locals (full S′.mir l₇ (all hs)) (‵ (flft κ₂ q₂) ∷ ‵ OwnH ∷ items (Own ∷ OwnT ∷ OwnD ∷ OwnS ∷ OwnP ∷ []) (items Theirs []))) (runs (𝓣 .C) (𝓣 .Λ) En mir.t-2 (atRet En Post))
       calls hs g is-loaded =
           sets ! (of-opd ! (count ! 8 refl refl)) (init ! 16 refl (tt, record { fits = gh .0 })) $
           relends ! 10 18 20 refl refl refl (tt, tt) refl refl refl (tt, (tt, (record { fits = gs .0 }, tt))) $
@@ -150,7 +150,7 @@ module _ {M : Type 1} (𝓤 : URA M) (H : Heap 𝓤) (A : Atoms 𝓤) (W : Given
           calls-at ! (fmOf 𝓤 H (W .laws) 𝓣) (ByValue 𝓤 H A at-mem run) known-by-value (to-by-value hs)
           (and-then ! (var ! 5 refl) (and-then ! (var ! 7 refl) (and-then ! (var ! 9 refl) (and-then ! (var ! 19 refl) (and-then ! (var ! 17 refl) (and-then ! (var ! 23 refl) (and-then ! (var ! 27 refl) (no-more !)))))))) (λ u.
           returned ! tt u32 (‵ (chain Theirs)) _ (λ ws. lasts by-value.ended (κ₀, (κ₁, (κ₃, (κ₄, tt)))) (st, (t, (d, (length (h .now), (hs, (s, (p, tt))))))) ws)
-          (λ r ws. ReconnectsWith st (length (h .now)) (hs .items) (t .now) (d .now) (s .now) (p .now) (ws .1 .1 .1 .1 .1 .0) (ws .1 .1 .1 .1 .1 .1 .0) r) u (λ r ws is e.
+          (λ r ws. ReconnectsWith st (length (h .now)) (recordsIn (hs .words)) (t .now) (d .now) (s .now) (p .now) (ws .1 .1 .1 .1 .1 .0) (ws .1 .1 .1 .1 .1 .1 .0) r) u (λ r ws is e.
           fsplit ! $ drop ! $ fsplit ! $ drop ! $ fsplit ! $ drop ! $ fsplit ! $ drop ! $ fsplit ! $ drop ! $ lasting ! (λ ls. lasting ! (λ lp. drop ! $
           -- [pending's; stations'; the tokens; dacls'; tokens'; the locals, local k at 2 k + 5; κ₂; handles']
           lands ! (init ! 5 refl (uint-lawful 𝓤 H A W w32 .typed r (u ∷ []) is .0)) $ returns ! (look ! 5 refl) $ forget ! 5 refl $ forget ! 7 refl $ forget ! 9 refl $ forget ! 11 refl $ forget ! 13 refl $ forget ! 15 refl $ forget ! 17 refl $ forget ! 19 refl $ forget ! 21 refl $ forget ! 23 refl $ forget ! 25 refl $ forget ! 27 refl $ forget ! 29 refl $
@@ -163,9 +163,9 @@ module _ {M : Type 1} (𝓤 : URA M) (H : Heap 𝓤) (A : Atoms 𝓤) (W : Given
           move ! (29 ∷ []) $ use1 W (‵ OwnH ⊛ ‵ OwnH) (shr-slice-copy 𝓤 H A W (named 2) κ₂ R .twice h (sv h ∷ [])) $ split ! $
           move ! (35 ∷ 0 ∷ []) $ hands W (flft κ₂ q₂ ∷ []) (OwnH ∷ []) $
           calls-at ! (fmOf 𝓤 H (W .laws) 𝓣) (Load 𝓤 H A at-mem run) known-load to-load (and-then ! (var ! 10 refl) (no-more !)) (λ u.
-          returned ! tt S.the-row (‵ (chain (flft κ₂ q₂ ∷ []))) _ (λ ws. lasts load.ended (κ₂, tt) (h, tt) ws) (λ r ws. (r .items ≡ loaded (h .now)) × Sized r) u (λ hs ws is e. drop ! $
+          returned ! tt S.the-row (‵ (chain (flft κ₂ q₂ ∷ []))) _ (λ ws. lasts load.ended (κ₂, tt) (h, tt) ws) (λ r ws. recordsIn (r .words) ≡ loaded (h .now)) u (λ hs ws is e. drop ! $
           lands ! (init ! 16 refl (held S.the-type S′.the-laws W hs u is)) $ rewrite ! 16 (λ (v : Val). ‵ (fat fullShare S′.mir l₇ 0 v)) (spelled S.the-type S′.the-laws hs u is) refl $
-          unchain W (flft κ₂ q₂ ∷ []) $ move ! (2 ∷ 3 ∷ 4 ∷ 5 ∷ 6 ∷ 7 ∷ 8 ∷ 9 ∷ 10 ∷ 11 ∷ 12 ∷ 13 ∷ 14 ∷ 15 ∷ 16 ∷ 17 ∷ 18 ∷ 19 ∷ 20 ∷ 21 ∷ 22 ∷ 23 ∷ 24 ∷ 25 ∷ 26 ∷ 27 ∷ []) $ calls hs (good S.the-type S′.the-laws hs u is) (e .0)))
+          unchain W (flft κ₂ q₂ ∷ []) $ move ! (2 ∷ 3 ∷ 4 ∷ 5 ∷ 6 ∷ 7 ∷ 8 ∷ 9 ∷ 10 ∷ 11 ∷ 12 ∷ 13 ∷ 14 ∷ 15 ∷ 16 ∷ 17 ∷ 18 ∷ 19 ∷ 20 ∷ 21 ∷ 22 ∷ 23 ∷ 24 ∷ 25 ∷ 26 ∷ 27 ∷ []) $ calls hs (good S.the-type S′.the-laws hs u is) e))
 
     walk : ent 𝓤 (onEntry 𝓤 H A reconnect.signature (κ₀, (κ₁, (κ₂, (κ₃, (κ₄, tt))))) (q₀, (q₁, (q₂, (q₃, (q₄, tt))))) (st, (t, (d, (h, (s, (p, tt)))))) at) (WpFn 𝓤 H (𝓣 .C) (𝓣 .Λ) code.function (vint w32 st ∷ sv t ∷ sv d ∷ sv h ∷ sv s ∷ sv p ∷ []) Post)
     walk =

@@ -4,6 +4,7 @@ use native.Mathlib.Omega.{arith}
 use mathlib.Core.Path.{_≡_, refl}
 use lib.ListN.{length}
 use borrow.Author.Needs.{needs}
+use Rattle.handle.specs.Words.{recordsIn}
 use Rattle.valid.specs.Meaning.{memoryOf}
 use Rattle.obriska.specs.Serving.{bufferBytes, Ready}
 use Rattle.obriska.proofs.Holding.{falls, stays-ready}
@@ -13,7 +14,7 @@ use Rattle.obriska.proofs.run.Tie as tie
 -- the slices keep their lengths
 abbrev Inv : tie.InvT-loop
 Inv buffer₀ answer₀ tokens₀ dacls₀ stations₀ pending₀ held₀ left₀ from₀ end₀ buffer answer tokens dacls stations pending held left from end =
-    (from ≤ end) × (end ≤ length buffer) × Ready buffer answer (memoryOf tokens dacls (held .items) stations pending)
+    (from ≤ end) × (end ≤ length buffer) × Ready buffer answer (memoryOf tokens dacls (recordsIn (held .words)) stations pending)
     × (length buffer ≡ length buffer₀) × (length answer ≡ length answer₀) × (length tokens ≡ length tokens₀)
     × (length dacls ≡ length dacls₀) × (length stations ≡ length stations₀) × (length pending ≡ length pending₀)
 

@@ -5,6 +5,7 @@ use mathlib.Core.Path.{_≡_, refl}
 use mathlib.Core.Bool.{true}
 use lib.ListN.{length, drop}
 use borrow.Author.Needs.{needs}
+use Rattle.handle.specs.Words.{recordsIn}
 use Rattle.valid.specs.Meaning.{memoryOf}
 use Rattle.obriska.specs.Serving.{Onward}
 use Rattle.obriska.proofs.Steps.{begins, reaches, sum-fits, less-left, breaks-off, goes-on, ends}
@@ -16,7 +17,7 @@ abbrev Inv : tie.InvT-loop
 Inv station chunk answer₀ tokens₀ dacls₀ stations₀ pending₀ held₀ used₀ answer tokens dacls stations pending held used =
     (used ≤ length chunk) × (length chunk < 2 ^ 64) × (length answer ≡ length answer₀) × (length tokens ≡ length tokens₀) × (length dacls ≡ length dacls₀)
     × (length stations ≡ length stations₀) × (length pending ≡ length pending₀)
-    × Onward station chunk (drop used chunk) (memoryOf tokens₀ dacls₀ (held₀ .items) stations₀ pending₀) (memoryOf tokens dacls (held .items) stations pending) (length answer₀) true
+    × Onward station chunk (drop used chunk) (memoryOf tokens₀ dacls₀ (recordsIn (held₀ .words)) stations₀ pending₀) (memoryOf tokens dacls (recordsIn (held .words)) stations pending) (length answer₀) true
 
 abbrev μ : tie.MeasureT-loop
 μ station chunk answer₀ tokens₀ dacls₀ stations₀ pending₀ held₀ used₀ answer tokens dacls stations pending held used = length chunk - used

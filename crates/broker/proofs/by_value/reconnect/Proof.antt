@@ -14,7 +14,7 @@ reconnect-spec =
     (λ c. search needs)
     (λ c. search needs)
     (λ c. search (needs, reconnect-invalid))
-    (λ c κs. search (needs, stations-long, pending-long))
+    (λ c κs. let e = c .before .before in (search needs, stations-long (e .before .is-valid .ensures) (e .if2 .left), pending-long (e .before .is-valid .ensures) (e .if2 .left)))
     (λ c. search needs)
     (λ c. search needs)
     (λ c. search (needs, reconnects-with)))

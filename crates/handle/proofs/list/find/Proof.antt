@@ -1,4 +1,4 @@
--- handle::list::find meets its contract: a walk of its MIR. The list is loaded, and the covered handle::find finds in it.
+-- handle::list::find meets its contract: a walk of its MIR. The list is loaded, and the covered find_in finds in its words.
 -- Assumes nothing.
 use mathlib.Core.Path.{_≡_, refl, ap, _∙_}
 use Prim.Native.Nat.{ℕ, _<_, _≤_, _^_}
@@ -10,7 +10,7 @@ use Rattle.handle.proofs.Walk.{u32, usize, RefT, sliceVal, ShrSlice, Ro
 use Rattle.rules.specs.State.{handleSlots}
 use Rattle.handle.specs.declared.Handle.{Handle}
 use Rattle.handle.specs.declared.Handles.{Handles}
-use Rattle.handle.specs.Meaning.{Sized}
+use Rattle.handle.specs.Words.{recordsIn}
 use Rattle.handle.specs.Loaded.{loaded}
 use Rattle.handle.proofs.Slots.{findIndex}
 use Rattle.handle.proofs.Records.{R, all}
@@ -26,10 +26,10 @@ use Rattle.handle.proofs.list.load as load′
 use Rattle.handle.proofs.list.load.Symbol as load-def
 use Rattle.handle.proofs.list.load.Symbol.{name as #load}
 use Rattle.handle.proofs.list.load.Met as load-thm
-use Rattle.handle.proofs.find as find′
-use Rattle.handle.proofs.find.Symbol as find-def
-use Rattle.handle.proofs.find.Symbol.{name as #find′}
-use Rattle.handle.proofs.find.Met as find-thm
+use Rattle.handle.proofs.list.find_in as find′
+use Rattle.handle.proofs.list.find_in.Symbol as find-def
+use Rattle.handle.proofs.list.find_in.Symbol.{name as #find′}
+use Rattle.handle.proofs.list.find_in.Met as find-thm
 use Rattle.handle.proofs.list.find as find
 use Rattle.handle.proofs.list.find.Key.{name as #find}
 use Rattle.handle.proofs.list.find.Statement as stated
@@ -90,15 +90,15 @@ module _ {M : Type 1} (𝓤 : URA M) (H : Heap 𝓤) (A : Atoms 𝓤) (W : Given
         move ! (10 ∷ []) $ use1 W (‵ Own ⊛ ‵ Own) (shr-slice-copy 𝓤 H A W (named 0) κ R .twice x (s ∷ [])) $ split ! $ move ! (14 ∷ 0 ∷ []) $ hands W Tok (Own ∷ []) $
         -- [what load asks; list's; the locals, local k at 2 k + 2; the numbers']
         calls-at ! (fmOf 𝓤 H (W .laws) 𝓣) (Load 𝓤 H A at-mem run) known-load to-load (and-then ! (var ! 4 refl) (no-more !)) (λ u.
-        returned ! tt S.the-row (‵ (chain Tok)) _ (λ ws. lasts load′.ended (κ, tt) (x, tt) ws) (λ r ws. (r .items ≡ loaded (x .now)) × Sized r) u (λ r ws is e. drop ! $
+        returned ! tt S.the-row (‵ (chain Tok)) _ (λ ws. lasts load′.ended (κ, tt) (x, tt) ws) (λ r ws. recordsIn (r .words) ≡ loaded (x .now)) u (λ r ws is e. drop ! $
         lands ! (init ! 10 refl (held S.the-type S′.the-laws W r u is)) $ rewrite ! 10 (λ (v : Val). ‵ (fat fullShare S′.mir l₄ 0 v)) (spelled S.the-type S′.the-laws r u is) refl $
         move ! (12 ∷ 13 ∷ []) $ had W ! S.the-type S′.the-laws S′.the-plain r (good S.the-type S′.the-laws r u is) $ hands W [] (S.the-row .own r (all r ∷ []) ∷ u32 .own st (vint w32 st ∷ []) ∷ u32 .own nm (vint w32 nm ∷ []) ∷ []) $
         -- [what find asks; the token; list's; the locals, local k at 2 k + 3]
         calls-at ! (fmOf 𝓤 H (W .laws) 𝓣) (Find 𝓤 H A at-mem run) known-find (to-find r) (and-then ! (var ! 11 refl) (and-then ! (var ! 7 refl) (and-then ! (var ! 9 refl) (no-more !)))) (λ u′.
-        returned ! tt usize (‵ ftrue) _ (λ ws′. lasts find′.ended tt (r, (st, (nm, tt))) ws′) (λ k ws′. (k ≡ findIndex st nm (r .items)) × (k ≤ handleSlots)) u′ (λ k ws′ is′ e′. drop ! $ drop ! $
+        returned ! tt usize (‵ ftrue) _ (λ ws′. lasts find′.ended tt (r, (st, (nm, tt))) ws′) (λ k ws′. k ≡ findIndex st nm (recordsIn (r .words))) u′ (λ k ws′ is′ e′. drop ! $ drop ! $
         lands ! (init ! 2 refl (uint-lawful 𝓤 H A W w64 .typed k (u′ ∷ []) is′ .0)) $ returns ! (look ! 2 refl) $ forget ! 2 refl $ forget ! 4 refl $ forget ! 6 refl $ forget ! 8 refl $ forget ! 10 refl $
         move ! (2 ∷ 3 ∷ 4 ∷ 5 ∷ 6 ∷ 7 ∷ 8 ∷ 9 ∷ 10 ∷ 11 ∷ []) $ free1 ! $ free1 ! $ free1 ! $ free1 ! $ free1 ! $ free0 ! $
-        suffices ! _ (ends-at 𝓤 H A find.ended stayed (find.clauses 𝓤 H A at-mem run) W bound u′ k (tt, (tt, (tt, tt))) (tt, (tt, (tt, tt)))) $ says ! (e′ .0 ∙ ap (findIndex st nm) (e .0)) $ frame ! $
+        suffices ! _ (ends-at 𝓤 H A find.ended stayed (find.clauses 𝓤 H A at-mem run) W bound u′ k (tt, (tt, (tt, tt))) (tt, (tt, (tt, tt)))) $ says ! (e′ ∙ ap (findIndex st nm) e) $ frame ! $
         number-had W ! w32 nm gm $ number-had W ! w32 st gs $ move ! (2 ∷ []) $ rechain W Owns $ frame ! $ owned ! usize (Is usize) (uint-makes 𝓤 H A W w64) k (u′ ∷ []) is′ $ done !)))))))))
 
 pub find-spec : {M : Type 1} → stated.statement M
@@ -108,7 +108,7 @@ find-spec 𝓤 H 𝓜 𝓖 𝓡 =
     (goes 𝓤 H (𝓖 .A) W params) (spells params) (telling params)
     (λ κs qs bounds a g are. via 𝓤 _ (fst∗ 𝓤 _ (emp 𝓤)) (walk 𝓤 H (𝓖 .A) W (𝓜 .mem) (𝓡 .run) (κs .0) (qs .0) (a .0) (a .1 .0) (a .1 .1 .0) (are .0 .0 .1) (are .1 .0 .1) (are .1 .1 .0 .1) (here 𝓤 H 𝓜 𝓖 𝓡 code.env)
     (cites 𝓤 H 𝓜 𝓖 𝓡 code.env (Load 𝓤 H (𝓖 .A) (𝓜 .mem) (𝓡 .run)) #load load-def.routine code.calls-handle·list·load (load-thm.met 𝓤 H 𝓜 𝓖 𝓡))
-    (cites 𝓤 H 𝓜 𝓖 𝓡 code.env (Find 𝓤 H (𝓖 .A) (𝓜 .mem) (𝓡 .run)) #find′ find-def.routine code.calls-handle·find (find-thm.met 𝓤 H 𝓜 𝓖 𝓡))))
+    (cites 𝓤 H 𝓜 𝓖 𝓡 code.env (Find 𝓤 H (𝓖 .A) (𝓜 .mem) (𝓡 .run)) #find′ find-def.routine code.calls-handle·list·find-in (find-thm.met 𝓤 H 𝓜 𝓖 𝓡))))
   where
     W : Given 𝓤 H (𝓖 .A)
     W = givenOf 𝓤 H 𝓜 𝓖

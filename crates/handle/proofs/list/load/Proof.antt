@@ -22,7 +22,8 @@ use Rattle.handle.proofs.Walk.{Contract, Triple, calls-at, lasts, Vals,
 use denote.Struct.Laws as LL
 use Rattle.rules.specs.State.{handleSlots}
 use Rattle.handle.specs.declared.Handle.{Handle}
-use Rattle.handle.specs.Meaning.{none, Sized}
+use Rattle.handle.specs.Meaning.{none}
+use Rattle.handle.specs.Words.{recordsIn}
 use Rattle.handle.specs.Loaded.{loaded}
 use package.mir.Val.{WT, hasTy}
 use Rattle.handle.proofs.Lent.{Loads, loads-none, loads-more, loads-all}
@@ -141,12 +142,12 @@ module _ {M : Type 1} (𝓤 : URA M) (H : Heap 𝓤) (A : Atoms 𝓤) (W : Given
         sets ! (of-opd ! (var ! 4 refl)) (init ! 8 refl (fits-array zs (records zs) g)) $
         move ! (28 ∷ []) $ hands W [] (B .own zs (records zs ∷ []) ∷ []) $
         calls-at ! (fmOf 𝓤 H (W .laws) 𝓣) (OfItems 𝓤 H A at-mem run) known-of (to-of-items zs) (and-then ! (var ! 9 refl) (no-more !)) (λ u.
-        returned ! tt S.the-row (‵ ftrue) _ (λ ws. lasts of-items.ended tt (zs, tt) ws) (λ r ws. (r .items ≡ zs) × Sized r) u (λ r ws is e. drop ! $ drop ! $
+        returned ! tt S.the-row (‵ ftrue) _ (λ ws. lasts of-items.ended tt (zs, tt) ws) (λ r ws. recordsIn (r .words) ≡ zs) u (λ r ws is e. drop ! $ drop ! $
         lands ! (init ! 0 refl (held S.the-type S′.the-laws W r u is)) $
         rewrite ! 0 (λ (v : Val). ‵ (fat fullShare S′.mir l₀ 0 v)) (spelled S.the-type S′.the-laws r u is) refl $
         returns ! (look ! 0 refl) $ forget ! 0 refl $ forget ! 2 refl $ forget ! 4 refl $ forget ! 6 refl $ forget ! 8 refl $
         free1 ! $ free1 ! $ free1 ! $ free1 ! $ free1 ! $ free1 ! $ free1 ! $ free1 ! $ free1 ! $ free1 ! $ free1 ! $ free1 ! $ free1 ! $ free1 ! $ free0 ! $
-        suffices ! _ (ends-at 𝓤 H A load′.ended stayed (load′.clauses 𝓤 H A at-mem run) W bound (all r) r (tt, tt) (tt, tt)) $ says ! (e .0 ∙ is-loaded, e .1) $
+        suffices ! _ (ends-at 𝓤 H A load′.ended stayed (load′.clauses 𝓤 H A at-mem run) W bound (all r) r (tt, tt) (tt, tt)) $ says ! (e ∙ is-loaded) $
         rechain W Tok $ frame ! $ move ! (1 ∷ 0 ∷ []) $ fjoin ! $ move ! (1 ∷ 0 ∷ []) $ fjoin ! $ rechain W (Own ∷ []) $ frame ! $ had W ! S.the-type S′.the-laws S′.the-plain r (good S.the-type S′.the-laws r u is) $ done !))
 
     module _ (q′ : Share) where

@@ -11,7 +11,7 @@ use Rattle.valid.proofs.columns.token_numbers.Statement.{statement}
 use Rattle.valid.proofs.columns.token_numbers.Tie as tie
 
 abbrev Inv : tie.InvT-loop
-Inv tokens out₀ n₀ i₀ out n i = Keeping (λ x. x) (λ x. x) (columnBy firstWord tokenWords tokenSlots tokens) tokenSlots out n i
+Inv tokens out₀ n₀ i₀ out n i = Keeping (λ x. x) (λ x. x) (columnBy firstWord tokenWords tokenSlots tokens) tokenSlots tokenSlots out n i
 
 abbrev μ : tie.MeasureT-loop
 μ tokens out₀ n₀ i₀ out n i = tokenSlots - i

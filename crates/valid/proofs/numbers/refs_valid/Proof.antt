@@ -1,4 +1,4 @@
--- valid::numbers::refs_valid meets its contract: its loop counts each number in both lists. Assumes nothing.
+-- valid::numbers::refs_valid meets its contract: its loop counts each number. Assumes nothing.
 use Prim.Native.Nat.{_-_}
 use lib.ListN.{length}
 use borrow.Author.Needs.{needs}
@@ -7,24 +7,19 @@ use Rattle.valid.proofs.numbers.refs_valid.Statement.{statement}
 use Rattle.valid.proofs.numbers.refs_valid.Tie as tie
 
 abbrev Inv : tie.InvT-loop
-Inv s held at ok₀ of-held₀ of-at₀ i₀ ok of-held of-at i = Tallying s held at ok of-held of-at i
+Inv s referred ok₀ total₀ i₀ ok total i = Tallying s referred ok total i
 
 abbrev μ : tie.MeasureT-loop
-μ s held at ok₀ of-held₀ of-at₀ i₀ ok of-held of-at i = length s - i
+μ s referred ok₀ total₀ i₀ ok total i = length s - i
 
 pub refs-valid-spec : {M : Type 1} → statement M
 refs-valid-spec =
     tie.close
     (tie.spec Inv μ
-    (λ c. tallying-none _ _ _)
+    (λ c. tallying-none _ _)
     (λ c. search needs)
     (λ c. search needs)
     (λ c κs. search needs)
-    (λ c. search needs)
-    (λ c. search needs)
-    (λ c κs. search needs)
-    (λ c. search needs)
-    (λ c. search needs)
     (λ c. search needs)
     (λ c. search needs)
     (λ c. search needs)
