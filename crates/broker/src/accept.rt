@@ -17,12 +17,15 @@ ghost use Rattle.broker.specs.Accepted.{quiet, PartKept, BrokenOff, Fram
 use crate::Fed;
 use crate::by_value::Turn;
 use crate::station;
-use crate::station::PENDING_BYTES;
 use handle::HANDLE_WORDS;
 use handle::NONE;
 use handle::SLOTS;
 use state::handles::Change;
 use stream::Framed;
+use valid::layout::PENDING_BYTES;
+
+// The answer to a break, with document 01's number.
+const STREAM_BROKEN: u8 = 10;
 
 // No answer, and no handle changes: the slot is past the end of the lent list.
 pub fn unanswered(refusal: u32, used: usize, slots: usize) -> Turn
@@ -65,7 +68,7 @@ fn break_off(
     stream::clear(row, count);
     station::set_stream(station, 0, true, stations);
     out[0] = 1;
-    out[1] = 10;
+    out[1] = STREAM_BROKEN;
     Turn {
         fed: Fed {
             refusal: 0,

@@ -12,6 +12,13 @@ use state::handles::Change;
 
 const STATIONS: u32 = 8;
 
+// The refusals of whole calls, with document 01's numbers.
+const NO_STATION: u32 = 11;
+
+const SHORT_BUFFER: u32 = 12;
+
+const INVALID_MEMORY: u32 = 13;
+
 // No answer is longer.
 const MAX_ANSWER: usize = 1024;
 
@@ -42,7 +49,7 @@ pub fn start(
     let p = pending.len();
     if !memory::is_sized(t, d, count, s, p) {
         return Started {
-            refusal: 13,
+            refusal: INVALID_MEMORY,
             freed: 0,
         };
     }
@@ -67,14 +74,14 @@ pub fn feed(
     ensures { λ r. ⌜ FeedsWith station (now (chunk .entry)) count (recordsIn (handles .words)) (now (tokens .entry)) (now (dacls .entry)) (now (stations .entry)) (now (pending .entry)) (now (out .entry)) (now (tokens .exit)) (now (dacls .exit)) (now (stations .exit)) (now (pending .exit)) (now (out .exit)) r ⌝ }
 {
     if STATIONS <= station {
-        return accept::unanswered(11, 0, count);
+        return accept::unanswered(NO_STATION, 0, count);
     }
     if out.len() < MAX_ANSWER {
-        return accept::unanswered(12, 0, count);
+        return accept::unanswered(SHORT_BUFFER, 0, count);
     }
     let words = handles.words;
     if !memory::is_valid(tokens, dacls, count, &words, stations, pending) {
-        return accept::unanswered(13, 0, count);
+        return accept::unanswered(INVALID_MEMORY, 0, count);
     }
     accept::accept(
         station,
@@ -100,11 +107,11 @@ pub fn reconnect(
     ensures { λ r. ⌜ ReconnectsWith station count (recordsIn (handles .words)) (now (tokens .entry)) (now (dacls .entry)) (now (stations .entry)) (now (pending .entry)) (now (stations .exit)) (now (pending .exit)) r ⌝ }
 {
     if STATIONS <= station {
-        return 11;
+        return NO_STATION;
     }
     let words = handles.words;
     if !memory::is_valid(tokens, dacls, count, &words, stations, pending) {
-        return 13;
+        return INVALID_MEMORY;
     }
     station::drop_stream(station, stations, pending);
     0

@@ -8,22 +8,22 @@ ghost use Rattle.rules.specs.Memory.{tokenWords};
 ghost use Rattle.state.specs.StationFacts.{stationsSize};
 ghost use Rattle.valid.specs.Meaning.{Lent};
 ghost use Rattle.broker.specs.Initial.{FirstTokens, FirstStations, Begun};
-use crate::memory::DACLS;
-use crate::memory::PENDING;
-use crate::memory::TOKENS;
 use privilege::privileges::Privileges;
+use table::slices;
 use token::Identity;
+use token::layout::TOKEN_WORDS;
 use token::row;
-use token::row::TOKEN_WORDS;
-use token::words;
+use valid::layout::DACLS;
+use valid::layout::PENDING;
+use valid::layout::TOKENS;
 
 // Token 1 in the first slot: SYSTEM's, with every privilege present, enabled and default. The other slots are free.
 fn write_tokens(tokens: &mut [u64], dacls: &mut [u8])
     requires { ⌜ (length (now tokens) ≡ tokenSlots * tokenWords) × (length (now dacls) ≡ tokenSlots * maxDacl) ⌝ }
     ensures { λ _. ⌜ FirstTokens (now (tokens .exit)) (now (dacls .exit)) ⌝ }
 {
-    words::zero_words(TOKENS, tokens);
-    words::zero_bytes(DACLS, dacls);
+    slices::zero_words(TOKENS, tokens);
+    slices::zero_bytes(DACLS, dacls);
     let identity = Identity {
         user: 18,
         session: 999,
@@ -68,7 +68,7 @@ fn write_stations(stations: &mut [u64])
         0,
         0,
     ];
-    words::copy_words(&first, stations);
+    slices::copy_words(&first, stations);
 }
 
 // Any memory of the right sizes is overwritten.
@@ -78,5 +78,5 @@ pub fn write(tokens: &mut [u64], dacls: &mut [u8], stations: &mut [u64], pending
 {
     write_tokens(tokens, dacls);
     write_stations(stations);
-    words::zero_bytes(PENDING, pending);
+    slices::zero_bytes(PENDING, pending);
 }

@@ -3,14 +3,10 @@ ghost use Rattle.handle.specs.Words.{recordsIn};
 ghost use Rattle.broker.specs.Tested.{ValidTested, SizesTested};
 use handle::HANDLE_WORDS;
 use handle::SLOTS;
-
-pub const TOKENS: usize = 1600;
-
-pub const DACLS: usize = 4096;
-
-const STATIONS: usize = 26;
-
-pub const PENDING: usize = 16400;
+use valid::layout::COUNTERS_AND_ROWS;
+use valid::layout::DACLS;
+use valid::layout::PENDING;
+use valid::layout::TOKENS;
 
 // The lengths are those that document 01 fixes.
 pub fn is_sized(tokens: usize, dacls: usize, count: usize, stations: usize, pending: usize) -> bool
@@ -19,7 +15,7 @@ pub fn is_sized(tokens: usize, dacls: usize, count: usize, stations: usize, pend
     (tokens == TOKENS)
         & (dacls == DACLS)
         & (count == SLOTS)
-        & (stations == STATIONS)
+        & (stations == COUNTERS_AND_ROWS)
         & (pending == PENDING)
 }
 

@@ -6,13 +6,9 @@ ghost use Rattle.rules.specs.State.{stationCount};
 ghost use Rattle.rules.specs.Memory.{pendingBytes};
 ghost use Rattle.state.specs.StationFacts.{stationsSize};
 ghost use Rattle.broker.specs.Streams.{StreamGiven, StreamSet, StreamDropped};
-
-const COUNTER_WORDS: usize = 2;
-
-const STATION_WORDS: usize = 3;
-
-// A frame's two length bytes and its body.
-pub const PENDING_BYTES: usize = 2050;
+use valid::layout::COUNTER_WORDS;
+use valid::layout::PENDING_BYTES;
+use valid::layout::STATION_WORDS;
 
 // How many bytes are pending, and whether the stream is broken.
 pub struct Stream {

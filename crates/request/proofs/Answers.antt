@@ -58,26 +58,24 @@ module _ (body fs ps o : List ℕ) (e : encodeAll fs ++ ps ≡ body) (fits : Roo
     bytes = w ∙ ap (λ (l : List ℕ). frame l ++ drop (length (frame l)) o) e;
   }
 
--- numbers alone: a whole array, or its start
+-- numbers alone
 module _ (ns o : List ℕ) (fits : Room (encodeAll ns) o) where
-  pub whole-room : length (answered ns []) ≤ length o
-  whole-room = enough (encodeAll ns) ns [] o (append-nil (encodeAll ns)) fits
+  pub all-room : length (answered ns []) ≤ length o
+  all-room = enough (encodeAll ns) ns [] o (append-nil (encodeAll ns)) fits
 
-  pub whole-framed : (o′ : List ℕ) (r : ℕ) → r ≡ length (answered ns []) → o′ ≡ answered ns [] ++ drop (length (answered ns [])) o → WroteFrame (encodeAll ns) o o′ r
-  whole-framed = framed (encodeAll ns) ns [] o (append-nil (encodeAll ns)) fits
+  pub all-framed : (o′ : List ℕ) (r : ℕ) → r ≡ length (answered ns []) → o′ ≡ answered ns [] ++ drop (length (answered ns [])) o → WroteFrame (encodeAll ns) o o′ r
+  all-framed = framed (encodeAll ns) ns [] o (append-nil (encodeAll ns)) fits
 
-module _ (n : ℕ) (xs ns o : List ℕ) (e : take n xs ≡ ns) (fits : Room (encodeAll ns) o) where
-  abbrev fs : List ℕ
-  fs = take (n - 0) (drop 0 xs)
+-- the start of an array of them
+module _ (n : ℕ) (xs ns o : List ℕ) (e : take n xs ≡ ns) where
+  same : encodeAll (take (n - 0) (drop 0 xs)) ≡ encodeAll ns
+  same = ap encodeAll (start n xs ∙ e)
 
-  same : encodeAll fs ++ [] ≡ encodeAll ns
-  same = append-nil (encodeAll fs) ∙ ap encodeAll (start n xs ∙ e)
+  pub start-room : Room (encodeAll ns) o → Room (encodeAll (take (n - 0) (drop 0 xs))) o
+  start-room h = omega (arith, ap (λ (l : List ℕ). length (frame l)) same)
 
-  pub numbers-room : length (answered fs []) ≤ length o
-  numbers-room = enough (encodeAll ns) fs [] o same fits
-
-  pub numbers-framed : (o′ : List ℕ) (r : ℕ) → r ≡ length (answered fs []) → o′ ≡ answered fs [] ++ drop (length (answered fs [])) o → WroteFrame (encodeAll ns) o o′ r
-  numbers-framed = framed (encodeAll ns) fs [] o same fits
+  pub start-wrote : {o′ : List ℕ} {r : ℕ} → WroteFrame (encodeAll (take (n - 0) (drop 0 xs))) o o′ r → WroteFrame (encodeAll ns) o o′ r
+  start-wrote w = wrote-same same w
 
 -- ---- a status and a value
 
@@ -92,13 +90,8 @@ module _ (count a b : ℕ) (o : List ℕ) (few : count ≤ 2) (ha : a < 2 ^ 64) 
   fits-two : length (frame (encodeAll (take count (a ∷ b ∷ [])))) ≤ length o
   fits-two = let l = short count a b few ha hb in omega arith
 
-  pub put-room : length (answered (take (count - 0) (a ∷ b ∷ [])) []) ≤ length o
-  put-room = numbers-room count (a ∷ b ∷ []) (take count (a ∷ b ∷ [])) o refl fits-two
-
-  pub put-framed : (o′ : List ℕ) (r : ℕ) → r ≡ length (answered (take (count - 0) (a ∷ b ∷ [])) [])
-      → o′ ≡ answered (take (count - 0) (a ∷ b ∷ [])) [] ++ drop (length (answered (take (count - 0) (a ∷ b ∷ [])) [])) o
-      → WroteFrame (encodeAll (take count (a ∷ b ∷ []))) o o′ r
-  put-framed = numbers-framed count (a ∷ b ∷ []) (take count (a ∷ b ∷ [])) o refl fits-two
+  pub put-room : Room (encodeAll (take (count - 0) (a ∷ b ∷ []))) o
+  put-room = start-room count (a ∷ b ∷ []) (take count (a ∷ b ∷ [])) o refl fits-two
 
 -- ---- the report
 

@@ -13,8 +13,8 @@ use crate::outcome;
 use crate::outcome::Outcome;
 use handle::HANDLE_WORDS;
 use privilege::mask::Mask;
-use token::MAX_DACL;
-use token::row::TOKEN_WORDS;
+use token::layout::MAX_DACL;
+use token::layout::TOKEN_WORDS;
 
 // The size bytes that stand at the end of a body are the DACL.
 pub fn adjust_defaults(

@@ -14,10 +14,11 @@ use crate::outcome;
 use crate::outcome::Outcome;
 use handle::HANDLE_WORDS;
 use privilege::mask::Mask;
-use token::MAX_GROUPS;
+use token::layout::GROUP_COUNT;
+use token::layout::HEAD_WORDS;
+use token::layout::MAX_GROUPS;
+use token::layout::TOKEN_WORDS;
 use token::row;
-use token::row::HEAD_WORDS;
-use token::row::TOKEN_WORDS;
 
 // In the token's row.
 fn adjust_row(s: &[u8], at: usize, count: u64, words: &mut [u64]) -> Answer
@@ -25,7 +26,7 @@ fn adjust_row(s: &[u8], at: usize, count: u64, words: &mut [u64]) -> Answer
     ensures { λ r. ⌜ RowSwitched count (drop at (now (s .entry))) (now (words .entry)) (now (words .exit)) r ⌝ }
 {
     let identity = row::identity_in(words);
-    let end = HEAD_WORDS + row::count_in(words, 17, MAX_GROUPS);
+    let end = HEAD_WORDS + row::count_in(words, GROUP_COUNT, MAX_GROUPS);
     let x = groups::adjust(identity.user, s, at, count, &mut words[HEAD_WORDS..end]);
     if x.refusal != 0 {
         return Answer::Refused(x.refusal);

@@ -14,10 +14,11 @@ use crate::located;
 use crate::outcome;
 use crate::outcome::Outcome;
 use crate::privileges;
+use crate::refusal;
 use handle::HANDLE_WORDS;
 use privilege::mask::Mask;
+use token::layout::TOKEN_WORDS;
 use token::row;
-use token::row::TOKEN_WORDS;
 
 // The count entries that stand at a place of a body, on the token in a row.
 fn adjust_row(s: &[u8], at: usize, count: u64, words: &mut [u64]) -> Answer
@@ -27,7 +28,7 @@ fn adjust_row(s: &[u8], at: usize, count: u64, words: &mut [u64]) -> Answer
     let before = row::privileges_in(words);
     let adjusted = privileges::adjust(before, s, at, count);
     if !adjusted.ok {
-        return Answer::Refused(5);
+        return Answer::Refused(refusal::BAD_FIELD);
     }
     let made = adjusted.privileges;
     row::set_privileges(words, made);

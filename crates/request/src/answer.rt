@@ -12,25 +12,22 @@ ghost use Rattle.rules.specs.Memory.{tokenWords, tokenAt};
 ghost use Rattle.rules.specs.Valid.{tokenValid};
 ghost use Rattle.rules.specs.AdjustGroups.{reportWords};
 ghost use Rattle.rules.specs.Query.{classBytes};
+ghost use Rattle.number.specs.Answer.{maxFields};
 ghost use Rattle.request.specs.Body.{groupNumbers, sidNumbers, privilegeWords, statistics};
 ghost use Rattle.request.specs.Answer.{tokenIn, answerOf, Fit, Room, WroteFrame};
 use crate::class;
-use token::MAX_DACL;
-use token::MAX_GROUPS;
-use token::MAX_RESTRICTING;
+use crate::refusal;
+use token::layout::*;
 use token::row;
-use token::row::GROUPS_END;
-use token::row::HEAD_WORDS;
-use token::row::TOKEN_WORDS;
 
 // The status and request 6's sixteen words.
 const REPORT: usize = 17;
 
-// The status, a count and 64 pairs.
-const MAX_NUMBERS: usize = 130;
+// The status, a count and the pairs of all groups.
+const MAX_NUMBERS: usize = 2 + 2 * MAX_GROUPS;
 
-// The status, a count and 16 SIDs.
-const MAX_SIDS: usize = 18;
+// The status, a count and all restricting SIDs.
+const MAX_SIDS: usize = 2 + MAX_RESTRICTING;
 
 pub enum Answer {
     // A refusal by its number.
@@ -47,14 +44,22 @@ pub enum Answer {
     Class { slot: usize, class: u64 },
 }
 
+// The frame of these numbers.
+fn put_all(fields: &[u64], out: &mut [u8]) -> usize
+    requires { ⌜ (length (now fields) ≤ maxFields) × Room (encodeAll (now fields)) (now out) ⌝ }
+    ensures { λ r. ⌜ WroteFrame (encodeAll (now (fields .entry))) (now (out .entry)) (now (out .exit)) r ⌝ }
+{
+    let none = [0u8; 1];
+    number::answer(fields, &none[0..0], out)
+}
+
 // The frame of a status and a value, or of a status alone.
 fn put(count: usize, status: u64, value: u64, out: &mut [u8]) -> usize
     requires { ⌜ (count ≤ 2) × (maxAnswer ≤ length (now out)) ⌝ }
     ensures { λ r. ⌜ WroteFrame (encodeAll (take count (status ∷ value ∷ []))) (now (out .entry)) (now (out .exit)) r ⌝ }
 {
     let fields = [status, value];
-    let none = [0u8; 1];
-    number::answer(&fields[0..count], &none[0..0], out)
+    put_all(&fields[0..count], out)
 }
 
 fn put_report(word: u64, out: &mut [u8]) -> usize
@@ -63,8 +68,7 @@ fn put_report(word: u64, out: &mut [u8]) -> usize
 {
     let mut fields = [0u64; REPORT];
     fields[1] = word;
-    let none = [0u8; 1];
-    number::answer(&fields, &none[0..0], out)
+    put_all(&fields, out)
 }
 
 // ---- a class of a row
@@ -73,25 +77,35 @@ fn put_privileges(words: &[u64], out: &mut [u8]) -> usize
     requires { ⌜ (length (now words) ≡ tokenWords) × Room (encodeAll (0 ∷ privilegeWords (now words))) (now out) ⌝ }
     ensures { λ r. ⌜ WroteFrame (encodeAll (0 ∷ privilegeWords (now (words .entry)))) (now (out .entry)) (now (out .exit)) r ⌝ }
 {
-    let fields = [0, words[13], words[14], words[15], words[16]];
-    let none = [0u8; 1];
-    number::answer(&fields, &none[0..0], out)
+    let fields = [
+        0,
+        words[PRESENT],
+        words[ENABLED],
+        words[BY_DEFAULT],
+        words[USED],
+    ];
+    put_all(&fields, out)
 }
 
 fn put_statistics(words: &[u64], out: &mut [u8]) -> usize
     requires { ⌜ (length (now words) ≡ tokenWords) × Room (encodeAll (0 ∷ statistics (now words))) (now out) ⌝ }
     ensures { λ r. ⌜ WroteFrame (encodeAll (0 ∷ statistics (now (words .entry)))) (now (out .entry)) (now (out .exit)) r ⌝ }
 {
-    let fields = [0, words[0], words[2], words[1], words[4] % 256];
-    let none = [0u8; 1];
-    number::answer(&fields, &none[0..0], out)
+    let fields = [
+        0,
+        words[NUMBER],
+        words[SESSION],
+        words[MODIFIED],
+        words[KIND] % 256,
+    ];
+    put_all(&fields, out)
 }
 
 fn put_dacl(words: &[u64], dacl: &[u8], out: &mut [u8]) -> usize
     requires { ⌜ (length (now words) ≡ tokenWords) × (length (now dacl) ≡ maxDacl) × Room (0 ∷ classBytes (tokenAt (now words) (now dacl)) 6) (now out) ⌝ }
     ensures { λ r. ⌜ WroteFrame (0 ∷ classBytes (tokenAt (now (words .entry)) (now (dacl .entry))) 6) (now (out .entry)) (now (out .exit)) r ⌝ }
 {
-    let n = row::count_in(words, 19, MAX_DACL);
+    let n = row::count_in(words, DACL_COUNT, MAX_DACL);
     let fields = [0, n as u64];
     number::answer(&fields, &dacl[0..n], out)
 }
@@ -100,36 +114,34 @@ fn put_groups(words: &[u64], out: &mut [u8]) -> usize
     requires { ⌜ (length (now words) ≡ tokenWords) × Room (encodeAll (0 ∷ groupNumbers (now words))) (now out) ⌝ }
     ensures { λ r. ⌜ WroteFrame (encodeAll (0 ∷ groupNumbers (now (words .entry)))) (now (out .entry)) (now (out .exit)) r ⌝ }
 {
-    let n = row::count_in(words, 17, MAX_GROUPS);
+    let n = row::count_in(words, GROUP_COUNT, MAX_GROUPS);
     let mut fields = [0u64; MAX_NUMBERS];
     fields[1] = n as u64;
     let mut i: usize = 0;
     while i < n {
         let w = words[HEAD_WORDS + i];
-        fields[2 * i + 2] = w % 4294967296;
-        fields[2 * i + 3] = w / 4294967296;
+        fields[2 * i + 2] = w % WORD_32;
+        fields[2 * i + 3] = w / WORD_32;
         i += 1;
     }
     let end = 2 * n + 2;
-    let none = [0u8; 1];
-    number::answer(&fields[0..end], &none[0..0], out)
+    put_all(&fields[0..end], out)
 }
 
 fn put_sids(words: &[u64], out: &mut [u8]) -> usize
     requires { ⌜ (length (now words) ≡ tokenWords) × Room (encodeAll (0 ∷ sidNumbers (now words))) (now out) ⌝ }
     ensures { λ r. ⌜ WroteFrame (encodeAll (0 ∷ sidNumbers (now (words .entry)))) (now (out .entry)) (now (out .exit)) r ⌝ }
 {
-    let n = row::count_in(words, 18, MAX_RESTRICTING);
+    let n = row::count_in(words, RESTRICTING_COUNT, MAX_RESTRICTING);
     let mut fields = [0u64; MAX_SIDS];
     fields[1] = n as u64;
     let mut i: usize = 0;
     while i < n {
-        fields[i + 2] = words[GROUPS_END + i] % 4294967296;
+        fields[i + 2] = words[GROUPS_END + i] % WORD_32;
         i += 1;
     }
     let end = n + 2;
-    let none = [0u8; 1];
-    number::answer(&fields[0..end], &none[0..0], out)
+    put_all(&fields[0..end], out)
 }
 
 fn put_class(words: &[u64], dacl: &[u8], class: u64, out: &mut [u8]) -> usize
@@ -168,7 +180,7 @@ pub fn write(a: Answer, tokens: &[u64], dacls: &[u8], out: &mut [u8]) -> usize
 {
     match a {
         Answer::Refused(n) => put(1, n, 0, out),
-        Answer::TooSmall(size) => put(2, 9, size, out),
+        Answer::TooSmall(size) => put(2, refusal::CAPACITY_BELOW, size, out),
         Answer::Done => put(1, 0, 0, out),
         Answer::Value(v) => put(2, 0, v, out),
         Answer::Report(w) => put_report(w, out),

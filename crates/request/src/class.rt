@@ -5,12 +5,8 @@ ghost use lib.ListN.{length};
 ghost use Rattle.rules.specs.Number.{encodeAll};
 ghost use Rattle.rules.specs.Memory.{tokenWords};
 ghost use Rattle.request.specs.Body.{groupNumbers, sidNumbers, statistics, IsOne, RowSid, RowOne, RowCounted};
-use token::MAX_DACL;
-use token::MAX_GROUPS;
-use token::MAX_RESTRICTING;
+use token::layout::*;
 use token::row;
-use token::row::GROUPS_END;
-use token::row::HEAD_WORDS;
 
 // A SID's index is 0 for the user, k for group k - 1.
 fn sid_at(words: &[u64], index: u64) -> u64
@@ -19,12 +15,12 @@ fn sid_at(words: &[u64], index: u64) -> u64
 {
     let at = index as usize;
     if at == 0 {
-        return words[3] % 4294967296;
+        return words[USER] % WORD_32;
     }
-    if row::count_in(words, 17, MAX_GROUPS) < at {
+    if row::count_in(words, GROUP_COUNT, MAX_GROUPS) < at {
         return 0;
     }
-    words[HEAD_WORDS - 1 + at] % 4294967296
+    words[HEAD_WORDS - 1 + at] % WORD_32
 }
 
 // The number of a class that is one.
@@ -33,14 +29,14 @@ pub fn one(words: &[u64], class: u64) -> u64
     ensures { λ r. ⌜ RowOne (now (words .entry)) class r ⌝ }
 {
     match class {
-        1 => words[3] % 4294967296,
-        4 => sid_at(words, words[9] % 4294967296),
-        5 => sid_at(words, words[10] % 4294967296),
-        7 => words[4] % 256,
-        8 => words[5] % 256,
-        11 => words[11] % 4294967296,
-        12 => words[6] % 256,
-        _ => words[12] % 4294967296,
+        1 => words[USER] % WORD_32,
+        4 => sid_at(words, words[OWNER] % WORD_32),
+        5 => sid_at(words, words[PRIMARY_GROUP] % WORD_32),
+        7 => words[KIND] % 256,
+        8 => words[LEVEL] % 256,
+        11 => words[SCOPE] % WORD_32,
+        12 => words[ELEVATION] % 256,
+        _ => words[INTEGRITY] % WORD_32,
     }
 }
 
@@ -50,12 +46,12 @@ fn groups_size(words: &[u64]) -> usize
     requires { ⌜ length (now words) ≡ tokenWords ⌝ }
     ensures { λ r. ⌜ r ≡ length (encodeAll (groupNumbers (now (words .entry)))) ⌝ }
 {
-    let n = row::count_in(words, 17, MAX_GROUPS);
+    let n = row::count_in(words, GROUP_COUNT, MAX_GROUPS);
     let mut sum = number::size(n as u64);
     let mut i: usize = 0;
     while i < n {
         let w = words[HEAD_WORDS + i];
-        sum += number::size(w % 4294967296) + number::size(w / 4294967296);
+        sum += number::size(w % WORD_32) + number::size(w / WORD_32);
         i += 1;
     }
     sum
@@ -65,11 +61,11 @@ fn sids_size(words: &[u64]) -> usize
     requires { ⌜ length (now words) ≡ tokenWords ⌝ }
     ensures { λ r. ⌜ r ≡ length (encodeAll (sidNumbers (now (words .entry)))) ⌝ }
 {
-    let n = row::count_in(words, 18, MAX_RESTRICTING);
+    let n = row::count_in(words, RESTRICTING_COUNT, MAX_RESTRICTING);
     let mut sum = number::size(n as u64);
     let mut i: usize = 0;
     while i < n {
-        sum += number::size(words[GROUPS_END + i] % 4294967296);
+        sum += number::size(words[GROUPS_END + i] % WORD_32);
         i += 1;
     }
     sum
@@ -79,7 +75,7 @@ fn dacl_size(words: &[u64]) -> usize
     requires { ⌜ length (now words) ≡ tokenWords ⌝ }
     ensures { λ r. ⌜ RowCounted (now (words .entry)) 6 r ⌝ }
 {
-    let n = row::count_in(words, 19, MAX_DACL);
+    let n = row::count_in(words, DACL_COUNT, MAX_DACL);
     number::size(n as u64) + n
 }
 
@@ -87,7 +83,12 @@ fn statistics_size(words: &[u64]) -> usize
     requires { ⌜ length (now words) ≡ tokenWords ⌝ }
     ensures { λ r. ⌜ r ≡ length (encodeAll (statistics (now (words .entry)))) ⌝ }
 {
-    let fields = [words[0], words[2], words[1], words[4] % 256];
+    let fields = [
+        words[NUMBER],
+        words[SESSION],
+        words[MODIFIED],
+        words[KIND] % 256,
+    ];
     number::sizes(&fields)
 }
 
@@ -97,7 +98,7 @@ pub fn size(words: &[u64], class: u64) -> usize
 {
     match class {
         2 => groups_size(words),
-        3 => number::sizes(&words[13..17]),
+        3 => number::sizes(&words[PRESENT..GROUP_COUNT]),
         6 => dacl_size(words),
         9 => statistics_size(words),
         10 => sids_size(words),

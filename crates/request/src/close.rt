@@ -8,6 +8,7 @@ ghost use Rattle.request.specs.Carried.{Carried};
 use crate::answer::Answer;
 use crate::outcome;
 use crate::outcome::Outcome;
+use crate::refusal;
 use handle::HANDLE_WORDS;
 use state::handles::find_handle;
 use state::release;
@@ -25,7 +26,7 @@ pub fn close(
 {
     let found = find_handle(station, number, handles);
     if found.number == 0 {
-        return outcome::refused(2);
+        return outcome::refused(refusal::NOT_A_LIVE_HANDLE);
     }
     let change = release::close(station, number, handles, tokens, dacls, stations);
     Outcome {

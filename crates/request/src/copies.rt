@@ -6,10 +6,9 @@ ghost use Rattle.rules.specs.Token.{maxDacl};
 ghost use Rattle.rules.specs.State.{tokenSlots};
 ghost use Rattle.rules.specs.Memory.{tokenWords};
 ghost use Rattle.request.specs.Copies.{RowCopied};
-use token::MAX_DACL;
+use token::layout::MAX_DACL;
+use token::layout::TOKEN_WORDS;
 use token::row;
-use token::row::TOKEN_WORDS;
-use token::words;
 
 pub fn words_at(slot: usize, tokens: &[u64]) -> [u64; TOKEN_WORDS]
     requires { ⌜ (length (now tokens) ≡ tokenSlots * tokenWords) × (slot < tokenSlots) ⌝ }
@@ -26,5 +25,5 @@ pub fn dacl_at(slot: usize, dacls: &[u8]) -> [u8; MAX_DACL]
 {
     let at = slot * MAX_DACL;
     let end = at + MAX_DACL;
-    words::load_bytes(&dacls[at..end])
+    row::copied_dacl(&dacls[at..end])
 }

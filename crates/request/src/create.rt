@@ -10,8 +10,8 @@ use crate::entry;
 use crate::entry::Pair;
 use privilege::words;
 use token::Group;
-use token::MAX_GROUPS;
-use token::row::HEAD_WORDS;
+use token::layout::HEAD_WORDS;
+use token::layout::MAX_GROUPS;
 
 // How many groups were entered; ok if every pair was good.
 pub struct Groups {

@@ -13,6 +13,7 @@ use crate::issue::can_issue;
 use crate::issue::issue_row;
 use crate::outcome;
 use crate::outcome::Outcome;
+use crate::refusal;
 use handle::HANDLE_WORDS;
 use privilege::mask::Mask;
 use privilege::privileges::Privileges;
@@ -21,9 +22,9 @@ use state::tokens::held;
 use state::tokens::next_token;
 use state::tokens::used;
 use token::Identity;
-use token::MAX_DACL;
+use token::layout::MAX_DACL;
+use token::layout::TOKEN_WORDS;
 use token::row;
-use token::row::TOKEN_WORDS;
 
 const PRIMARY: u8 = 1;
 
@@ -78,7 +79,7 @@ fn issue_created(
     ensures { λ r. ⌜ RowCreated station (now (row .entry)) (recordsIn (now (handles .entry))) (now (stations .entry)) (now (tokens .entry)) (now (dacls .entry)) (now (stations .exit)) (now (tokens .exit)) (now (dacls .exit)) r ⌝ }
 {
     if !can_issue(handles, tokens, stations) {
-        return outcome::refused(8);
+        return outcome::refused(refusal::TABLE_FULL);
     }
     used(Privileges::CREATE_TOKEN, station, tokens, stations);
     let all = Mask::ALL;
@@ -105,7 +106,7 @@ pub fn create_token(
     ensures { λ r. ⌜ CreateCarried station user session integrity present «by_default» (now (s .entry)) at count (recordsIn (now (handles .entry))) (now (stations .entry)) (now (tokens .entry)) (now (dacls .entry)) (now (stations .exit)) (now (tokens .exit)) (now (dacls .exit)) r ⌝ }
 {
     if !held(Privileges::CREATE_TOKEN, station, tokens, stations) {
-        return outcome::refused(4);
+        return outcome::refused(refusal::PRIVILEGE_NOT_HELD);
     }
     let n = next_token(stations);
     let mut row = [0u64; TOKEN_WORDS];
@@ -122,7 +123,7 @@ pub fn create_token(
         &mut row,
     );
     if !ok {
-        return outcome::refused(5);
+        return outcome::refused(refusal::BAD_FIELD);
     }
     issue_created(station, &row, handles, tokens, dacls, stations)
 }

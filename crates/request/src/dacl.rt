@@ -9,9 +9,10 @@ ghost use Rattle.rules.specs.Memory.{tokenWords};
 ghost use Rattle.rules.specs.Request.{byte};
 ghost use Rattle.request.specs.Layout.{valuesAt, There};
 ghost use Rattle.request.specs.Bytes.{DaclWritten};
-use token::MAX_DACL;
-use token::words::copy_bytes;
-use token::words::zero_bytes;
+use table::slices::copy_bytes;
+use table::slices::zero_bytes;
+use token::layout::DACL_COUNT;
+use token::layout::MAX_DACL;
 
 // The bytes, and then zeros.
 fn store(src: &[u8], out: &mut [u8])
@@ -28,7 +29,7 @@ pub fn write(s: &[u8], at: usize, size: usize, words: &mut [u64], dacl: &mut [u8
     requires { ⌜ (length (now words) ≡ tokenWords) × (length (now dacl) ≡ maxDacl) × (size ≤ maxDacl) × (at ≤ length (now s)) × There byte (now s) at size [] ⌝ }
     ensures { λ _. ⌜ DaclWritten (valuesAt byte (now (s .entry)) at size) (now (words .entry)) (now (words .exit)) (now (dacl .exit)) ⌝ }
 {
-    words[19] = size as u64;
+    words[DACL_COUNT] = size as u64;
     let end = at + size;
     store(&s[at..end], dacl);
 }

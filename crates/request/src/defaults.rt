@@ -13,16 +13,20 @@ ghost use Rattle.request.specs.Ending.{RowsEnd};
 ghost use Rattle.request.specs.Defaults.{OwnerJudged, DefaultsJudged, withIndexes, DefaultsSet, defaultsEnding};
 use crate::answer::Answer;
 use crate::dacl;
+use crate::refusal;
 use privilege::words::has;
-use token::MAX_DACL;
-use token::MAX_GROUPS;
+use token::layout::GROUP_COUNT;
+use token::layout::HEAD_WORDS;
+use token::layout::MAX_DACL;
+use token::layout::MAX_GROUPS;
+use token::layout::OWNER;
+use token::layout::PRIMARY_GROUP;
 use token::row;
-use token::row::HEAD_WORDS;
 
 const NO_CHANGE: u32 = 0xFFFF;
 
 // OWNER, bit 3 of the attributes, in a group's word.
-const OWNER: u64 = 35;
+const OWNER_BIT: u64 = 35;
 
 // An owner index names the user or an OWNER group.
 fn is_owner(words: &[u64], i: u32) -> bool
@@ -36,10 +40,10 @@ fn is_owner(words: &[u64], i: u32) -> bool
     if MAX_GROUPS <= k {
         return false;
     }
-    if words[17] <= k as u64 {
+    if words[GROUP_COUNT] <= k as u64 {
         return false;
     }
-    has(words[HEAD_WORDS + k], OWNER)
+    has(words[HEAD_WORDS + k], OWNER_BIT)
 }
 
 // A primary-group index names the user or any group. Flag 0 goes with no bytes, flag 1 with at most 256.
@@ -48,7 +52,7 @@ fn is_valid(words: &[u64], owner: u32, group: u32, flag: u32, size: u64) -> bool
     ensures { λ r. ⌜ DefaultsJudged owner group flag size (now (words .entry)) r ⌝ }
 {
     ((owner == NO_CHANGE) | is_owner(words, owner))
-        & ((group == NO_CHANGE) | (group as u64 <= words[17]))
+        & ((group == NO_CHANGE) | (group as u64 <= words[GROUP_COUNT]))
         & ((flag == 0) & (size == 0) | (flag == 1) & (size <= MAX_DACL as u64))
 }
 
@@ -62,8 +66,8 @@ fn set_indexes(owner: u32, group: u32, words: &mut [u64])
     requires { ⌜ length (now words) ≡ tokenWords ⌝ }
     ensures { λ _. ⌜ Becomes (withIndexes owner group) (now (words .entry)) (now (words .exit)) ⌝ }
 {
-    words[9] = or_kept(owner, words[9]);
-    words[10] = or_kept(group, words[10]);
+    words[OWNER] = or_kept(owner, words[OWNER]);
+    words[PRIMARY_GROUP] = or_kept(group, words[PRIMARY_GROUP]);
 }
 
 // Flag 1 gives a DACL, and flag 0 keeps it.
@@ -102,7 +106,7 @@ pub fn adjust(
     ensures { λ r. ⌜ RowsEnd (defaultsEnding owner group flag (valuesAt byte (now (s .entry)) at size)) (now (words .entry)) (now (bytes .entry)) (now (words .exit)) (now (bytes .exit)) r ⌝ }
 {
     if !is_valid(words, owner, group, flag, size) {
-        return Answer::Refused(5);
+        return Answer::Refused(refusal::BAD_FIELD);
     }
     set(owner, group, flag, size, s, at, words, bytes);
     Answer::Done

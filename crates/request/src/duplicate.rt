@@ -16,14 +16,14 @@ use crate::issue::issue_row;
 use crate::located;
 use crate::outcome;
 use crate::outcome::Outcome;
+use crate::refusal;
 use handle::HANDLE_WORDS;
 use privilege::mask::Mask;
 use state::tokens::identity_at;
 use state::tokens::next_token;
 use token::Identity;
-use token::MAX_DACL;
+use token::layout::*;
 use token::row;
-use token::row::TOKEN_WORDS;
 
 const PRIMARY: u32 = 1;
 
@@ -51,11 +51,11 @@ fn relabel(words: &mut [u64; TOKEN_WORDS], n: u64, kind: u32, level: u32)
     requires { ⌜ length (now words) ≡ tokenWords ⌝ }
     ensures { λ _. ⌜ Remade (rules.copied n kind level) (now (words .entry)) (now (words .exit)) ⌝ }
 {
-    words[0] = n;
-    words[1] = n;
-    words[4] = kind as u64;
-    words[5] = level as u64;
-    words[6] = 1;
+    words[NUMBER] = n;
+    words[MODIFIED] = n;
+    words[KIND] = kind as u64;
+    words[LEVEL] = level as u64;
+    words[ELEVATION] = 1;
 }
 
 fn issue_copy(
@@ -106,12 +106,12 @@ fn issue_anonymous(
     let n = next_token(stations);
     let p = row::privileges_in(&tokens[at..end]);
     let mut copy = [0u64; TOKEN_WORDS];
-    copy[0] = n;
-    copy[1] = n;
-    copy[3] = ANONYMOUS as u64;
-    copy[4] = IMPERSONATION as u64;
-    copy[6] = 1;
-    copy[16] = p.used;
+    copy[NUMBER] = n;
+    copy[MODIFIED] = n;
+    copy[USER] = ANONYMOUS as u64;
+    copy[KIND] = IMPERSONATION as u64;
+    copy[ELEVATION] = 1;
+    copy[USED] = p.used;
     let dacl = [0u8; MAX_DACL];
     issue_row(
         station,
@@ -192,10 +192,10 @@ pub fn duplicate(
     }
     let source = identity_at(x.slot, tokens);
     if !valid_duplicate(x.mask, source, kind, level, mask) {
-        return outcome::refused(5);
+        return outcome::refused(refusal::BAD_FIELD);
     }
     if !can_issue(handles, tokens, stations) {
-        return outcome::refused(8);
+        return outcome::refused(refusal::TABLE_FULL);
     }
     issue_duplicate(
         station,

@@ -14,18 +14,15 @@ use crate::group_list::enabled_word;
 use crate::group_list::may_switch;
 use crate::group_list::reset_all;
 use crate::group_list::switch_at;
+use crate::refusal;
 use privilege::words;
 use token::words::unpack;
 
-// The ENABLED bits from before; where the refusal is not 0, some entry is bad (5) or asks for what is protected (6), and nothing changed.
+// The ENABLED bits from before; where the refusal is not 0, some entry is bad or asks for what is protected, and nothing changed.
 pub struct Switched {
     pub refusal: u64,
     pub previous: u64,
 }
-
-const BAD_FIELD: u64 = 5;
-
-const PROTECTED_GROUP: u64 = 6;
 
 // Whether no entry asked for what is protected, and the word of the indexes named so far, as long as no entry was bad.
 struct Progress {
@@ -117,13 +114,13 @@ pub fn adjust(user: u32, s: &[u8], at: usize, count: u64, groups: &mut [u64]) ->
     let g = judge(user, s, at, count, groups);
     if !(g.ok & (count != 0)) {
         return Switched {
-            refusal: BAD_FIELD,
+            refusal: refusal::BAD_FIELD,
             previous,
         };
     }
     if !g.free {
         return Switched {
-            refusal: PROTECTED_GROUP,
+            refusal: refusal::PROTECTED_GROUP,
             previous,
         };
     }

@@ -14,6 +14,7 @@ use crate::answer::Answer;
 use crate::lookup::lookup;
 use crate::outcome;
 use crate::outcome::Outcome;
+use crate::refusal;
 use handle::HANDLE_WORDS;
 use privilege::mask::Mask;
 use privilege::privileges::Privileges;
@@ -43,17 +44,17 @@ fn refusal_of(same: bool, token: u64, station: u32, tokens: &[u64], stations: &[
     ensures { λ r. ⌜ Checked same token station (now (tokens .entry)) (now (stations .entry)) r ⌝ }
 {
     if !held(Privileges::ASSIGN_PRIMARY, station, tokens, stations) {
-        return 4;
+        return refusal::PRIVILEGE_NOT_HELD;
     }
     let new = identity_of(token, tokens);
     if new.kind != PRIMARY {
-        return 5;
+        return refusal::BAD_FIELD;
     }
     let trusted = held(Privileges::TCB, station, tokens, stations);
     if same | trusted {
         return 0;
     }
-    7
+    refusal::INSTALL_MISMATCH
 }
 
 // The used bits fall on the token that is the caller's primary one now; Tcb counts only where the tokens don't match.

@@ -16,6 +16,7 @@ use state::handles::add_handle;
 use state::handles::can_add_handle;
 use state::tokens::add_row;
 use state::tokens::can_add_token;
+use token::layout::NUMBER;
 
 // Both tables have a free slot and a number left.
 pub fn can_issue(handles: &[u64; HANDLE_WORDS], tokens: &[u64], stations: &[u64]) -> bool
@@ -42,7 +43,7 @@ pub fn issue_row(
     ensures { λ r. ⌜ RowIssued station mask (now (words .entry)) (now (bytes .entry)) (recordsIn (now (handles .entry))) (now (stations .entry)) (now (tokens .entry)) (now (dacls .entry)) (now (stations .exit)) (now (tokens .exit)) (now (dacls .exit)) r ⌝ }
 {
     add_row(words, bytes, tokens, dacls, stations);
-    let change = add_handle(station, words[0], mask, handles, stations);
+    let change = add_handle(station, words[NUMBER], mask, handles, stations);
     let added = change.handle;
     let number = added.number as u64;
     Outcome {

@@ -25,6 +25,7 @@ pub mod open;
 pub mod outcome;
 pub mod privileges;
 pub mod query;
+pub mod refusal;
 pub mod restrict;
 pub mod restrict_token;
 pub mod restricted;

@@ -7,10 +7,11 @@ ghost use Rattle.rules.specs.Memory.{tokenWords};
 ghost use Rattle.handle.specs.Words.{recordsIn};
 ghost use Rattle.request.specs.Located.{TokenLocated};
 use crate::lookup;
+use crate::refusal;
 use handle::HANDLE_WORDS;
 use privilege::mask::Mask;
+use token::layout::TOKEN_SLOTS;
 use token::slots;
-use token::slots::TOKEN_SLOTS;
 
 // What the handle is refused for, 0 if nothing; its token's number and slot, and its mask. The slot is always one that can be lent.
 pub struct Located {
@@ -36,7 +37,7 @@ pub fn locate(
     let slot = slots::find(tokens, h.token);
     if TOKEN_SLOTS <= slot {
         return Located {
-            refusal: 2,
+            refusal: refusal::NOT_A_LIVE_HANDLE,
             token: h.token,
             slot: 0,
             mask: h.mask,

@@ -2,6 +2,7 @@
 ghost use mathlib.Core.Path.{_≡_};
 ghost use Rattle.handle.specs.Words.{recordsIn};
 ghost use Rattle.request.specs.Lookup.{handleRefusal, LookedUp};
+use crate::refusal;
 use handle::HANDLE_WORDS;
 use handle::Handle;
 use privilege::mask::Mask;
@@ -18,13 +19,13 @@ fn refusal_of(found: Handle, right: Mask) -> u64
     ensures { λ r. ⌜ r ≡ handleRefusal found (right .0) ⌝ }
 {
     if found.number == 0 {
-        return 2;
+        return refusal::NOT_A_LIVE_HANDLE;
     }
     let mask = Mask(found.mask);
     if mask.permits(right) {
         return 0;
     }
-    3
+    refusal::RIGHT_MISSING
 }
 
 pub fn lookup(station: u32, number: u32, right: Mask, handles: &[u64; HANDLE_WORDS]) -> Target

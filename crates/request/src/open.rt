@@ -8,6 +8,7 @@ ghost use Rattle.request.specs.Carried.{Carried};
 use crate::answer::Answer;
 use crate::outcome;
 use crate::outcome::Outcome;
+use crate::refusal;
 use handle::HANDLE_WORDS;
 use privilege::mask::Mask;
 use state::handles::add_handle;
@@ -27,10 +28,10 @@ pub fn open_own(
 {
     let asked = Mask(mask);
     if !asked.valid() {
-        return outcome::refused(5);
+        return outcome::refused(refusal::BAD_FIELD);
     }
     if !can_add_handle(handles, stations) {
-        return outcome::refused(8);
+        return outcome::refused(refusal::TABLE_FULL);
     }
     let own = caller_number(station, stations);
     let change = add_handle(station, own, mask, handles, stations);

@@ -14,11 +14,12 @@ use crate::class::size;
 use crate::lookup::lookup;
 use crate::outcome;
 use crate::outcome::Outcome;
+use crate::refusal;
 use handle::HANDLE_WORDS;
 use privilege::mask::Mask;
-use token::row::TOKEN_WORDS;
+use token::layout::TOKEN_SLOTS;
+use token::layout::TOKEN_WORDS;
 use token::slots;
-use token::slots::TOKEN_SLOTS;
 
 // A class of the live token of that number; there is one.
 fn class_of(token: u64, class: u64, capacity: u64, tokens: &[u64]) -> Answer
@@ -27,11 +28,11 @@ fn class_of(token: u64, class: u64, capacity: u64, tokens: &[u64]) -> Answer
 {
     let known = (1 <= class) & (class <= 13);
     if !known {
-        return Answer::Refused(5);
+        return Answer::Refused(refusal::BAD_FIELD);
     }
     let slot = slots::find(tokens, token);
     if TOKEN_SLOTS <= slot {
-        return Answer::Refused(5);
+        return Answer::Refused(refusal::BAD_FIELD);
     }
     let at = slot * TOKEN_WORDS;
     let end = at + TOKEN_WORDS;

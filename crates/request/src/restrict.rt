@@ -12,9 +12,10 @@ use number::Number;
 use privilege::words::bit;
 use privilege::words::has;
 use privilege::words::with;
-use token::row::GROUPS_END;
-use token::row::HEAD_WORDS;
-use token::row::TOKEN_WORDS;
+use token::layout::GROUPS_END;
+use token::layout::HEAD_WORDS;
+use token::layout::RESTRICTING_COUNT;
+use token::layout::TOKEN_WORDS;
 use token::words;
 
 // The word of the indexes named so far, as long as every index was good.
@@ -105,7 +106,7 @@ fn add_sid(words: &mut [u64; TOKEN_WORDS], k: u64, sid: u64)
 {
     let i = GROUPS_END + k as usize;
     words[i] = sid;
-    words[18] = k + 1;
+    words[RESTRICTING_COUNT] = k + 1;
 }
 
 // The count SIDs that stand at a place of a body, of a row that has k and room for them.

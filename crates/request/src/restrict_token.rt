@@ -16,6 +16,7 @@ use crate::issue::issue_row;
 use crate::located;
 use crate::outcome;
 use crate::outcome::Outcome;
+use crate::refusal;
 use crate::restrict::valid_indexes;
 use crate::restricted;
 use crate::restricted::Counts;
@@ -24,6 +25,7 @@ use privilege::mask::Mask;
 use privilege::privileges::Privileges;
 use privilege::words;
 use state::tokens::next_token;
+use token::layout::MAX_RESTRICTING;
 
 // What the copy of a token that has so many groups and SIDs is refused for: 0 if nothing.
 fn refusal_of(
@@ -44,15 +46,15 @@ fn refusal_of(
     let indexes = valid_indexes(counts.groups, s, deny_at, deny_count);
     let valid = (mark <= 1) & words::within(removed, Privileges::EXISTING) & indexes;
     if !valid {
-        return 5;
+        return refusal::BAD_FIELD;
     }
-    if 16 - counts.restricting < sid_count {
-        return 8;
+    if MAX_RESTRICTING as u64 - counts.restricting < sid_count {
+        return refusal::TABLE_FULL;
     }
     if can_issue(handles, tokens, stations) {
         return 0;
     }
-    8
+    refusal::TABLE_FULL
 }
 
 // Of the token in a slot, where nothing speaks against it.

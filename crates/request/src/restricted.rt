@@ -10,10 +10,8 @@ ghost use Rattle.request.specs.Restricts.{CountsAt, markWord, limitedTo,
 use crate::restrict::add_sids;
 use crate::restrict::deny;
 use privilege::words::without;
-use token::MAX_GROUPS;
-use token::MAX_RESTRICTING;
+use token::layout::*;
 use token::row;
-use token::row::TOKEN_WORDS;
 
 // How many groups and restricting SIDs a token has.
 pub struct Counts {
@@ -28,8 +26,8 @@ pub fn counts_at(slot: usize, tokens: &[u64]) -> Counts
 {
     let at = slot * TOKEN_WORDS;
     let end = at + TOKEN_WORDS;
-    let groups = row::count_in(&tokens[at..end], 17, MAX_GROUPS);
-    let restricting = row::count_in(&tokens[at..end], 18, MAX_RESTRICTING);
+    let groups = row::count_in(&tokens[at..end], GROUP_COUNT, MAX_GROUPS);
+    let restricting = row::count_in(&tokens[at..end], RESTRICTING_COUNT, MAX_RESTRICTING);
     Counts {
         groups: groups as u64,
         restricting: restricting as u64,
@@ -48,19 +46,19 @@ fn limit(words: &mut [u64; TOKEN_WORDS], n: u64, mark: u32, removed: u64)
     requires { ⌜ length (now words) ≡ tokenWords ⌝ }
     ensures { λ _. ⌜ Remade (limitedTo n mark removed) (now (words .entry)) (now (words .exit)) ⌝ }
 {
-    let write = marked(mark, words[7]);
-    let deny = marked(mark, words[8]);
-    let present = without(words[13], removed);
-    let enabled = without(words[14], removed);
-    let by_default = without(words[15], removed);
-    words[0] = n;
-    words[1] = n;
-    words[6] = 1;
-    words[7] = write;
-    words[8] = deny;
-    words[13] = present;
-    words[14] = enabled;
-    words[15] = by_default;
+    let write = marked(mark, words[WRITE_RESTRICTED]);
+    let deny = marked(mark, words[USER_DENY_ONLY]);
+    let present = without(words[PRESENT], removed);
+    let enabled = without(words[ENABLED], removed);
+    let by_default = without(words[BY_DEFAULT], removed);
+    words[NUMBER] = n;
+    words[MODIFIED] = n;
+    words[ELEVATION] = 1;
+    words[WRITE_RESTRICTED] = write;
+    words[USER_DENY_ONLY] = deny;
+    words[PRESENT] = present;
+    words[ENABLED] = enabled;
+    words[BY_DEFAULT] = by_default;
 }
 
 // The indexes to deny and the restricting SIDs stand at two places of a body.

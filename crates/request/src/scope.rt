@@ -16,15 +16,16 @@ use crate::answer::Answer;
 use crate::lookup::lookup;
 use crate::outcome;
 use crate::outcome::Outcome;
+use crate::refusal;
 use handle::HANDLE_WORDS;
 use privilege::mask::Mask;
 use privilege::privileges::Privileges;
 use state::tokens::held;
 use state::tokens::used;
+use token::layout::TOKEN_SLOTS;
+use token::layout::TOKEN_WORDS;
 use token::row;
-use token::row::TOKEN_WORDS;
 use token::slots;
-use token::slots::TOKEN_SLOTS;
 
 fn rescope(value: u32, words: &mut [u64])
     requires { ⌜ length (now words) ≡ tokenWords ⌝ }
@@ -73,7 +74,7 @@ pub fn scope(
         return outcome::refused(target.refusal);
     }
     if !held(Privileges::TCB, station, tokens, stations) {
-        return outcome::refused(4);
+        return outcome::refused(refusal::PRIVILEGE_NOT_HELD);
     }
     apply(station, target.handle.token, value, tokens, stations);
     outcome::ends(Answer::Done)

@@ -114,14 +114,6 @@ module _ (P : ℕ → List ℕ → Read ℕ → Type 0)
       (λ l. simp (le-ltb b 128 l) (by-longer top b bytes l (readNumber (top / 128) bytes) (by-reading (top / 128) bytes)))
       (below-or b 128)
 
--- no more than the field's largest value
-abbrev pub Upto : ℕ → Read ℕ → Type 0
-Upto top bad = Unit {0}
-Upto top (got v rest) = v ≤ top
-
-pub read-upto : (top : ℕ) (bytes : List ℕ) → Upto top (readNumber top bytes)
-read-upto = by-reading (λ top bytes r. Upto top r) (λ top bytes. tt) (λ top b bytes l k. k) (λ top b n bytes rest l z k f. k)
-
 -- one form: whatever is read is the encoding of its value, before the bytes after it
 abbrev pub Form : List ℕ → Read ℕ → Type 0
 Form bytes bad = Unit {0}

@@ -12,6 +12,7 @@ use number::Cursor;
 use request::layout;
 use request::outcome;
 use request::outcome::Outcome;
+use request::refusal;
 
 pub fn open_own(
     station: u32,
@@ -27,7 +28,7 @@ pub fn open_own(
 {
     let f = layout::number(s, c);
     if !f.ok {
-        return outcome::refused(1);
+        return outcome::refused(refusal::MALFORMED);
     }
     request::open::open_own(station, f.value, handles, tokens, dacls, stations)
 }
@@ -46,7 +47,7 @@ pub fn close(
 {
     let f = layout::number(s, c);
     if !f.ok {
-        return outcome::refused(1);
+        return outcome::refused(refusal::MALFORMED);
     }
     request::close::close(station, f.value, handles, tokens, dacls, stations)
 }
@@ -65,7 +66,7 @@ pub fn create(
 {
     let f = layout::create(s, c);
     if !f.ok {
-        return outcome::refused(1);
+        return outcome::refused(refusal::MALFORMED);
     }
     request::create_token::create_token(
         station,
@@ -98,7 +99,7 @@ pub fn query(
 {
     let f = layout::query(s, c);
     if !f.ok {
-        return outcome::refused(1);
+        return outcome::refused(refusal::MALFORMED);
     }
     request::query::query(
         station,
@@ -126,7 +127,7 @@ pub fn privileges(
 {
     let f = layout::entries(s, c);
     if !f.ok {
-        return outcome::refused(1);
+        return outcome::refused(refusal::MALFORMED);
     }
     request::adjust_privileges::adjust_privileges(
         station,
@@ -155,7 +156,7 @@ pub fn groups(
 {
     let f = layout::entries(s, c);
     if !f.ok {
-        return outcome::refused(1);
+        return outcome::refused(refusal::MALFORMED);
     }
     request::adjust_groups::adjust_groups(
         station,
@@ -184,7 +185,7 @@ pub fn scope(
 {
     let f = layout::scope(s, c);
     if !f.ok {
-        return outcome::refused(1);
+        return outcome::refused(refusal::MALFORMED);
     }
     request::scope::scope(station, f.handle, f.value, handles, tokens, dacls, stations)
 }
@@ -203,7 +204,7 @@ pub fn defaults(
 {
     let f = layout::defaults(s, c);
     if !f.ok {
-        return outcome::refused(1);
+        return outcome::refused(refusal::MALFORMED);
     }
     request::adjust_defaults::adjust_defaults(
         station,
@@ -235,7 +236,7 @@ pub fn duplicate(
 {
     let f = layout::duplicate(s, c);
     if !f.ok {
-        return outcome::refused(1);
+        return outcome::refused(refusal::MALFORMED);
     }
     request::duplicate::duplicate(
         station,
@@ -264,7 +265,7 @@ pub fn restrict(
 {
     let f = layout::restrict(s, c);
     if !f.ok {
-        return outcome::refused(1);
+        return outcome::refused(refusal::MALFORMED);
     }
     request::restrict_token::restrict_token(
         station,
@@ -297,7 +298,7 @@ pub fn install(
 {
     let f = layout::number(s, c);
     if !f.ok {
-        return outcome::refused(1);
+        return outcome::refused(refusal::MALFORMED);
     }
     request::install::install(station, f.value, handles, tokens, dacls, stations)
 }

@@ -11,6 +11,7 @@ use request::answer;
 use request::layout;
 use request::outcome;
 use request::outcome::Outcome;
+use request::refusal;
 use state::handles::Change;
 
 mod by_number;
@@ -48,7 +49,7 @@ fn carry_out(
         9 => by_number::duplicate(station, body, c, handles, tokens, dacls, stations),
         10 => by_number::restrict(station, body, c, handles, tokens, dacls, stations),
         11 => by_number::install(station, body, c, handles, tokens, dacls, stations),
-        _ => outcome::refused(1),
+        _ => outcome::refused(refusal::MALFORMED),
     }
 }
 

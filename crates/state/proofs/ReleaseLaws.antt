@@ -31,7 +31,7 @@ use Rattle.token.proofs.Laws.{put-words, put-dacls}
 use Rattle.state.specs.Parts.{TokensIn}
 use Rattle.state.specs.Formed.{Formed}
 use Rattle.state.specs.StationFacts.{CallerNumber, TokenSet, StationsRefer}
-use Rattle.state.specs.HandleFacts.{changed, HandleGiven, HandleDropped}
+use Rattle.state.specs.HandleFacts.{HandleGiven, HandleDropped}
 use Rattle.state.specs.ReleaseFacts.{PartsIn, TokenFreed, Closed, Installed}
 use Rattle.state.specs.declared.handles.Change.{Change}
 use Rattle.state.proofs.FormedLaws.{loose-formed, tokens-back, handles-back, tokens-same, handles-same, stations-same}

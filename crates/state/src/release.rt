@@ -12,6 +12,7 @@ use crate::handles::find_handle;
 use crate::stations;
 use handle::HANDLE_WORDS;
 use handle::SLOTS;
+use token::layout::TOKEN_SLOTS;
 use token::slots;
 
 // The token is freed if neither a handle, but for the one in a slot that is freed, nor a station refers to it.
@@ -32,7 +33,7 @@ pub fn free_unreferenced(
         return;
     }
     let slot = slots::find(tokens, token);
-    if slot < slots::TOKEN_SLOTS {
+    if slot < TOKEN_SLOTS {
         slots::clear_at(tokens, dacls, slot);
     }
 }

@@ -14,10 +14,10 @@ use crate::stations::caller_number;
 use privilege::privileges::Privileges;
 use privilege::words;
 use token::Identity;
+use token::layout::TOKEN_SLOTS;
+use token::layout::TOKEN_WORDS;
 use token::row;
-use token::row::TOKEN_WORDS;
 use token::slots;
-use token::slots::TOKEN_SLOTS;
 
 // A number that is never given.
 const MAX_NEXT: u64 = 0xFFFF_FFFF_FFFF_FFFF;

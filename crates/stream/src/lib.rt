@@ -10,6 +10,7 @@ pub mod frame;
 
 use frame::framed;
 use frame::sure;
+use table::slices;
 
 // What the first bytes of a stream come to: a part of a frame, a break, or a whole frame, whose body begins at start.
 pub enum Framed {
@@ -31,17 +32,6 @@ fn least(a: usize, b: usize) -> usize
     if a < b { a } else { b }
 }
 
-fn copy(src: &[u8], out: &mut [u8])
-    requires { ⌜ length (now out) ≡ length (now src) ⌝ }
-    ensures { λ r. ⌜ now (out .exit) ≡ now (src .entry) ⌝ }
-{
-    let mut i: usize = 0;
-    while i < src.len() {
-        out[i] = src[i];
-        i += 1;
-    }
-}
-
 // The bytes of a chunk, but for its last one, join at once while the pending ones stay a part of a frame for sure. Answers how many.
 fn join_at_once(chunk: &[u8], row: &mut [u8], count: usize) -> usize
     requires { ⌜ (1 ≤ length (now chunk)) × (length (now row) ≡ pendingBytes) × (count < pendingBytes) ⌝ }
@@ -49,7 +39,7 @@ fn join_at_once(chunk: &[u8], row: &mut [u8], count: usize) -> usize
 {
     let k = least(sure(row, count), chunk.len() - 1);
     let end = count + k;
-    copy(&chunk[0..k], &mut row[count..end]);
+    slices::copy_bytes(&chunk[0..k], &mut row[count..end]);
     k
 }
 
@@ -97,9 +87,5 @@ pub fn clear(row: &mut [u8], count: usize)
     requires { ⌜ count ≤ length (now row) ⌝ }
     ensures { λ r. ⌜ now (row .exit) ≡ replicate count 0 ++ drop count (now (row .entry)) ⌝ }
 {
-    let mut i: usize = 0;
-    while i < count {
-        row[i] = 0;
-        i += 1;
-    }
+    slices::zero_bytes(count, &mut row[0..count]);
 }

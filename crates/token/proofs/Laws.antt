@@ -5,7 +5,7 @@ use Prim.Native.Nat.{ℕ, _<_}
 use lib.ListN.{length, set}
 use Rattle.table.specs.Table.{put-record, flat, put-flat}
 use Rattle.rules.specs.Token.{Token, maxDacl}
-use Rattle.rules.specs.Table.{Slot, free, live}
+use Rattle.rules.specs.Table.{Slot}
 use Rattle.rules.specs.Memory.{tokenWords, slotRow, slotDacl}
 use Rattle.rules.proofs.Rows.{length-slotRow, length-slotDacl}
 

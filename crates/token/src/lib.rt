@@ -1,13 +1,8 @@
 // Tokens in lent memory: a token's row, which requests read and change in place, and the slots of all tokens.
+pub mod layout;
 pub mod row;
 pub mod slots;
 pub mod words;
-
-pub const MAX_GROUPS: usize = 64;
-
-pub const MAX_RESTRICTING: usize = 16;
-
-pub const MAX_DACL: usize = 256;
 
 pub struct Group {
     pub sid: u32,

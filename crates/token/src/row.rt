@@ -10,18 +10,9 @@ ghost use Rattle.privilege.specs.Meaning.{privilegesOf};
 ghost use Rattle.token.specs.Row.{identityIn, privilegesIn, Becomes};
 ghost use Rattle.token.specs.NewRow.{Headed};
 use crate::Identity;
-use crate::MAX_DACL;
-use crate::MAX_GROUPS;
-use crate::MAX_RESTRICTING;
-use crate::words;
+use crate::layout::*;
 use privilege::privileges::Privileges;
-
-// The scalars and the counts come first, then the groups, then the restricting SIDs.
-pub const HEAD_WORDS: usize = 20;
-
-pub const GROUPS_END: usize = HEAD_WORDS + MAX_GROUPS;
-
-pub const TOKEN_WORDS: usize = GROUPS_END + MAX_RESTRICTING;
+use table::slices;
 
 // ---- reading
 
@@ -30,11 +21,11 @@ pub fn identity_in(words: &[u64]) -> Identity
     ensures { λ r. ⌜ r ≡ identityIn (now (words .entry)) ⌝ }
 {
     Identity {
-        user: (words[3] % 4294967296) as u32,
-        session: words[2],
-        kind: (words[4] % 256) as u8,
-        level: (words[5] % 256) as u8,
-        integrity: (words[12] % 4294967296) as u32,
+        user: (words[USER] % WORD_32) as u32,
+        session: words[SESSION],
+        kind: (words[KIND] % 256) as u8,
+        level: (words[LEVEL] % 256) as u8,
+        integrity: (words[INTEGRITY] % WORD_32) as u32,
     }
 }
 
@@ -43,10 +34,10 @@ pub fn privileges_in(words: &[u64]) -> Privileges
     ensures { λ r. ⌜ r ≡ privilegesIn (now (words .entry)) ⌝ }
 {
     Privileges {
-        present: words[13],
-        enabled: words[14],
-        by_default: words[15],
-        used: words[16],
+        present: words[PRESENT],
+        enabled: words[ENABLED],
+        by_default: words[BY_DEFAULT],
+        used: words[USED],
     }
 }
 
@@ -74,6 +65,20 @@ pub fn copied(words: &[u64]) -> [u64; TOKEN_WORDS]
     out
 }
 
+// A copy of the DACL's row.
+pub fn copied_dacl(bytes: &[u8]) -> [u8; MAX_DACL]
+    requires { ⌜ length (now bytes) ≡ maxDacl ⌝ }
+    ensures { λ r. ⌜ r ≡ now (bytes .entry) ⌝ }
+{
+    let mut out = [0u8; MAX_DACL];
+    let mut i: usize = 0;
+    while i < MAX_DACL {
+        out[i] = bytes[i];
+        i += 1;
+    }
+    out
+}
+
 // ---- writing
 
 // The head of a new token, in a row that has only its groups: the modified number is the number, the elevation Default.
@@ -87,19 +92,19 @@ pub fn set_head(
     requires { ⌜ length (now words) ≡ tokenWords ⌝ }
     ensures { λ _. ⌜ Headed number (identityOf identity) (privilegesOf p) «group_count» (now (words .entry)) (now (words .exit)) ⌝ }
 {
-    words[0] = number;
-    words[1] = number;
-    words[2] = identity.session;
-    words[3] = identity.user as u64;
-    words[4] = identity.kind as u64;
-    words[5] = identity.level as u64;
-    words[6] = 1;
-    words[12] = identity.integrity as u64;
-    words[13] = p.present;
-    words[14] = p.enabled;
-    words[15] = p.by_default;
-    words[16] = p.used;
-    words[17] = group_count as u64;
+    words[NUMBER] = number;
+    words[MODIFIED] = number;
+    words[SESSION] = identity.session;
+    words[USER] = identity.user as u64;
+    words[KIND] = identity.kind as u64;
+    words[LEVEL] = identity.level as u64;
+    words[ELEVATION] = 1;
+    words[INTEGRITY] = identity.integrity as u64;
+    words[PRESENT] = p.present;
+    words[ENABLED] = p.enabled;
+    words[BY_DEFAULT] = p.by_default;
+    words[USED] = p.used;
+    words[GROUP_COUNT] = group_count as u64;
 }
 
 // ---- changes in place
@@ -109,24 +114,24 @@ pub fn step_modified(words: &mut [u64])
     requires { ⌜ length (now words) ≡ tokenWords ⌝ }
     ensures { λ _. ⌜ Becomes nextModified (now (words .entry)) (now (words .exit)) ⌝ }
 {
-    words[1] = std::num::wrapping_add_u64(words[1], 1);
+    words[MODIFIED] = std::num::wrapping_add_u64(words[MODIFIED], 1);
 }
 
 pub fn set_privileges(words: &mut [u64], p: Privileges)
     requires { ⌜ length (now words) ≡ tokenWords ⌝ }
     ensures { λ _. ⌜ Becomes (withPrivileges (privilegesOf p)) (now (words .entry)) (now (words .exit)) ⌝ }
 {
-    words[13] = p.present;
-    words[14] = p.enabled;
-    words[15] = p.by_default;
-    words[16] = p.used;
+    words[PRESENT] = p.present;
+    words[ENABLED] = p.enabled;
+    words[BY_DEFAULT] = p.by_default;
+    words[USED] = p.used;
 }
 
 pub fn set_scope(words: &mut [u64], scope: u32)
     requires { ⌜ length (now words) ≡ tokenWords ⌝ }
     ensures { λ _. ⌜ Becomes (withScope scope) (now (words .entry)) (now (words .exit)) ⌝ }
 {
-    words[11] = scope as u64;
+    words[SCOPE] = scope as u64;
 }
 
 // A free slot.
@@ -134,6 +139,6 @@ pub fn clear(words: &mut [u64], bytes: &mut [u8])
     requires { ⌜ (length (now words) ≡ tokenWords) × (length (now bytes) ≡ maxDacl) ⌝ }
     ensures { λ r. ⌜ (now (words .exit) ≡ slotRow free) × (now (bytes .exit) ≡ slotDacl free) ⌝ }
 {
-    words::zero_words(TOKEN_WORDS, words);
-    words::zero_bytes(MAX_DACL, bytes);
+    slices::zero_words(TOKEN_WORDS, words);
+    slices::zero_bytes(MAX_DACL, bytes);
 }

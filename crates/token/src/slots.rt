@@ -11,12 +11,11 @@ ghost use Rattle.rules.specs.State.{tokenSlots, isNumbered};
 ghost use Rattle.rules.specs.Index.{freeIndex, foundIndex};
 ghost use Rattle.rules.specs.Memory.{tokenWords, slotRow, slotDacl};
 ghost use Rattle.token.specs.Meaning.{slotsOf};
-use crate::MAX_DACL;
+use crate::layout::MAX_DACL;
+use crate::layout::TOKEN_SLOTS;
+use crate::layout::TOKEN_WORDS;
 use crate::row;
-use crate::row::TOKEN_WORDS;
-use crate::words;
-
-pub const TOKEN_SLOTS: usize = 16;
+use table::slices;
 
 // A slot's rows become these.
 pub fn put_at(words: &[u64], bytes: &[u8], tokens: &mut [u64], dacls: &mut [u8], slot: usize)
@@ -27,8 +26,8 @@ pub fn put_at(words: &[u64], bytes: &[u8], tokens: &mut [u64], dacls: &mut [u8],
     let end = at + TOKEN_WORDS;
     let from = slot * MAX_DACL;
     let till = from + MAX_DACL;
-    words::copy_words(words, &mut tokens[at..end]);
-    words::copy_bytes(bytes, &mut dacls[from..till]);
+    slices::copy_words(words, &mut tokens[at..end]);
+    slices::copy_bytes(bytes, &mut dacls[from..till]);
 }
 
 pub fn clear_at(tokens: &mut [u64], dacls: &mut [u8], slot: usize)

@@ -14,7 +14,6 @@ use Rattle.rules.specs.Basic.{all, member, implies}
 use Rattle.rules.specs.Bits.{within}
 use Rattle.rules.specs.Group.{Group}
 use Rattle.rules.specs.Token.{Token, maxGroups, maxRestricting, maxDacl, primary, impersonation}
-use Rattle.rules.specs.Table.{free, live}
 use Rattle.rules.specs.Create.{validIntegrity}
 use Rattle.rules.specs.AdjustDefaults.{validOwner, validGroup}
 use Rattle.rules.specs.Valid.{isByte, is32, is64, between, identityValid, privilegesValid, groupValid, groupsValid, limitsValid, defaultsValid, tokenValid}

@@ -5,7 +5,13 @@ ghost use lib.ListN.{length, take};
 ghost use Rattle.rules.specs.State.{tokenSlots, handleSlots, stationCount};
 ghost use Rattle.rules.specs.Memory.{tokenWords, stationWords};
 ghost use Rattle.valid.specs.Tests.{columnBy, firstWord, otherWord, nonzero, isKept, Front, referenceSlots, Referred};
-use crate::layout::*;
+use crate::layout::REFERENCES;
+use crate::layout::STATION_WORDS;
+use crate::layout::STATIONS;
+use token::layout::KIND;
+use token::layout::NUMBER;
+use token::layout::TOKEN_SLOTS;
+use token::layout::TOKEN_WORDS;
 
 // The first `count` of `numbers`.
 pub struct Given {

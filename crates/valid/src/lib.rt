@@ -26,7 +26,7 @@ use tokens::tokens_valid;
 
 mod columns;
 mod handles;
-mod layout;
+pub mod layout;
 mod numbers;
 mod stations;
 mod tokens;

@@ -11,10 +11,11 @@ ghost use Rattle.rules.specs.State.{tokenSlots};
 ghost use Rattle.rules.specs.AdjustDefaults.{validOwner};
 ghost use Rattle.rules.specs.Memory.{unpack, tokenWords};
 ghost use Rattle.valid.specs.Tests.{groupTest, carriedTo, headTest, Counted, listsTest, liveTest, tokenTest};
-use crate::layout::*;
 use crate::words::narrow_words;
 use crate::words::zero_bytes;
 use crate::words::zero_words;
+use privilege::privileges::Privileges;
+use token::layout::*;
 
 // A group's word is SID + attributes * 2^32. Its attributes; OWNER's bit of the word.
 const ATTRIBUTES: u64 = 0xC000001F;
@@ -30,8 +31,6 @@ const CARRY: u64 = 0x4000000C00000000;
 const BY_HALF: u64 = 0x8000000000000000;
 
 const BOTH: u64 = 0x2000000000;
-
-const PRIVILEGES: u64 = 0x1FFFFFFFFC;
 
 fn carried(w: u64) -> u64
     ensures { λ r. ⌜ r ≡ carriedTo w ⌝ }
@@ -90,8 +89,8 @@ fn head_valid(w: &[u64]) -> bool
                 | ((integrity == 8192) | ((integrity == 12288) | (integrity == 16384)))))
         & (((w[BY_DEFAULT] & present) == w[BY_DEFAULT])
             & ((w[ENABLED] & present) == w[ENABLED])
-            & ((present & PRIVILEGES) == present)
-            & ((w[USED] & PRIVILEGES) == w[USED]))
+            & ((present & Privileges::EXISTING) == present)
+            & ((w[USED] & Privileges::EXISTING) == w[USED]))
 }
 
 // The lists end where their counts say, and restricting SIDs are below 2^32.
@@ -105,7 +104,7 @@ fn lists_valid(words: &[u64], dacl: &[u8]) -> bool
     zero_words(&words[groups_end..GROUPS_END])
         & narrow_words(&words[GROUPS_END..restricting_end])
         & zero_words(&words[restricting_end..TOKEN_WORDS])
-        & zero_bytes(&dacl[dacl_end..DACL_BYTES])
+        & zero_bytes(&dacl[dacl_end..MAX_DACL])
 }
 
 // A row with a token whose counts are within their limits.
@@ -138,7 +137,7 @@ fn token_valid(words: &[u64], dacl: &[u8]) -> bool
     if (MAX_RESTRICTING as u64) < words[RESTRICTING_COUNT] {
         return false;
     }
-    if (DACL_BYTES as u64) < words[DACL_COUNT] {
+    if (MAX_DACL as u64) < words[DACL_COUNT] {
         return false;
     }
     live_valid(words, dacl)
@@ -153,8 +152,8 @@ pub fn tokens_valid(tokens: &[u64], dacls: &[u8]) -> bool
     while i < TOKEN_SLOTS {
         let at = i * TOKEN_WORDS;
         let end = at + TOKEN_WORDS;
-        let from = i * DACL_BYTES;
-        let till = from + DACL_BYTES;
+        let from = i * MAX_DACL;
+        let till = from + MAX_DACL;
         ok = ok & token_valid(&tokens[at..end], &dacls[from..till]);
         i += 1;
     }

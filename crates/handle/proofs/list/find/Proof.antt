@@ -1,13 +1,12 @@
 -- handle::list::find meets its contract: a walk of its MIR. The list is loaded, and the covered find_in finds in its words.
 -- Assumes nothing.
 use mathlib.Core.Path.{_≡_, refl, ap, _∙_}
-use Prim.Native.Nat.{ℕ, _<_, _≤_, _^_}
+use Prim.Native.Nat.{ℕ, _<_, _^_}
 use mathlib.Core.List.{List, [], _∷_}
 use lib.ListN.{length}
 use Rattle.handle.proofs.Walk.{URA, fullShare, named, w32, w64, Val, vint, SProp, ent, emp, via, fst∗, Lft, Share, Fml, ftrue, fat, flft, Memory, Routine, Heap, WpFn, Tables, Atoms, Fun, givenOf, Given, ‵, _⊛_, _$_, _∵_, !, qed}
 use Rattle.handle.proofs.Walk.{move, drop, use1, split, rewrite, suffices, frame, done, look, init, forget, and-then, no-more, returns, enter, alloc1, alloc0, params1, pass1, pass0, free1, free0, fmOf, Is, uint-makes, uint-lawful}
 use Rattle.handle.proofs.Walk.{u32, usize, RefT, sliceVal, ShrSlice, Room, shr-slice-copy, owned, Contract, Triple, calls-at, lasts, Vals, onEntry, tripleOf, says, Stays, walkOf, ends-at}
-use Rattle.rules.specs.State.{handleSlots}
 use Rattle.handle.specs.declared.Handle.{Handle}
 use Rattle.handle.specs.declared.Handles.{Handles}
 use Rattle.handle.specs.Words.{recordsIn}

@@ -1,6 +1,6 @@
--- The numbers, and no plain bytes. Assumes nothing.
+-- The status, and the value if it is asked for. Assumes nothing.
 use borrow.Author.Needs.{needs}
-use Rattle.request.proofs.Answers.{put-room, put-framed}
+use Rattle.request.proofs.Answers.{put-room, start-wrote}
 use Rattle.request.proofs.answer.put.Statement.{statement}
 use Rattle.request.proofs.answer.put.Tie as tie
 
@@ -11,9 +11,6 @@ put-spec =
     (λ c. search needs)
     (λ c. search needs)
     (λ c. search needs)
-    (λ c. search needs)
-    (λ c. search needs)
-    (λ c. search needs)
     (λ c κs. search (needs, put-room))
     (λ c. search needs)
-    (λ c. search (needs, put-framed)))
+    (λ c. search (needs, start-wrote)))

@@ -2,7 +2,7 @@
 use Prim.Native.Nat.{_-_}
 use borrow.Author.Needs.{needs}
 use Rattle.request.proofs.ClassLists.{PairsIn, no-pair-in, pair-in, pairs-in}
-use Rattle.request.proofs.Answers.{numbers-room, numbers-framed}
+use Rattle.request.proofs.Answers.{start-room, start-wrote}
 use Rattle.request.proofs.answer.put_groups.Statement.{statement}
 use Rattle.request.proofs.answer.put_groups.Tie as tie
 
@@ -38,9 +38,6 @@ put-groups-spec =
     (λ c. search needs)
     (λ c. search needs)
     (λ c. search needs)
+    (λ c κs. search (needs, start-room, pairs-in))
     (λ c. search needs)
-    (λ c. search needs)
-    (λ c. search needs)
-    (λ c κs. search (needs, numbers-room, pairs-in))
-    (λ c. search needs)
-    (λ c. search (needs, numbers-framed, pairs-in)))
+    (λ c. search (needs, start-wrote, pairs-in)))

@@ -1,6 +1,6 @@
 -- Sixteen words, of which the first is given. Assumes nothing.
 use borrow.Author.Needs.{needs}
-use Rattle.request.proofs.Answers.{report-fits, whole-room, whole-framed}
+use Rattle.request.proofs.Answers.{report-fits}
 use Rattle.request.proofs.answer.put_report.Statement.{statement}
 use Rattle.request.proofs.answer.put_report.Tie as tie
 
@@ -10,9 +10,6 @@ put-report-spec =
     (tie.spec
     (λ c. search needs)
     (λ c. search needs)
+    (λ c κs. search (needs, report-fits))
     (λ c. search needs)
-    (λ c. search needs)
-    (λ c. search needs)
-    (λ c κs. search (needs, whole-room, report-fits))
-    (λ c. search needs)
-    (λ c. search (needs, whole-framed, report-fits)))
+    (λ c. search needs))

@@ -2,7 +2,7 @@
 use Prim.Native.Nat.{_-_}
 use borrow.Author.Needs.{needs}
 use Rattle.request.proofs.ClassLists.{SidsIn, no-sid-in, sid-in, sids-in}
-use Rattle.request.proofs.Answers.{numbers-room, numbers-framed}
+use Rattle.request.proofs.Answers.{start-room, start-wrote}
 use Rattle.request.proofs.answer.put_sids.Statement.{statement}
 use Rattle.request.proofs.answer.put_sids.Tie as tie
 
@@ -32,9 +32,6 @@ put-sids-spec =
     (λ c. search needs)
     (λ c. search needs)
     (λ c. search needs)
+    (λ c κs. search (needs, start-room, sids-in))
     (λ c. search needs)
-    (λ c. search needs)
-    (λ c. search needs)
-    (λ c κs. search (needs, numbers-room, sids-in))
-    (λ c. search needs)
-    (λ c. search (needs, numbers-framed, sids-in)))
+    (λ c. search (needs, start-wrote, sids-in)))

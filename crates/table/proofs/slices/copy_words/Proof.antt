@@ -3,9 +3,9 @@ use Prim.Native.Nat.{_-_}
 use native.Mathlib.Omega.{arith}
 use borrow.Author.Needs.{needs}
 use lib.ListN.{length}
 use Rattle.table.specs.Filling.{Filling, filling-none, copied-more, filling-done}
-use Rattle.token.proofs.words.copy_words.Statement.{statement}
-use Rattle.token.proofs.words.copy_words.Tie as tie
+use Rattle.table.proofs.slices.copy_words.Statement.{statement}
+use Rattle.table.proofs.slices.copy_words.Tie as tie
 
 abbrev Inv : tie.InvT-loop
 Inv src out₀ i₀ out i = Filling (length src) src out i

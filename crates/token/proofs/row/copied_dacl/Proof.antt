@@ -4,8 +4,8 @@ use native.Mathlib.Omega.{arith}
 use borrow.Author.Needs.{needs}
 use Rattle.table.specs.Filling.{Filling, filling-none, copied-more, filling-done}
 use Rattle.rules.specs.Token.{maxDacl}
-use Rattle.token.proofs.words.load_bytes.Statement.{statement}
-use Rattle.token.proofs.words.load_bytes.Tie as tie
+use Rattle.token.proofs.row.copied_dacl.Statement.{statement}
+use Rattle.token.proofs.row.copied_dacl.Tie as tie
 
 abbrev Inv : tie.InvT-loop
 Inv bytes out₀ i₀ out i = Filling maxDacl bytes out i
@@ -13,8 +13,8 @@ Inv bytes out₀ i₀ out i = Filling maxDacl bytes out i
 abbrev μ : tie.MeasureT-loop
 μ bytes out₀ i₀ out i = maxDacl - i
 
-pub load-bytes-spec : {M : Type 1} → statement M
-load-bytes-spec =
+pub copied-dacl-spec : {M : Type 1} → statement M
+copied-dacl-spec =
     tie.close
     (tie.spec Inv μ
     (λ c. search (needs, filling-none))

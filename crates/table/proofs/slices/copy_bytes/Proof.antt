@@ -3,9 +3,9 @@ use Prim.Native.Nat.{_-_}
 use native.Mathlib.Omega.{arith}
 use borrow.Author.Needs.{needs}
 use lib.ListN.{length}
 use Rattle.table.specs.Filling.{Filling, filling-none, copied-more, filling-done}
-use Rattle.stream.proofs.copy.Statement.{statement}
-use Rattle.stream.proofs.copy.Tie as tie
+use Rattle.table.proofs.slices.copy_bytes.Statement.{statement}
+use Rattle.table.proofs.slices.copy_bytes.Tie as tie
 
 abbrev Inv : tie.InvT-loop
 Inv src out₀ i₀ out i = Filling (length src) src out i
@@ -13,8 +13,8 @@ Inv src out₀ i₀ out i = Filling (length src) src out i
 abbrev μ : tie.MeasureT-loop
 μ src out₀ i₀ out i = length src - i
 
-pub copy-spec : {M : Type 1} → statement M
-copy-spec =
+pub copy-bytes-spec : {M : Type 1} → statement M
+copy-bytes-spec =
     tie.close
     (tie.spec Inv μ
     (λ c. search (needs, filling-none))

@@ -3,9 +3,9 @@ use Prim.Native.Nat.{_-_}
 use native.Mathlib.Omega.{arith}
 use borrow.Author.Needs.{needs}
 use lib.ListN.{replicate}
 use Rattle.table.specs.Filling.{Filling, zeros-none, zeros-more, filling-done}
-use Rattle.token.proofs.words.zero_bytes.Statement.{statement}
-use Rattle.token.proofs.words.zero_bytes.Tie as tie
+use Rattle.table.proofs.slices.zero_bytes.Statement.{statement}
+use Rattle.table.proofs.slices.zero_bytes.Tie as tie
 
 abbrev Inv : tie.InvT-loop
 Inv n out₀ i₀ out i = Filling n (replicate n 0) out i
