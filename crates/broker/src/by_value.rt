@@ -79,14 +79,13 @@ pub fn feed(
     if out.len() < MAX_ANSWER {
         return accept::unanswered(SHORT_BUFFER, 0, count);
     }
-    let words = handles.words;
-    if !memory::is_valid(tokens, dacls, count, &words, stations, pending) {
+    if !memory::is_valid(tokens, dacls, count, &handles.words, stations, pending) {
         return accept::unanswered(INVALID_MEMORY, 0, count);
     }
     accept::accept(
         station,
         chunk,
-        &words,
+        &handles.words,
         tokens,
         dacls,
         stations,
@@ -109,8 +108,7 @@ pub fn reconnect(
     if STATIONS <= station {
         return NO_STATION;
     }
-    let words = handles.words;
-    if !memory::is_valid(tokens, dacls, count, &words, stations, pending) {
+    if !memory::is_valid(tokens, dacls, count, &handles.words, stations, pending) {
         return INVALID_MEMORY;
     }
     station::drop_stream(station, stations, pending);

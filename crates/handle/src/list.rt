@@ -79,8 +79,7 @@ pub fn clear_first(list: &mut [Handle], n: usize)
 fn find_in(handles: Handles, station: u32, number: u32) -> usize
     ensures { λ r. ⌜ r ≡ foundIndex (isHandle station number) (slotsOf (recordsIn (handles .words))) ⌝ }
 {
-    let words = handles.words;
-    crate::find(&words, station, number)
+    crate::find(&handles.words, station, number)
 }
 
 // The slot of this station's live handle of that number, front to back among the first 32; 32 if there is none.

@@ -23,7 +23,7 @@ use Rattle.handle.specs.declared.Handle.{Handle}
 use Rattle.handle.proofs.Slots.{findIndex, freeSlot, found-item, map-set}
 use Rattle.state.specs.Parts.{HandlesIn}
 use Rattle.state.specs.StationFacts.{nextHandle, NextGiven}
-use Rattle.state.specs.HandleFacts.{HandleGiven, HandleRoom, HandleAdded, HandleDropped}
+use Rattle.state.specs.HandleFacts.{HandleGiven, HandleRoom, HandleAdded}
 use Rattle.state.proofs.FormedLaws.{valid-formed, handles-back}
 use Rattle.state.proofs.StationLaws.{next-given}
 
@@ -77,16 +77,13 @@ module _ (s n : ℕ) (hs : List Handle) {i : ℕ} (e : i ≡ findIndex s n hs) w
         ∙ live-numbered (handleOf r);
   }
 
-  pub handle-dropped : HandleDropped s n hs (record { slot = i; handle = none })
+  pub handle-dropped : (σ : State) → valid σ ≡ true → HandlesIn σ hs → HandlesIn (dropHandle s n σ) (set hs i none)
   unfolding dropHandle withHandles withSlots slotHandle rules.noHandle
-  handle-dropped = record {
-    handles = λ σ v h. record {
-      records =
-          set-slot σ hs i free h refl
-          ∙ ap (λ (k : ℕ). map slotHandle (set (σ .handles .slots) k free)) (index σ v h)
-          ∙ ap (map slotHandle) (sym (exchanged-set (rules.isHandle s n) free (σ .handles .slots)));
-    };
-    freed = refl;
+  handle-dropped σ v h = record {
+    records =
+        set-slot σ hs i free h refl
+        ∙ ap (λ (k : ℕ). map slotHandle (set (σ .handles .slots) k free)) (index σ v h)
+        ∙ ap (map slotHandle) (sym (exchanged-set (rules.isHandle s n) free (σ .handles .slots)));
   }
 
 -- ---- a new handle

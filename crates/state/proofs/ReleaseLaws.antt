@@ -5,7 +5,7 @@ use mathlib.Core.Path.{_≡_, refl, sym, ap, ap₂, _∙_, subst}
 use mathlib.Core.Bool.{Bool, true, false, _||_}
 use mathlib.Core.List.{List, [], _∷_, _++_, map}
 use lib.Dec.{eqb}
-use lib.ListN.{length, set}
+use lib.ListN.{length, getD, set}
 use lib.Seq.{set-out}
 use Rattle.table.specs.Table.{put-record}
 use Rattle.rules.specs.Basic.{member}
@@ -24,16 +24,15 @@ use Rattle.rules.proofs.Released.{close-frees, token-frees}
 use Rattle.handle.specs.declared.Handle.{Handle}
 use Rattle.handle.specs.Meaning.{none}
 use Rattle.handle.specs.Words.{recordsIn}
-use Rattle.handle.proofs.Slots.{isReferred, kept}
+use Rattle.handle.proofs.Slots.{findIndex, isReferred, kept}
 use Rattle.handle.proofs.Words.{records-long}
 use Rattle.token.specs.Meaning.{slotsOf}
 use Rattle.token.proofs.Laws.{put-words, put-dacls}
 use Rattle.state.specs.Parts.{TokensIn}
 use Rattle.state.specs.Formed.{Formed}
 use Rattle.state.specs.StationFacts.{CallerNumber, TokenSet, StationsRefer}
-use Rattle.state.specs.HandleFacts.{HandleGiven, HandleDropped}
 use Rattle.state.specs.ReleaseFacts.{PartsIn, TokenFreed, Closed, Installed}
-use Rattle.state.specs.declared.handles.Change.{Change}
+use Rattle.state.proofs.HandleLaws.{handle-given, handle-dropped}
 use Rattle.state.proofs.FormedLaws.{loose-formed, tokens-back, handles-back, tokens-same, handles-same, stations-same}
 
 -- ---- a token is freed, or stays
@@ -97,17 +96,17 @@ swept {ts′ = ts′} {ds′ = ds′} σ l e f p = record {
   tokens = subst (λ (τ : State). TokensIn τ ts′ ds′) (sym e) (f .tokens σ (loose-formed σ l) p);
 }
 
-pub closed : (s n : ℕ) (hs : List Handle) {ss ts ds ts′ ds′ : List ℕ} {h : Handle} {x : Change}
-    → HandleGiven s n hs h → HandleDropped s n hs x → TokenFreed (h .token) (set hs (x .slot) none) ss ts ds ts′ ds′
-    → Closed s n hs ss ts ds ts′ ds′ x
+pub closed : (s n : ℕ) (hs : List Handle) {ss ts ds ts′ ds′ : List ℕ} {i : ℕ} {h : Handle}
+    → i ≡ findIndex s n hs → h ≡ getD hs i none → TokenFreed (h .token) (set hs i none) ss ts ds ts′ ds′
+    → Closed s n hs ss ts ds ts′ ds′ (record { slot = i; handle = none })
 unfolding state.handleOf dropHandle withHandles withSlots handleToken
-closed s n hs {h = h} {x = x} g d f = record {
+closed s n hs {i = i} {h = h} e q f = record {
   parts = λ σ v p known.
       let facts = valid-facts σ v in
       let one = close-frees σ s n (state.handleOf σ s n) facts (live-slot rules.noHandle (findHandle σ s n) known) in
-      let same : state.handleOf σ s n .token ≡ h .token = ap handleToken (sym (g .handle σ v (p .handles))) in
-      swept (dropHandle s n σ) (drop-loose σ s n (facts .loose)) (rw same at one) (rw (sym (d .freed)) at f)
-      (record { handles = d .handles σ v (p .handles); stations = stations-same refl refl refl (p .stations); tokens = tokens-same refl (p .tokens) });
+      let same : state.handleOf σ s n .token ≡ h .token = ap handleToken (sym (handle-given s n hs e q .handle σ v (p .handles))) in
+      swept (dropHandle s n σ) (drop-loose σ s n (facts .loose)) (rw same at one) f
+      (record { handles = handle-dropped s n hs e σ v (p .handles); stations = stations-same refl refl refl (p .stations); tokens = tokens-same refl (p .tokens) });
 }
 
 -- no slot is freed

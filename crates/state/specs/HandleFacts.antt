@@ -9,8 +9,8 @@ use Rattle.rules.specs.Number.{max32}
 use Rattle.rules.specs.Table.{isLive}
 use Rattle.rules.specs.Valid.{valid}
 use Rattle.rules.specs.State as state
-use Rattle.rules.specs.State.{State, findHandle, canAddHandle, addHandle, dropHandle}
-use Rattle.handle.specs.Meaning.{handleOf, none}
+use Rattle.rules.specs.State.{State, findHandle, canAddHandle, addHandle}
+use Rattle.handle.specs.Meaning.{handleOf}
 use Rattle.handle.specs.declared.Handle.{Handle}
 use Rattle.state.specs.Parts.{StationsIn, HandlesIn}
 use Rattle.state.specs.Formed.{Formed}
@@ -35,7 +35,3 @@ pub record HandleAdded (station token mask : ℕ) (hs : List Handle) (ss ss′ :
   pub stations : (σ : State) → StationsIn σ ss → StationsIn (addHandle station token mask σ) ss′
   pub handles : (σ : State) → Formed σ → HandlesIn σ hs → StationsIn σ ss → HandlesIn (addHandle station token mask σ) (changed hs r)
   pub number : (σ : State) → StationsIn σ ss → r .handle .number ≡ σ .handles .next
-
-pub record HandleDropped (station number : ℕ) (hs : List Handle) (r : Change) : Type 0 where
-  pub handles : (σ : State) → valid σ ≡ true → HandlesIn σ hs → HandlesIn (dropHandle station number σ) (changed hs r)
-  pub freed : r .handle ≡ none

@@ -1,11 +1,12 @@
 // The handles, which come as words: a request changes one of them at most.
 ghost use mathlib.Core.Path.{_≡_};
 ghost use Prim.Native.Nat.{_<_};
-ghost use lib.ListN.{length};
+ghost use lib.ListN.{length, getD};
 ghost use Rattle.rules.specs.Number.{max32};
+ghost use Rattle.handle.specs.Meaning.{none};
 ghost use Rattle.handle.specs.Words.{recordsIn};
 ghost use Rattle.state.specs.StationFacts.{stationsSize, nextHandle};
-ghost use Rattle.state.specs.HandleFacts.{HandleGiven, HandleRoom, HandleAdded, HandleDropped};
+ghost use Rattle.state.specs.HandleFacts.{HandleGiven, HandleRoom, HandleAdded};
 use crate::stations::NEXT_HANDLE;
 use crate::stations::next_handle;
 use handle::HANDLE_WORDS;
@@ -22,15 +23,22 @@ pub struct Change {
     pub handle: Handle,
 }
 
+// The handle in a slot; NONE past the last.
+pub fn handle_in(slot: usize, handles: &[u64; HANDLE_WORDS]) -> Handle
+    ensures { λ r. ⌜ r ≡ getD (recordsIn (now (handles .entry))) slot none ⌝ }
+{
+    if slot < SLOTS {
+        return handle::at(handles, slot);
+    }
+    NONE
+}
+
 // The station's handle of that number, or NONE.
 pub fn find_handle(station: u32, number: u32, handles: &[u64; HANDLE_WORDS]) -> Handle
     ensures { λ r. ⌜ HandleGiven station number (recordsIn (now (handles .entry))) r ⌝ }
 {
     let slot = handle::find(handles, station, number);
-    if slot < SLOTS {
-        return handle::at(handles, slot);
-    }
-    NONE
+    handle_in(slot, handles)
 }
 
 // A slot is free, and a number is left.
@@ -65,16 +73,5 @@ pub fn add_handle(
             token: token,
             mask: mask,
         },
-    }
-}
-
-// The station's handle of that number is freed.
-pub fn drop_handle(station: u32, number: u32, handles: &[u64; HANDLE_WORDS]) -> Change
-    ensures { λ r. ⌜ HandleDropped station number (recordsIn (now (handles .entry))) r ⌝ }
-{
-    let slot = handle::find(handles, station, number);
-    Change {
-        slot: slot,
-        handle: NONE,
     }
 }

@@ -7,10 +7,10 @@ ghost use Rattle.handle.specs.Words.{recordsIn};
 ghost use Rattle.state.specs.Parts.{Lent};
 ghost use Rattle.state.specs.ReleaseFacts.{TokenFreed, Closed, Installed};
 use crate::handles::Change;
-use crate::handles::drop_handle;
-use crate::handles::find_handle;
+use crate::handles::handle_in;
 use crate::stations;
 use handle::HANDLE_WORDS;
+use handle::NONE;
 use handle::SLOTS;
 use token::layout::TOKEN_SLOTS;
 use token::slots;
@@ -50,10 +50,13 @@ pub fn close(
     requires { ⌜ Lent (now tokens) (now dacls) (now stations) ⌝ }
     ensures { λ r. ⌜ Closed station number (recordsIn (now (handles .entry))) (now (stations .entry)) (now (tokens .entry)) (now (dacls .entry)) (now (tokens .exit)) (now (dacls .exit)) r ⌝ }
 {
-    let found = find_handle(station, number, handles);
-    let change = drop_handle(station, number, handles);
-    free_unreferenced(found.token, change.slot, handles, tokens, dacls, stations);
-    change
+    let slot = handle::find(handles, station, number);
+    let closed = handle_in(slot, handles);
+    free_unreferenced(closed.token, slot, handles, tokens, dacls, stations);
+    Change {
+        slot: slot,
+        handle: NONE,
+    }
 }
 
 // The station gets another primary token, and the one before is freed if that was its last reference.

@@ -1,7 +1,6 @@
--- By the slot that is found, or none past the last. Assumes nothing.
+-- The handle at the index that is found. Assumes nothing.
 use borrow.Author.Needs.{needs}
-use Rattle.handle.proofs.Words.{records-long}
-use Rattle.state.proofs.HandleLaws.{handle-given, none-there}
+use Rattle.state.proofs.HandleLaws.{handle-given}
 use Rattle.state.proofs.handles.find_handle.Statement.{statement}
 use Rattle.state.proofs.handles.find_handle.Tie as tie
 
@@ -11,5 +10,4 @@ find-handle-spec =
     (tie.spec
     (λ c κs. search needs)
     (λ c κs. search needs)
-    (λ c. search (needs, handle-given))
-    (λ c. search (needs, handle-given, none-there, records-long)))
+    (λ c. search (needs, handle-given)))
