@@ -8,6 +8,7 @@ ghost use Rattle.state.specs.Parts.{Lent};
 ghost use Rattle.request.specs.Layout.{valuesAt, There};
 ghost use Rattle.request.specs.Defaults.{DefaultsCarried};
 use crate::defaults;
+use crate::fields::DefaultsFields;
 use crate::located::locate;
 use crate::outcome;
 use crate::outcome::Outcome;
@@ -19,22 +20,17 @@ use token::layout::TOKEN_WORDS;
 // The size bytes that stand at the end of a body are the DACL.
 pub fn adjust_defaults(
     station: u32,
-    number: u32,
-    owner: u32,
-    group: u32,
-    flag: u32,
-    size: u64,
+    f: DefaultsFields,
     s: &[u8],
-    at: usize,
     handles: &[u64; HANDLE_WORDS],
     tokens: &mut [u64],
     dacls: &mut [u8],
     stations: &[u64],
 ) -> Outcome
-    requires { ⌜ Lent (now tokens) (now dacls) (now stations) × (at ≤ length (now s)) × There byte (now s) at size [] ⌝ }
-    ensures { λ r. ⌜ DefaultsCarried station number owner group flag (valuesAt byte (now (s .entry)) at size) (recordsIn (now (handles .entry))) (now (stations .entry)) (now (tokens .entry)) (now (dacls .entry)) (now (stations .entry)) (now (tokens .exit)) (now (dacls .exit)) r ⌝ }
+    requires { ⌜ Lent (now tokens) (now dacls) (now stations) × (f .at ≤ length (now s)) × There byte (now s) (f .at) (f .size) [] ⌝ }
+    ensures { λ r. ⌜ DefaultsCarried station (f .handle) (f .owner) (f .group) (f .flag) (valuesAt byte (now (s .entry)) (f .at) (f .size)) (recordsIn (now (handles .entry))) (now (stations .entry)) (now (tokens .entry)) (now (dacls .entry)) (now (stations .entry)) (now (tokens .exit)) (now (dacls .exit)) r ⌝ }
 {
-    let x = locate(station, number, Mask::ADJUST_DEFAULT, handles, tokens);
+    let x = locate(station, f.handle, Mask::ADJUST_DEFAULT, handles, tokens);
     if x.refusal != 0 {
         return outcome::refused(x.refusal);
     }
@@ -43,15 +39,6 @@ pub fn adjust_defaults(
     let row_end = row + TOKEN_WORDS;
     let dacl = slot * MAX_DACL;
     let dacl_end = dacl + MAX_DACL;
-    let answer = defaults::adjust(
-        owner,
-        group,
-        flag,
-        size,
-        s,
-        at,
-        &mut tokens[row..row_end],
-        &mut dacls[dacl..dacl_end],
-    );
+    let answer = defaults::adjust(f, s, &mut tokens[row..row_end], &mut dacls[dacl..dacl_end]);
     outcome::ends(answer)
 }

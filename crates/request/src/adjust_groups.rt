@@ -8,6 +8,7 @@ ghost use Rattle.state.specs.Parts.{Lent};
 ghost use Rattle.request.specs.Adjusts.{EntriesCarried};
 ghost use Rattle.request.specs.Switching.{RowSwitched};
 use crate::answer::Answer;
+use crate::fields::EntriesFields;
 use crate::groups;
 use crate::located;
 use crate::outcome;
@@ -20,7 +21,7 @@ use token::layout::MAX_GROUPS;
 use token::layout::TOKEN_WORDS;
 use token::row;
 
-// In the token's row.
+// The count entries that stand at a place of a body, on the token in a row.
 fn adjust_row(s: &[u8], at: usize, count: u64, words: &mut [u64]) -> Answer
     requires { ⌜ length (now words) ≡ tokenWords ⌝ }
     ensures { λ r. ⌜ RowSwitched count (drop at (now (s .entry))) (now (words .entry)) (now (words .exit)) r ⌝ }
@@ -35,28 +36,24 @@ fn adjust_row(s: &[u8], at: usize, count: u64, words: &mut [u64]) -> Answer
     Answer::Report(x.previous)
 }
 
-// The count entries that stand at a place of a body.
 pub fn adjust_groups(
     station: u32,
-    number: u32,
+    f: EntriesFields,
     s: &[u8],
-    at: usize,
-    count: u64,
     handles: &[u64; HANDLE_WORDS],
     tokens: &mut [u64],
     dacls: &[u8],
     stations: &[u64],
 ) -> Outcome
     requires { ⌜ Lent (now tokens) (now dacls) (now stations) ⌝ }
-    ensures { λ r. ⌜ EntriesCarried adjust station number (now (s .entry)) at count (recordsIn (now (handles .entry))) (now (stations .entry)) (now (tokens .entry)) (now (dacls .entry)) (now (stations .entry)) (now (tokens .exit)) (now (dacls .entry)) r ⌝ }
+    ensures { λ r. ⌜ EntriesCarried adjust station (f .handle) (now (s .entry)) (f .at) (f .count) (recordsIn (now (handles .entry))) (now (stations .entry)) (now (tokens .entry)) (now (dacls .entry)) (now (stations .entry)) (now (tokens .exit)) (now (dacls .entry)) r ⌝ }
 {
-    let x = located::locate(station, number, Mask::ADJUST_GROUPS, handles, tokens);
+    let x = located::locate(station, f.handle, Mask::ADJUST_GROUPS, handles, tokens);
     if x.refusal != 0 {
         return outcome::refused(x.refusal);
     }
-    let slot = x.slot;
-    let from = slot * TOKEN_WORDS;
+    let from = x.slot * TOKEN_WORDS;
     let end = from + TOKEN_WORDS;
-    let a = adjust_row(s, at, count, &mut tokens[from..end]);
-    outcome::ends(a)
+    let answer = adjust_row(s, f.at, f.count as u64, &mut tokens[from..end]);
+    outcome::ends(answer)
 }

@@ -10,6 +10,7 @@ ghost use Rattle.request.specs.Ending.{RowEnds};
 ghost use Rattle.request.specs.Adjusting.{privilegesEnding};
 ghost use Rattle.request.specs.Adjusts.{EntriesCarried};
 use crate::answer::Answer;
+use crate::fields::EntriesFields;
 use crate::located;
 use crate::outcome;
 use crate::outcome::Outcome;
@@ -38,24 +39,22 @@ fn adjust_row(s: &[u8], at: usize, count: u64, words: &mut [u64]) -> Answer
 
 pub fn adjust_privileges(
     station: u32,
-    number: u32,
+    f: EntriesFields,
     s: &[u8],
-    at: usize,
-    count: u64,
     handles: &[u64; HANDLE_WORDS],
     tokens: &mut [u64],
     dacls: &[u8],
     stations: &[u64],
 ) -> Outcome
     requires { ⌜ Lent (now tokens) (now dacls) (now stations) ⌝ }
-    ensures { λ r. ⌜ EntriesCarried adjust station number (now (s .entry)) at count (recordsIn (now (handles .entry))) (now (stations .entry)) (now (tokens .entry)) (now (dacls .entry)) (now (stations .entry)) (now (tokens .exit)) (now (dacls .entry)) r ⌝ }
+    ensures { λ r. ⌜ EntriesCarried adjust station (f .handle) (now (s .entry)) (f .at) (f .count) (recordsIn (now (handles .entry))) (now (stations .entry)) (now (tokens .entry)) (now (dacls .entry)) (now (stations .entry)) (now (tokens .exit)) (now (dacls .entry)) r ⌝ }
 {
-    let x = located::locate(station, number, Mask::ADJUST_PRIVILEGES, handles, tokens);
+    let x = located::locate(station, f.handle, Mask::ADJUST_PRIVILEGES, handles, tokens);
     if x.refusal != 0 {
         return outcome::refused(x.refusal);
     }
     let from = x.slot * TOKEN_WORDS;
     let end = from + TOKEN_WORDS;
-    let answer = adjust_row(s, at, count, &mut tokens[from..end]);
+    let answer = adjust_row(s, f.at, f.count as u64, &mut tokens[from..end]);
     outcome::ends(answer)
 }

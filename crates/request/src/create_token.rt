@@ -9,6 +9,7 @@ ghost use Rattle.handle.specs.Words.{recordsIn};
 ghost use Rattle.state.specs.Parts.{Lent};
 ghost use Rattle.request.specs.Creates.{RowMade, RowCreated, CreateCarried};
 use crate::create::read_groups;
+use crate::fields::CreateFields;
 use crate::issue::can_issue;
 use crate::issue::issue_row;
 use crate::outcome;
@@ -34,35 +35,24 @@ fn valid_integrity(i: u32) -> bool
     (i == 0) | ((i == 4096) | ((i == 8192) | ((i == 12288) | (i == 16384))))
 }
 
-// The new token's row, where every field is good. The count groups stand at a place of a body.
-fn make(
-    n: u64,
-    user: u32,
-    session: u64,
-    integrity: u32,
-    present: u64,
-    by_default: u64,
-    s: &[u8],
-    at: usize,
-    count: u64,
-    row: &mut [u64],
-) -> bool
+// The new token's row, where every field is good. Its groups stand in the body.
+fn make(n: u64, f: CreateFields, s: &[u8], row: &mut [u64]) -> bool
     requires { ⌜ now row ≡ replicate tokenWords 0 ⌝ }
-    ensures { λ r. ⌜ RowMade n user session integrity present «by_default» (now (s .entry)) at count (now (row .exit)) r ⌝ }
+    ensures { λ r. ⌜ RowMade n (f .user) (f .session) (f .integrity) (f .present) (f .«by_default») (now (s .entry)) (f .at) (f .count) (now (row .exit)) r ⌝ }
 {
-    let read = read_groups(user, s, at, count, row);
+    let read = read_groups(f.user, s, f.at, f.count as u64, row);
     let identity = Identity {
-        user: user,
-        session: session,
+        user: f.user,
+        session: f.session,
         kind: PRIMARY,
         level: 0,
-        integrity: integrity,
+        integrity: f.integrity,
     };
-    let granted = Privileges::granted(present, by_default);
+    let granted = Privileges::granted(f.present, f.by_default);
     row::set_head(row, n, identity, granted, read.count);
-    valid_integrity(integrity)
-        & words::within(by_default, present)
-        & words::within(present, Privileges::EXISTING)
+    valid_integrity(f.integrity)
+        & words::within(f.by_default, f.present)
+        & words::within(f.present, Privileges::EXISTING)
         & read.ok
 }
 
@@ -89,40 +79,22 @@ fn issue_created(
 
 pub fn create_token(
     station: u32,
-    user: u32,
-    session: u64,
-    integrity: u32,
-    present: u64,
-    by_default: u64,
+    f: CreateFields,
     s: &[u8],
-    at: usize,
-    count: u64,
     handles: &[u64; HANDLE_WORDS],
     tokens: &mut [u64],
     dacls: &mut [u8],
     stations: &mut [u64],
 ) -> Outcome
     requires { ⌜ Lent (now tokens) (now dacls) (now stations) × (station < stationCount) ⌝ }
-    ensures { λ r. ⌜ CreateCarried station user session integrity present «by_default» (now (s .entry)) at count (recordsIn (now (handles .entry))) (now (stations .entry)) (now (tokens .entry)) (now (dacls .entry)) (now (stations .exit)) (now (tokens .exit)) (now (dacls .exit)) r ⌝ }
+    ensures { λ r. ⌜ CreateCarried station (f .user) (f .session) (f .integrity) (f .present) (f .«by_default») (now (s .entry)) (f .at) (f .count) (recordsIn (now (handles .entry))) (now (stations .entry)) (now (tokens .entry)) (now (dacls .entry)) (now (stations .exit)) (now (tokens .exit)) (now (dacls .exit)) r ⌝ }
 {
     if !held(Privileges::CREATE_TOKEN, station, tokens, stations) {
         return outcome::refused(refusal::PRIVILEGE_NOT_HELD);
     }
     let n = next_token(stations);
     let mut row = [0u64; TOKEN_WORDS];
-    let ok = make(
-        n,
-        user,
-        session,
-        integrity,
-        present,
-        by_default,
-        s,
-        at,
-        count,
-        &mut row,
-    );
-    if !ok {
+    if !make(n, f, s, &mut row) {
         return outcome::refused(refusal::BAD_FIELD);
     }
     issue_created(station, &row, handles, tokens, dacls, stations)

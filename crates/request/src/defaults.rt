@@ -13,6 +13,7 @@ ghost use Rattle.request.specs.Ending.{RowsEnd};
 ghost use Rattle.request.specs.Defaults.{OwnerJudged, DefaultsJudged, withIndexes, DefaultsSet, defaultsEnding};
 use crate::answer::Answer;
 use crate::dacl;
+use crate::fields::DefaultsFields;
 use crate::refusal;
 use privilege::words::has;
 use token::layout::GROUP_COUNT;
@@ -47,13 +48,13 @@ fn is_owner(words: &[u64], i: u32) -> bool
 }
 
 // A primary-group index names the user or any group. Flag 0 goes with no bytes, flag 1 with at most 256.
-fn is_valid(words: &[u64], owner: u32, group: u32, flag: u32, size: u64) -> bool
+fn is_valid(words: &[u64], f: DefaultsFields) -> bool
     requires { ⌜ length (now words) ≡ tokenWords ⌝ }
-    ensures { λ r. ⌜ DefaultsJudged owner group flag size (now (words .entry)) r ⌝ }
+    ensures { λ r. ⌜ DefaultsJudged (f .owner) (f .group) (f .flag) (f .size) (now (words .entry)) r ⌝ }
 {
-    ((owner == NO_CHANGE) | is_owner(words, owner))
-        & ((group == NO_CHANGE) | (group as u64 <= words[GROUP_COUNT]))
-        & ((flag == 0) & (size == 0) | (flag == 1) & (size <= MAX_DACL as u64))
+    ((f.owner == NO_CHANGE) | is_owner(words, f.owner))
+        & ((f.group == NO_CHANGE) | (f.group as u64 <= words[GROUP_COUNT]))
+        & ((f.flag == 0) & (f.size == 0) | (f.flag == 1) & (f.size <= MAX_DACL as u32))
 }
 
 fn or_kept(new: u32, old: u64) -> u64
@@ -71,43 +72,25 @@ fn set_indexes(owner: u32, group: u32, words: &mut [u64])
 }
 
 // Flag 1 gives a DACL, and flag 0 keeps it.
-fn set(
-    owner: u32,
-    group: u32,
-    flag: u32,
-    size: u64,
-    s: &[u8],
-    at: usize,
-    words: &mut [u64],
-    bytes: &mut [u8],
-)
-    requires { ⌜ (length (now words) ≡ tokenWords) × (length (now bytes) ≡ maxDacl) × (size ≤ maxDacl) × (at ≤ length (now s)) × There byte (now s) at size [] ⌝ }
-    ensures { λ _. ⌜ DefaultsSet owner group flag (valuesAt byte (now (s .entry)) at size) (now (words .entry)) (now (bytes .entry)) (now (words .exit)) (now (bytes .exit)) ⌝ }
+fn set(f: DefaultsFields, s: &[u8], words: &mut [u64], bytes: &mut [u8])
+    requires { ⌜ (length (now words) ≡ tokenWords) × (length (now bytes) ≡ maxDacl) × (f .size ≤ maxDacl) × (f .at ≤ length (now s)) × There byte (now s) (f .at) (f .size) [] ⌝ }
+    ensures { λ _. ⌜ DefaultsSet (f .owner) (f .group) (f .flag) (valuesAt byte (now (s .entry)) (f .at) (f .size)) (now (words .entry)) (now (bytes .entry)) (now (words .exit)) (now (bytes .exit)) ⌝ }
 {
-    set_indexes(owner, group, words);
+    set_indexes(f.owner, f.group, words);
     row::step_modified(words);
-    if flag == 1 {
-        dacl::write(s, at, size as usize, words, bytes);
+    if f.flag == 1 {
+        dacl::write(s, f.at, f.size as usize, words, bytes);
     }
 }
 
-// With flag 1 the size bytes from a place of a body on, to its end, are the DACL.
-pub fn adjust(
-    owner: u32,
-    group: u32,
-    flag: u32,
-    size: u64,
-    s: &[u8],
-    at: usize,
-    words: &mut [u64],
-    bytes: &mut [u8],
-) -> Answer
-    requires { ⌜ (length (now words) ≡ tokenWords) × (length (now bytes) ≡ maxDacl) × (at ≤ length (now s)) × There byte (now s) at size [] ⌝ }
-    ensures { λ r. ⌜ RowsEnd (defaultsEnding owner group flag (valuesAt byte (now (s .entry)) at size)) (now (words .entry)) (now (bytes .entry)) (now (words .exit)) (now (bytes .exit)) r ⌝ }
+// With flag 1 the last bytes of the body are the DACL.
+pub fn adjust(f: DefaultsFields, s: &[u8], words: &mut [u64], bytes: &mut [u8]) -> Answer
+    requires { ⌜ (length (now words) ≡ tokenWords) × (length (now bytes) ≡ maxDacl) × (f .at ≤ length (now s)) × There byte (now s) (f .at) (f .size) [] ⌝ }
+    ensures { λ r. ⌜ RowsEnd (defaultsEnding (f .owner) (f .group) (f .flag) (valuesAt byte (now (s .entry)) (f .at) (f .size))) (now (words .entry)) (now (bytes .entry)) (now (words .exit)) (now (bytes .exit)) r ⌝ }
 {
-    if !is_valid(words, owner, group, flag, size) {
+    if !is_valid(words, f) {
         return Answer::Refused(refusal::BAD_FIELD);
     }
-    set(owner, group, flag, size, s, at, words, bytes);
+    set(f, s, words, bytes);
     Answer::Done
 }

@@ -11,6 +11,7 @@ ghost use Rattle.request.specs.Carried.{Carried};
 ghost use Rattle.request.specs.Issue.{NumbersLeft};
 ghost use Rattle.request.specs.Copies.{Remade, DuplicateJudged, copiedAs, duplicatedAs, CopyIssued};
 use crate::copies;
+use crate::fields::DuplicateFields;
 use crate::issue::can_issue;
 use crate::issue::issue_row;
 use crate::located;
@@ -174,24 +175,21 @@ fn issue_duplicate(
 
 pub fn duplicate(
     station: u32,
-    number: u32,
-    kind: u32,
-    level: u32,
-    mask: u32,
+    f: DuplicateFields,
     handles: &[u64; HANDLE_WORDS],
     tokens: &mut [u64],
     dacls: &mut [u8],
     stations: &mut [u64],
 ) -> Outcome
     requires { ⌜ Lent (now tokens) (now dacls) (now stations) × (station < stationCount) ⌝ }
-    ensures { λ r. ⌜ Carried (λ σ. rules.duplicate σ station number kind level mask) (recordsIn (now (handles .entry))) (now (stations .entry)) (now (tokens .entry)) (now (dacls .entry)) (now (stations .exit)) (now (tokens .exit)) (now (dacls .exit)) r ⌝ }
+    ensures { λ r. ⌜ Carried (λ σ. rules.duplicate σ station (f .handle) (f .kind) (f .level) (f .mask)) (recordsIn (now (handles .entry))) (now (stations .entry)) (now (tokens .entry)) (now (dacls .entry)) (now (stations .exit)) (now (tokens .exit)) (now (dacls .exit)) r ⌝ }
 {
-    let x = located::locate(station, number, Mask::DUPLICATE, handles, tokens);
+    let x = located::locate(station, f.handle, Mask::DUPLICATE, handles, tokens);
     if x.refusal != 0 {
         return outcome::refused(x.refusal);
     }
     let source = identity_at(x.slot, tokens);
-    if !valid_duplicate(x.mask, source, kind, level, mask) {
+    if !valid_duplicate(x.mask, source, f.kind, f.level, f.mask) {
         return outcome::refused(refusal::BAD_FIELD);
     }
     if !can_issue(handles, tokens, stations) {
@@ -199,10 +197,10 @@ pub fn duplicate(
     }
     issue_duplicate(
         station,
-        mask,
+        f.mask,
         x.slot,
-        kind,
-        level,
+        f.kind,
+        f.level,
         handles,
         tokens,
         dacls,

@@ -11,6 +11,7 @@ ghost use Rattle.request.specs.Carried.{Carried};
 ghost use Rattle.request.specs.Query.{ClassAnswered};
 use crate::answer::Answer;
 use crate::class::size;
+use crate::fields::QueryFields;
 use crate::lookup::lookup;
 use crate::outcome;
 use crate::outcome::Outcome;
@@ -45,21 +46,24 @@ fn class_of(token: u64, class: u64, capacity: u64, tokens: &[u64]) -> Answer
 
 pub fn query(
     station: u32,
-    number: u32,
-    class: u64,
-    capacity: u64,
+    f: QueryFields,
     handles: &[u64; HANDLE_WORDS],
     tokens: &[u64],
     dacls: &[u8],
     stations: &[u64],
 ) -> Outcome
     requires { ⌜ Lent (now tokens) (now dacls) (now stations) ⌝ }
-    ensures { λ r. ⌜ Carried (λ σ. rules.query σ station number class capacity) (recordsIn (now (handles .entry))) (now (stations .entry)) (now (tokens .entry)) (now (dacls .entry)) (now (stations .entry)) (now (tokens .entry)) (now (dacls .entry)) r ⌝ }
+    ensures { λ r. ⌜ Carried (λ σ. rules.query σ station (f .handle) (f .class) (f .capacity)) (recordsIn (now (handles .entry))) (now (stations .entry)) (now (tokens .entry)) (now (dacls .entry)) (now (stations .entry)) (now (tokens .entry)) (now (dacls .entry)) r ⌝ }
 {
-    let target = lookup(station, number, Mask::QUERY, handles);
+    let target = lookup(station, f.handle, Mask::QUERY, handles);
     if target.refusal != 0 {
         return outcome::refused(target.refusal);
     }
-    let answer = class_of(target.handle.token, class, capacity, tokens);
+    let answer = class_of(
+        target.handle.token,
+        f.class as u64,
+        f.capacity as u64,
+        tokens,
+    );
     outcome::ends(answer)
 }

@@ -11,6 +11,7 @@ ghost use Rattle.state.specs.StationFacts.{stationsSize};
 ghost use Rattle.request.specs.Issue.{NumbersLeft};
 ghost use Rattle.request.specs.Restricts.{RestrictRefusal, RestrictedIssued, RestrictCarried};
 use crate::copies;
+use crate::fields::RestrictFields;
 use crate::issue::can_issue;
 use crate::issue::issue_row;
 use crate::located;
@@ -30,25 +31,21 @@ use token::layout::MAX_RESTRICTING;
 // What the copy of a token that has so many groups and SIDs is refused for: 0 if nothing.
 fn refusal_of(
     counts: Counts,
-    mark: u32,
-    removed: u64,
+    f: RestrictFields,
     s: &[u8],
-    deny_at: usize,
-    deny_count: u64,
-    sid_count: u64,
     handles: &[u64; HANDLE_WORDS],
     tokens: &[u64],
     stations: &[u64],
 ) -> u64
     requires { ⌜ (counts .groups ≤ maxGroups) × (counts .restricting ≤ maxRestricting) × (length (now tokens) ≡ tokenSlots * tokenWords) × (length (now stations) ≡ stationsSize) ⌝ }
-    ensures { λ r. ⌜ RestrictRefusal counts mark removed (now (s .entry)) «deny_at» «deny_count» «sid_count» (recordsIn (now (handles .entry))) (now (stations .entry)) (now (tokens .entry)) r ⌝ }
+    ensures { λ r. ⌜ RestrictRefusal counts (f .mark) (f .removed) (now (s .entry)) (f .«deny_at») (f .«deny_count») (f .«sid_count») (recordsIn (now (handles .entry))) (now (stations .entry)) (now (tokens .entry)) r ⌝ }
 {
-    let indexes = valid_indexes(counts.groups, s, deny_at, deny_count);
-    let valid = (mark <= 1) & words::within(removed, Privileges::EXISTING) & indexes;
+    let indexes = valid_indexes(counts.groups, s, f.deny_at, f.deny_count as u64);
+    let valid = (f.mark <= 1) & words::within(f.removed, Privileges::EXISTING) & indexes;
     if !valid {
         return refusal::BAD_FIELD;
     }
-    if MAX_RESTRICTING as u64 - counts.restricting < sid_count {
+    if MAX_RESTRICTING as u64 - counts.restricting < f.sid_count as u64 {
         return refusal::TABLE_FULL;
     }
     if can_issue(handles, tokens, stations) {
@@ -63,35 +60,19 @@ fn issue_restricted(
     mask: u32,
     slot: usize,
     counts: Counts,
-    mark: u32,
-    removed: u64,
+    f: RestrictFields,
     s: &[u8],
-    deny_at: usize,
-    deny_count: u64,
-    sid_at: usize,
-    sid_count: u64,
     handles: &[u64; HANDLE_WORDS],
     tokens: &mut [u64],
     dacls: &mut [u8],
     stations: &mut [u64],
 ) -> Outcome
-    requires { ⌜ Lent (now tokens) (now dacls) (now stations) × (slot < tokenSlots) × NumbersLeft (now stations) × (counts .groups ≤ maxGroups) × (counts .restricting + «sid_count» ≤ maxRestricting) ⌝ }
-    ensures { λ r. ⌜ RestrictedIssued slot counts mark removed (now (s .entry)) «deny_at» «deny_count» «sid_at» «sid_count» station mask (recordsIn (now (handles .entry))) (now (stations .entry)) (now (tokens .entry)) (now (dacls .entry)) (now (stations .exit)) (now (tokens .exit)) (now (dacls .exit)) r ⌝ }
+    requires { ⌜ Lent (now tokens) (now dacls) (now stations) × (slot < tokenSlots) × NumbersLeft (now stations) × (counts .groups ≤ maxGroups) × (counts .restricting + f .«sid_count» ≤ maxRestricting) ⌝ }
+    ensures { λ r. ⌜ RestrictedIssued slot counts (f .mark) (f .removed) (now (s .entry)) (f .«deny_at») (f .«deny_count») (f .«sid_at») (f .«sid_count») station mask (recordsIn (now (handles .entry))) (now (stations .entry)) (now (tokens .entry)) (now (dacls .entry)) (now (stations .exit)) (now (tokens .exit)) (now (dacls .exit)) r ⌝ }
 {
     let n = next_token(stations);
     let mut copy = copies::words_at(slot, tokens);
-    restricted::make(
-        &mut copy,
-        n,
-        counts,
-        mark,
-        removed,
-        s,
-        deny_at,
-        deny_count,
-        sid_at,
-        sid_count,
-    );
+    restricted::make(&mut copy, n, counts, f, s);
     let dacl = copies::dacl_at(slot, dacls);
     issue_row(
         station,
@@ -107,39 +88,22 @@ fn issue_restricted(
 
 pub fn restrict_token(
     station: u32,
-    number: u32,
-    mark: u32,
-    removed: u64,
+    f: RestrictFields,
     s: &[u8],
-    deny_at: usize,
-    deny_count: u64,
-    sid_at: usize,
-    sid_count: u64,
     handles: &[u64; HANDLE_WORDS],
     tokens: &mut [u64],
     dacls: &mut [u8],
     stations: &mut [u64],
 ) -> Outcome
     requires { ⌜ Lent (now tokens) (now dacls) (now stations) × (station < stationCount) ⌝ }
-    ensures { λ r. ⌜ RestrictCarried station number mark removed (now (s .entry)) «deny_at» «deny_count» «sid_at» «sid_count» (recordsIn (now (handles .entry))) (now (stations .entry)) (now (tokens .entry)) (now (dacls .entry)) (now (stations .exit)) (now (tokens .exit)) (now (dacls .exit)) r ⌝ }
+    ensures { λ r. ⌜ RestrictCarried station (f .handle) (f .mark) (f .removed) (now (s .entry)) (f .«deny_at») (f .«deny_count») (f .«sid_at») (f .«sid_count») (recordsIn (now (handles .entry))) (now (stations .entry)) (now (tokens .entry)) (now (dacls .entry)) (now (stations .exit)) (now (tokens .exit)) (now (dacls .exit)) r ⌝ }
 {
-    let x = located::locate(station, number, Mask::DUPLICATE, handles, tokens);
+    let x = located::locate(station, f.handle, Mask::DUPLICATE, handles, tokens);
     if x.refusal != 0 {
         return outcome::refused(x.refusal);
     }
     let counts = restricted::counts_at(x.slot, tokens);
-    let refusal = refusal_of(
-        counts,
-        mark,
-        removed,
-        s,
-        deny_at,
-        deny_count,
-        sid_count,
-        handles,
-        tokens,
-        stations,
-    );
+    let refusal = refusal_of(counts, f, s, handles, tokens, stations);
     if refusal != 0 {
         return outcome::refused(refusal);
     }
@@ -148,13 +112,8 @@ pub fn restrict_token(
         x.mask,
         x.slot,
         counts,
-        mark,
-        removed,
+        f,
         s,
-        deny_at,
-        deny_count,
-        sid_at,
-        sid_count,
         handles,
         tokens,
         dacls,

@@ -7,6 +7,7 @@ ghost use Rattle.rules.specs.State.{tokenSlots};
 ghost use Rattle.rules.specs.Memory.{tokenWords};
 ghost use Rattle.request.specs.Copies.{Remade};
 ghost use Rattle.request.specs.Restricts.{CountsAt, markWord, limitedTo, CopyMade};
+use crate::fields::RestrictFields;
 use crate::restrict::add_sids;
 use crate::restrict::deny;
 use privilege::words::without;
@@ -61,23 +62,12 @@ fn limit(words: &mut [u64; TOKEN_WORDS], n: u64, mark: u32, removed: u64)
     words[BY_DEFAULT] = by_default;
 }
 
-// The indexes to deny and the restricting SIDs stand at two places of a body.
-pub fn make(
-    words: &mut [u64; TOKEN_WORDS],
-    n: u64,
-    counts: Counts,
-    mark: u32,
-    removed: u64,
-    s: &[u8],
-    deny_at: usize,
-    deny_count: u64,
-    sid_at: usize,
-    sid_count: u64,
-)
-    requires { ⌜ (length (now words) ≡ tokenWords) × (counts .groups ≤ maxGroups) × (counts .restricting + «sid_count» ≤ maxRestricting) ⌝ }
-    ensures { λ _. ⌜ CopyMade n counts mark removed (now (s .entry)) «deny_at» «deny_count» «sid_at» «sid_count» (now (words .entry)) (now (words .exit)) ⌝ }
+// The indexes to deny and the restricting SIDs stand in the body.
+pub fn make(words: &mut [u64; TOKEN_WORDS], n: u64, counts: Counts, f: RestrictFields, s: &[u8])
+    requires { ⌜ (length (now words) ≡ tokenWords) × (counts .groups ≤ maxGroups) × (counts .restricting + f .«sid_count» ≤ maxRestricting) ⌝ }
+    ensures { λ _. ⌜ CopyMade n counts (f .mark) (f .removed) (now (s .entry)) (f .«deny_at») (f .«deny_count») (f .«sid_at») (f .«sid_count») (now (words .entry)) (now (words .exit)) ⌝ }
 {
-    limit(words, n, mark, removed);
-    deny(words, counts.groups, s, deny_at, deny_count);
-    add_sids(words, counts.restricting, s, sid_at, sid_count);
+    limit(words, n, f.mark, f.removed);
+    deny(words, counts.groups, s, f.deny_at, f.deny_count as u64);
+    add_sids(words, counts.restricting, s, f.sid_at, f.sid_count as u64);
 }

@@ -13,6 +13,7 @@ ghost use Rattle.token.specs.Row.{Becomes};
 ghost use Rattle.handle.specs.Words.{recordsIn};
 ghost use Rattle.request.specs.Scope.{ScopeApplied};
 use crate::answer::Answer;
+use crate::fields::ScopeFields;
 use crate::lookup::lookup;
 use crate::outcome;
 use crate::outcome::Outcome;
@@ -59,23 +60,22 @@ fn apply(station: u32, token: u64, value: u32, tokens: &mut [u64], stations: &[u
 
 pub fn scope(
     station: u32,
-    number: u32,
-    value: u32,
+    f: ScopeFields,
     handles: &[u64; HANDLE_WORDS],
     tokens: &mut [u64],
     dacls: &[u8],
     stations: &[u64],
 ) -> Outcome
     requires { ⌜ Lent (now tokens) (now dacls) (now stations) × (station < stationCount) ⌝ }
-    ensures { λ r. ⌜ Carried (λ σ. rules.scope σ station number value) (recordsIn (now (handles .entry))) (now (stations .entry)) (now (tokens .entry)) (now (dacls .entry)) (now (stations .entry)) (now (tokens .exit)) (now (dacls .entry)) r ⌝ }
+    ensures { λ r. ⌜ Carried (λ σ. rules.scope σ station (f .handle) (f .value)) (recordsIn (now (handles .entry))) (now (stations .entry)) (now (tokens .entry)) (now (dacls .entry)) (now (stations .entry)) (now (tokens .exit)) (now (dacls .entry)) r ⌝ }
 {
-    let target = lookup(station, number, Mask::ADJUST_SCOPE, handles);
+    let target = lookup(station, f.handle, Mask::ADJUST_SCOPE, handles);
     if target.refusal != 0 {
         return outcome::refused(target.refusal);
     }
     if !held(Privileges::TCB, station, tokens, stations) {
         return outcome::refused(refusal::PRIVILEGE_NOT_HELD);
     }
-    apply(station, target.handle.token, value, tokens, stations);
+    apply(station, target.handle.token, f.value, tokens, stations);
     outcome::ends(Answer::Done)
 }

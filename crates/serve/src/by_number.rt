@@ -68,21 +68,7 @@ pub fn create(
     if !f.ok {
         return outcome::refused(refusal::MALFORMED);
     }
-    request::create_token::create_token(
-        station,
-        f.user,
-        f.session,
-        f.integrity,
-        f.present,
-        f.by_default,
-        s,
-        f.at,
-        f.count as u64,
-        handles,
-        tokens,
-        dacls,
-        stations,
-    )
+    request::create_token::create_token(station, f, s, handles, tokens, dacls, stations)
 }
 
 pub fn query(
@@ -101,16 +87,7 @@ pub fn query(
     if !f.ok {
         return outcome::refused(refusal::MALFORMED);
     }
-    request::query::query(
-        station,
-        f.handle,
-        f.class as u64,
-        f.capacity as u64,
-        handles,
-        tokens,
-        dacls,
-        stations,
-    )
+    request::query::query(station, f, handles, tokens, dacls, stations)
 }
 
 pub fn privileges(
@@ -129,17 +106,7 @@ pub fn privileges(
     if !f.ok {
         return outcome::refused(refusal::MALFORMED);
     }
-    request::adjust_privileges::adjust_privileges(
-        station,
-        f.handle,
-        s,
-        f.at,
-        f.count as u64,
-        handles,
-        tokens,
-        dacls,
-        stations,
-    )
+    request::adjust_privileges::adjust_privileges(station, f, s, handles, tokens, dacls, stations)
 }
 
 pub fn groups(
@@ -158,17 +125,7 @@ pub fn groups(
     if !f.ok {
         return outcome::refused(refusal::MALFORMED);
     }
-    request::adjust_groups::adjust_groups(
-        station,
-        f.handle,
-        s,
-        f.at,
-        f.count as u64,
-        handles,
-        tokens,
-        dacls,
-        stations,
-    )
+    request::adjust_groups::adjust_groups(station, f, s, handles, tokens, dacls, stations)
 }
 
 pub fn scope(
@@ -187,7 +144,7 @@ pub fn scope(
     if !f.ok {
         return outcome::refused(refusal::MALFORMED);
     }
-    request::scope::scope(station, f.handle, f.value, handles, tokens, dacls, stations)
+    request::scope::scope(station, f, handles, tokens, dacls, stations)
 }
 
 pub fn defaults(
@@ -206,20 +163,7 @@ pub fn defaults(
     if !f.ok {
         return outcome::refused(refusal::MALFORMED);
     }
-    request::adjust_defaults::adjust_defaults(
-        station,
-        f.handle,
-        f.owner,
-        f.group,
-        f.flag,
-        f.size as u64,
-        s,
-        f.at,
-        handles,
-        tokens,
-        dacls,
-        stations,
-    )
+    request::adjust_defaults::adjust_defaults(station, f, s, handles, tokens, dacls, stations)
 }
 
 pub fn duplicate(
@@ -238,17 +182,7 @@ pub fn duplicate(
     if !f.ok {
         return outcome::refused(refusal::MALFORMED);
     }
-    request::duplicate::duplicate(
-        station,
-        f.handle,
-        f.kind,
-        f.level,
-        f.mask,
-        handles,
-        tokens,
-        dacls,
-        stations,
-    )
+    request::duplicate::duplicate(station, f, handles, tokens, dacls, stations)
 }
 
 pub fn restrict(
@@ -267,21 +201,7 @@ pub fn restrict(
     if !f.ok {
         return outcome::refused(refusal::MALFORMED);
     }
-    request::restrict_token::restrict_token(
-        station,
-        f.handle,
-        f.mark,
-        f.removed,
-        s,
-        f.deny_at,
-        f.deny_count as u64,
-        f.sid_at,
-        f.sid_count as u64,
-        handles,
-        tokens,
-        dacls,
-        stations,
-    )
+    request::restrict_token::restrict_token(station, f, s, handles, tokens, dacls, stations)
 }
 
 pub fn install(

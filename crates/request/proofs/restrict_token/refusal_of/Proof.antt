@@ -8,9 +8,11 @@ pub refusal-of-spec : {M : Type 1} → statement M
 refusal-of-spec =
     tie.close
     (tie.spec
+    (λ c. search needs)
     (λ c κs. search needs)
     (λ c κs. search needs)
     (λ c. search (needs, bad-restrict))
+    (λ c. search needs)
     (λ c. search needs)
     (λ c. search (needs, too-many))
     (λ c κs. search needs)

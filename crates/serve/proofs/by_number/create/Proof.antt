@@ -11,7 +11,6 @@ create-spec =
     (λ c κs. search needs)
     (λ c κs. search needs)
     (λ c. search (needs, not-read))
-    (λ c. search needs)
     (λ c κs. search needs)
     (λ c. search needs)
     (λ c. search needs)

@@ -13,7 +13,6 @@ defaults-spec =
     (λ c κs. search needs)
     (λ c κs. search needs)
     (λ c. search (needs, not-read))
-    (λ c. search needs)
     (λ c κs. search (needs, starts-inside, bytes-there))
     (λ c. search needs)
     (λ c. search needs)

@@ -14,7 +14,6 @@ groups-spec =
     (λ c κs. search needs)
     (λ c κs. search needs)
     (λ c. search (needs, entries-not-read requests.groups))
-    (λ c. search needs)
     (λ c κs. search needs)
     (λ c. search needs)
     (λ c. search needs)

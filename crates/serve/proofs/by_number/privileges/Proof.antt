@@ -14,7 +14,6 @@ privileges-spec =
     (λ c κs. search needs)
     (λ c κs. search needs)
     (λ c. search (needs, entries-not-read requests.privileges))
-    (λ c. search needs)
     (λ c κs. search needs)
     (λ c. search needs)
     (λ c. search needs)

@@ -13,8 +13,6 @@ query-spec =
     (λ c κs. search needs)
     (λ c κs. search needs)
     (λ c. search (needs, not-read))
-    (λ c. search needs)
-    (λ c. search needs)
     (λ c κs. search needs)
     (λ c. search needs)
     (λ c. search needs)

@@ -11,8 +11,6 @@ restrict-spec =
     (λ c κs. search needs)
     (λ c κs. search needs)
     (λ c. search (needs, not-read))
-    (λ c. search needs)
-    (λ c. search needs)
     (λ c κs. search needs)
     (λ c. search needs)
     (λ c. search needs)
