@@ -8,7 +8,6 @@ use lib.Dec.{eqb}
 use lib.ListN.{length, getD, set, List·getD-map}
 use lib.Seq.{set-out, getD-set-other}
 use borrow.Author.Tests.{eqb-true, eqb-false}
-pub use Rattle.table.specs.Lists.{long}
 use Rattle.rules.specs.Basic.{if_then_else_, member}
 use Rattle.rules.specs.Table.{free, live, lives, found}
 use Rattle.rules.specs.Index.{freeIndex, foundIndex}

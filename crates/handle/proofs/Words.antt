@@ -5,7 +5,7 @@ use Prim.Native.Nat.{ℕ, zero, suc, _+_, _*_, _/_, _%_, _≤_, _<_}
 use native.Mathlib.Nat.{mod-eq-of-lt, add-comm}
 use native.Mathlib.Omega.{arith}
 use lib.Arith.{digits-div, digits-mod}
-use lib.ListN.{length, drop, getD, set, length-set}
+use lib.ListN.{length, drop, getD, set, length-set, List·getD-eq-default}
 use Rattle.table.specs.Filling.{Filling, filling-none, copied-more, filling-done}
 use Rattle.rules.specs.State.{handleSlots}
 use Rattle.rules.specs.Memory.{word32}
@@ -80,6 +80,9 @@ slot-read ws i h l s n t m =
     let two : i * slotWords + 2 ≡ suc (suc (i * slotWords)) = omega arith in
     (λ j. record { station = s j; number = n j; token = (t ∙ ap (λ (k : ℕ). getD ws k 0) one) j; mask = (m ∙ ap (λ (k : ℕ). getD ws k 0 % word32) two) j })
     ∙ read-from handleSlots i (i * slotWords) ws refl l
+
+pub slot-past : (ws : List ℕ) (i : ℕ) → handleSlots ≤ i → none ≡ getD (recordsIn ws) i none
+slot-past ws i h = sym (List·getD-eq-default (recordsIn ws) none {n = i} (omega (arith, records-long handleSlots ws)))
 
 pub slot-put : (ws : List ℕ) (i : ℕ) (h : Handle) → i < handleSlots → length ws ≡ handleSlots * slotWords → h .station < word32 → h .mask < word32
     → recordsIn (set (set (set ws (i * slotWords) (h .station + h .number * word32)) (i * slotWords + 1) (h .token)) (i * slotWords + 2) (h .mask)) ≡ set (recordsIn ws) i h

@@ -13,6 +13,7 @@ slotWords = 3
 abbrev pub recordIn : List ℕ → Handle
 recordIn ws = record { station = getD ws 0 0 % word32; number = getD ws 0 0 / word32; token = getD ws 1 0; mask = getD ws 2 0 % word32 }
 
+-- of n slots
 unfoldable pub recordsFrom : ℕ → List ℕ → List Handle
 recordsFrom zero ws = []
 recordsFrom (suc n) ws = recordIn ws ∷ recordsFrom n (drop slotWords ws)

@@ -76,11 +76,13 @@ fn high_half(w: u64) -> u32
     (w / WORD_32) as u32
 }
 
-// The handle in a slot.
+// The handle in a slot; NONE past the last.
 pub fn at(words: &[u64; HANDLE_WORDS], slot: usize) -> Handle
-    requires { ⌜ slot < handleSlots ⌝ }
     ensures { λ r. ⌜ r ≡ getD (recordsIn (now (words .entry))) slot none ⌝ }
 {
+    if SLOTS <= slot {
+        return NONE;
+    }
     let from = slot * SLOT_WORDS;
     Handle {
         station: low_half(words[from]),

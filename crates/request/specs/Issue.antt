@@ -8,7 +8,7 @@ use Rattle.rules.specs.Token as rules
 use Rattle.rules.specs.State.{State, addToken, addHandle}
 use Rattle.rules.specs.Memory.{tokenRow, daclRow}
 use Rattle.rules.specs.Valid.{valid}
-use Rattle.rules.specs.Decision.{need_else_then_, canIssue}
+use Rattle.rules.specs.Decision.{canIssue}
 use Rattle.handle.specs.declared.Handle.{Handle}
 use Rattle.state.specs.Parts.{StationsIn}
 use Rattle.state.specs.StationFacts.{nextHandle}

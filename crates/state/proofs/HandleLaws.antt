@@ -1,12 +1,12 @@
 -- What is found among the handles, and what a change of one slot is. Assumes nothing.
-use Prim.Native.Nat.{ℕ, zero, suc, _+_, _≤_, _<_}
+use Prim.Native.Nat.{ℕ, zero, suc, _+_, _<_}
 use native.Mathlib.Omega.{arith}
 use mathlib.Core.Path.{_≡_, refl, sym, ap, ap₂, _∙_}
 use mathlib.Core.Bool.{Bool, true, false, not, _&&_}
 use mathlib.Core.List.{List, [], _∷_, map}
 use lib.Dec.{eqb, ltb, leb·suc-suc}
 use borrow.Author.Tests.{ltb-true, lt-ltb}
-use lib.ListN.{length, getD, set, List·getD-map, List·getD-eq-default}
+use lib.ListN.{length, getD, set, List·getD-map}
 use Rattle.rules.specs.Basic.{if_then_else_}
 use Rattle.rules.specs.Number.{max32}
 use Rattle.rules.specs.Table.{Slot, free, live, isLive, orElse, someFree, found, canAdd, added, withSlots}
@@ -28,10 +28,6 @@ use Rattle.state.proofs.FormedLaws.{valid-formed, handles-back}
 use Rattle.state.proofs.StationLaws.{next-given}
 
 -- ---- one slot
-
--- what find gives, past the last slot too
-pub none-there : (hs : List Handle) {i : ℕ} → length hs ≡ handleSlots → handleSlots ≤ i → none ≡ getD hs i none
-none-there hs {i} l h = sym (List·getD-eq-default hs none {n = i} (omega arith))
 
 slot-record : (p : Slot rules.Handle) → slotHandle p ≡ orElse rules.noHandle p
 unfolding slotHandle orElse

@@ -7,7 +7,6 @@ ghost use Rattle.handle.specs.Words.{recordsIn};
 ghost use Rattle.state.specs.Parts.{Lent};
 ghost use Rattle.state.specs.ReleaseFacts.{TokenFreed, Closed, Installed};
 use crate::handles::Change;
-use crate::handles::handle_in;
 use crate::stations;
 use handle::HANDLE_WORDS;
 use handle::NONE;
@@ -51,7 +50,7 @@ pub fn close(
     ensures { λ r. ⌜ Closed station number (recordsIn (now (handles .entry))) (now (stations .entry)) (now (tokens .entry)) (now (dacls .entry)) (now (tokens .exit)) (now (dacls .exit)) r ⌝ }
 {
     let slot = handle::find(handles, station, number);
-    let closed = handle_in(slot, handles);
+    let closed = handle::at(handles, slot);
     free_unreferenced(closed.token, slot, handles, tokens, dacls, stations);
     Change {
         slot: slot,

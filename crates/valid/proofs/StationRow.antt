@@ -1,71 +1,46 @@
 -- A station's row, and a proper part of a frame by its first bytes: the tests come to `stationTest`. Assumes nothing.
 use mathlib.Core.Path.{_≡_, refl, sym, ap, ap₂, _∙_}
-use mathlib.Core.Bool.{Bool, true, false, not, _&&_, _||_, and-true, and-assoc, or-true, or-false}
+use mathlib.Core.Bool.{Bool, true, false, not, _&&_, and-true, and-assoc, or-true, or-false}
 use mathlib.Core.List.{List, [], _∷_}
-use Prim.Native.Nat.{ℕ, zero, suc, _+_, _-_, _*_, _≤_, _<_}
+use Prim.Native.Nat.{ℕ, zero, suc, _-_, _*_, _≤_, _<_}
 use native.Mathlib.Nat.{zero-mul, suc-mul}
 use native.Mathlib.Omega.{arith}
-use borrow.Author.Tests.{eq-eqb, ne-eqb, lt-ltb, le-ltb, le-leb, lt-leb, eqb-true}
+use borrow.Author.Tests.{ne-eqb, le-ltb, le-leb, lt-leb, eqb-true}
 use lib.Dec.{eqb, leb, ltb}
 use lib.ListN.{length, take, drop, getD, length-drop, take-append-drop}
 use lib.Seq.{length-take-le, take-all}
 use Rattle.table.specs.Lists.{pad, named-take}
 use Rattle.table.specs.Rows.{testRows}
-use Rattle.rules.specs.Basic.{if_then_else_, all, member, isEmpty}
-use Rattle.rules.specs.Frame.{invalid, size, secondOf, lengthOf, part, whole, framedBy, framed}
+use Rattle.rules.specs.Basic.{all, member, isEmpty}
+use Rattle.rules.specs.Frame.{lengthOf, framedBy, framed}
 use Rattle.rules.specs.Memory.{same, stationRow, pendingRow, stationAt, stationWords, pendingBytes}
 use Rattle.rules.specs.State.{stationCount}
 use Rattle.rules.specs.Valid.{isByte, isPart, streamValid}
 use Rattle.rules.proofs.Logic.{and-l, and-r}
+use Rattle.stream.specs.Meaning.{framedOf, FramedAs}
+use Rattle.stream.specs.declared.Framed.{Framed}
+use Rattle.stream.specs.declared.Framed.the-variants as what
 use Rattle.valid.specs.Tests.{isZero, stationTest, idleTest, allIdle}
 use Rattle.valid.proofs.Truth.{same-tests, implies-or, all-below, all-append, eqb-same}
 use Rattle.valid.proofs.Same.{same-pad-take, cut-mark, cut-count}
 
--- ---- a proper part of a frame, with what the code has at each return
+-- ---- a proper part of a frame, by what its bytes come to
 
-pub part-none : (s : List ℕ) → length s ≡ 0 → true ≡ isPart (framed s)
-unfolding isPart framed framedBy lengthOf
-part-none [] e = refl
-part-none (a ∷ s) e = absurd (omega arith)
+module _ (s : List ℕ) {r : Framed} (f : FramedAs s (length s) r) where
+  as-framed : (x : Framed) → r ≡ x → isPart (framedOf s (length s) x) ≡ isPart (framed s)
+  as-framed x e = ap (λ y. isPart (framedOf s (length s) y)) (sym e) ∙ ap isPart (f .means ∙ ap framed (take-all (length s) s (omega arith)))
 
-pub part-zero : (s : List ℕ) (a : ℕ) → a ≡ getD s 0 0 → (length s ≡ 0 → ⊥) → a ≡ 0 → false ≡ isPart (framed s)
-unfolding isPart framed framedBy lengthOf
-part-zero [] a e l z = absurd (l refl)
-part-zero (x ∷ s) a e l z = sym (rw (eq-eqb x 0 (sym e ∙ z)))
+  pub is-part : r ≡ what.Part → true ≡ isPart (framed s)
+  unfolding isPart
+  is-part e = as-framed what.Part e
 
-part-size : (n k : ℕ) (body : List ℕ) → k ≡ length body → ltb k n ≡ isPart (framedBy (size n body))
-unfolding isPart framedBy
-part-size n k body e = by (ltb (length body) n) refl
-  where
-    by : (b : Bool) → ltb (length body) n ≡ b → ltb k n ≡ isPart (if_then_else_ b part (whole body))
-    by true h = ap (λ (j : ℕ). ltb j n) e ∙ h
-    by false h = ap (λ (j : ℕ). ltb j n) e ∙ h
+  pub is-broken : r ≡ what.Broken → false ≡ isPart (framed s)
+  unfolding isPart
+  is-broken e = as-framed what.Broken e
 
-pub part-short : (s : List ℕ) (a : ℕ) → a ≡ getD s 0 0 → (length s ≡ 0 → ⊥) → (a ≡ 0 → ⊥) → a < 128 → ltb (length s - 1) a ≡ isPart (framed s)
-unfolding framed lengthOf
-part-short [] a e l z h = absurd (l refl)
-part-short (x ∷ s) a e l z h =
-    part-size a (suc (length s) - 1) s (omega arith)
-    ∙ rw e (sym (rw (ne-eqb x 0 (λ q. z (e ∙ q)), lt-ltb x 128 (omega arith))))
-
-pub part-first : (s : List ℕ) (a : ℕ) → a ≡ getD s 0 0 → length s ≡ 1 → (a ≡ 0 → ⊥) → 128 ≤ a → true ≡ isPart (framed s)
-unfolding framed lengthOf isPart framedBy secondOf
-part-first [] a e l z h = absurd (omega arith)
-part-first (x ∷ []) a e l z h = sym (rw (ne-eqb x 0 (λ q. z (e ∙ q)), le-ltb x 128 (omega arith)))
-part-first (x ∷ y ∷ s) a e l z h = absurd (omega arith)
-
-pub part-second : (s : List ℕ) (a b : ℕ) → a ≡ getD s 0 0 → b ≡ getD s 1 0 → (length s ≡ 0 → ⊥) → (length s ≡ 1 → ⊥) → (a ≡ 0 → ⊥) → 128 ≤ a
-    → (not (eqb b 0 || leb 128 b || ltb 2048 (a - 128 + 128 * b)) && ltb (length s - 2) (a - 128 + 128 * b)) ≡ isPart (framed s)
-unfolding framed lengthOf secondOf isPart framedBy
-part-second [] a b e f l k z h = absurd (l refl)
-part-second (x ∷ []) a b e f l k z h = absurd (k refl)
-part-second (x ∷ y ∷ s) a b e f l k z h =
-    ap₂ (λ (x y : ℕ). not (eqb y 0 || leb 128 y || ltb 2048 (x - 128 + 128 * y)) && ltb (suc (suc (length s)) - 2) (x - 128 + 128 * y)) e f
-    ∙ by (eqb y 0 || leb 128 y || ltb 2048 (x - 128 + 128 * y)) ∙ sym (rw (ne-eqb x 0 (λ q. z (e ∙ q)), le-ltb x 128 (omega arith)))
-  where
-    by : (t : Bool) → (not t && ltb (suc (suc (length s)) - 2) (x - 128 + 128 * y)) ≡ isPart (framedBy (if_then_else_ t invalid (size (x - 128 + 128 * y) s)))
-    by true = refl
-    by false = part-size (x - 128 + 128 * y) (suc (suc (length s)) - 2) s (omega arith)
+  pub is-whole : (start : ℕ) → r ≡ what.Whole start → false ≡ isPart (framed s)
+  unfolding isPart
+  is-whole start e = as-framed (what.Whole start) e
 
 -- ---- the row
 

@@ -10,36 +10,18 @@ ghost use Rattle.rules.specs.Valid.{isPart};
 ghost use Rattle.valid.specs.Tests.{stationTest, idleTest, allIdle};
 use crate::layout::*;
 use crate::words::zero_bytes;
-
-const MAX_BODY: usize = 2048;
-
-fn wide(b: u8) -> usize
-    ensures { λ r. ⌜ (r ≡ b) × (r < 256) ⌝ }
-{
-    b as usize
-}
+use stream::Framed;
+use stream::frame;
 
 // A proper part of a frame.
 fn is_part(s: &[u8]) -> bool
     ensures { λ r. ⌜ r ≡ isPart (framed (now (s .entry))) ⌝ }
 {
-    let n = s.len();
-    if n == 0 {
-        return true;
+    match frame::framed(s, s.len()) {
+        Framed::Part => true,
+        Framed::Broken => false,
+        Framed::Whole { start: _ } => false,
     }
-    let a = wide(s[0]);
-    if a == 0 {
-        return false;
-    }
-    if a < 128 {
-        return n - 1 < a;
-    }
-    if n == 1 {
-        return true;
-    }
-    let b = wide(s[1]);
-    let size = a - 128 + 128 * b;
-    !((b == 0) | (128 <= b) | (MAX_BODY < size)) & (n - 2 < size)
 }
 
 // A row: nothing pending, or a proper part of a frame and no break; zeros past it.
