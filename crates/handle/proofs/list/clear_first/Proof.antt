@@ -147,7 +147,7 @@ module _ {M : Type 1} (𝓤 : URA M) (H : Heap 𝓤) (A : Atoms 𝓤) (W : Given
         move ! (16 ∷ []) $ fsplit ! $ drop ! $ fsplit ! $ move ! (0 ∷ 1 ∷ 19 ∷ []) $ opens-slice ! tt R ys b o $
         -- [row; the open borrow; obs; auth; _0; …; the number's]
         keep ! (0 ∷ 4 ∷ 5 ∷ 6 ∷ 7 ∷ 8 ∷ 9 ∷ 10 ∷ 11 ∷ 12 ∷ 13 ∷ 14 ∷ 15 ∷ 16 ∷ 17 ∷ 18 ∷ 19 ∷ 1 ∷ 2 ∷ 3 ∷ []) $ first ! $ blocks ! $
-        loops ! 𝓣 (Nearer left) (nearer-wf left) At turns (0, (ys, (omega arith, (refl, refl))))
+        loops ! 𝓣 (Nearer left) (nearer-wf left) At turns (_, (ys, (omega arith, (refl, refl))))
 
   module _ (𝓣 : Tables 𝓤 H) where
     walk : ent 𝓤 (onEntry 𝓤 H A clear.signature (κ, tt) (q, tt) (x ys, (m, tt)) at) (WpFn 𝓤 H (𝓣 .C) (𝓣 .Λ) code.function (sliceVal (b, o) n ∷ vint w64 m ∷ []) Post)

@@ -308,7 +308,7 @@ module _ {M : Type 1} (𝓤 : URA M) (H : Heap 𝓤) (A : Atoms 𝓤) (W : Given
         looks-slice ! tt R (Is R) (shows 𝓤 H A R) (LL.vals T.the-type T′.the-laws) (LL.tells T.the-type T′.the-laws) (LL.copy T.the-type T′.the-copy 𝓤 H A W) ys b o (λ q′.
         -- [row; what shuts; the fractured borrow; res; list's fact; the words; _0; …]
         move ! (0 ∷ 5 ∷ 6 ∷ 7 ∷ 8 ∷ 9 ∷ 10 ∷ 11 ∷ 12 ∷ 13 ∷ 14 ∷ 15 ∷ 16 ∷ 17 ∷ 18 ∷ 19 ∷ 20 ∷ 21 ∷ 22 ∷ 23 ∷ 24 ∷ 25 ∷ 26 ∷ 27 ∷ 28 ∷ 29 ∷ 30 ∷ 31 ∷ 32 ∷ 33 ∷ 34 ∷ 35 ∷ 36 ∷ 37 ∷ 38 ∷ 39 ∷ 40 ∷ 41 ∷ 42 ∷ []) $ first ! $ blocks ! $
-        loops ! 𝓣 (Nearer left) (nearer-wf left) (At q′) (turns q′) (0, (r, (omega arith, (loads-none ys (ap recordsIn e ∙ zeros-free handleSlots size), ap length e ∙ length-replicate {A = ℕ} size 0)))))
+        loops ! 𝓣 (Nearer left) (nearer-wf left) (At q′) (turns q′) (_, (r, (omega arith, (loads-none ys (ap recordsIn e ∙ zeros-free handleSlots size), ap length e ∙ length-replicate {A = ℕ} size 0)))))
 
     begins : Sq W (Locals (λ Γ. room many l₂ (room word l₃ (room T′.mir l₄ (room word l₅ (room word l₆ Γ))))) (items (Own ∷ []) (items Tok []))) (runs (𝓣 .C) (𝓣 .Λ) En mir.t-1 (atRet En Post))
     begins =
