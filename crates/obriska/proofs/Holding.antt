@@ -145,11 +145,8 @@ module _ (from end : ℕ) (b b′ : List ℕ) (m m′ : Memory) (room : ℕ) (r 
         (λ z. omega (arith, f .count, f .inside, f .order))
         (below-or (r .chunks) 1)
 
-    pub counted : chunks + r .chunks ≤ budget
-    counted = omega (arith, f .count)
-
     pub stops : valid m ≡ true → Ends m′ (record { stopped = true; chunks = chunks + r .chunks; handles = r .handles })
-    stops v = record { most = counted; all = λ t. let z : _≡_ {A = ℕ} 0 1 = cc in absurd (omega arith); memory = f .stays v }
+    stops v = record { most = omega (arith, f .count); all = λ t. let z : _≡_ {A = ℕ} 0 1 = cc in absurd (omega arith); memory = f .stays v }
 
   pub stays-ready : (a a′ : List ℕ) → Ready b a m → length b′ ≡ length b → length a′ ≡ length a → Ready b′ a′ m′
   stays-ready a a′ k e h = record { input = e ∙ k .input; output = omega (arith, k .output); memory = f .stays (k .memory) }

@@ -8,7 +8,7 @@ use Rattle.handle.specs.Words.{recordsIn}
 use Rattle.valid.specs.Meaning.{memoryOf}
 use Rattle.session.specs.Program.{budget}
 use Rattle.obriska.specs.Serving.{bufferBytes, Ready}
-use Rattle.obriska.proofs.Holding.{falls, counted, stops, stays-ready, used-up}
+use Rattle.obriska.proofs.Holding.{falls, stops, stays-ready, used-up}
 use Rattle.obriska.proofs.run.Statement.{statement}
 use Rattle.obriska.proofs.run.Tie as tie
 
@@ -29,16 +29,16 @@ run-spec =
     (tie.spec Inv μ
     (λ c. (omega arith, omega arith, omega arith, search needs, refl, refl, refl, refl, refl, refl))
     (λ c κs. search needs)
-    (λ c. search (needs, counted))
     (λ c. search needs)
     (λ c. search needs)
     (λ c. search needs)
     (λ c. search needs)
     (λ c. search needs)
     (λ c. search needs)
-    (λ c. search (needs, stops))
-    (λ c. search (needs, falls))
-    (λ c. (search (needs, counted), search needs, search needs, search (needs, stays-ready), search needs, search needs, search needs, search needs, search needs, search needs))
+    (λ c. search needs)
+    (λ c. stops _ _ _ _ _ _ _ _ (c .before .before .before .before .before .before .before .before .before .before .before .before .before .before .before .before .advance .ensures) _ (omega arith) (search needs))
+    (λ c. falls _ _ _ _ _ _ _ _ (c .before .before .before .before .before .before .before .before .before .before .before .before .before .before .before .before .advance .ensures) _ (omega arith) (search needs) (search needs) (search needs) (search needs) (search needs))
+    (λ c. (omega (arith, c .before .before .before .before .before .before .before .before .before .before .before .before .before .before .before .before .advance .ensures .count), search needs, search needs, search (needs, stays-ready), search needs, search needs, search needs, search needs, search needs, search needs))
     (λ c. search needs)
     (λ c. search needs)
     (λ c. search needs)
