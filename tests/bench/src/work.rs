@@ -166,7 +166,8 @@ fn on_full_tables(full: &Model, requests: usize) -> Feeds {
     let mut desk = Recorder { model: full.clone(), feeds: vec![] };
     for _ in 0..requests {
         let station = rng.pick(&[0, 2, 4, 6]);
-        let handle = rng.pick(&[0, 8, 16, 24]) + if station == 0 { 8 } else { station };
+        let others = STATIONS * rng.below(HANDLES / STATIONS);
+        let handle = others as u32 + if station == 0 { STATIONS as u32 } else { station };
         let class = 1 + rng.below(13) as u32;
         let request = match rng.below(10) {
             0..=3 => Request::Query { handle, class, capacity: 1000 },

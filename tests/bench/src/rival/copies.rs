@@ -30,7 +30,7 @@ impl Memory<'_> {
                 || by_default && attribute(group, DENY_ONLY)
                 || !by_default && is_fixed(group, user.into());
             if let Some(place) = groups.get_mut(at) {
-                *place = group | u64::from(by_default) * (u64::from(ENABLED) << 32);
+                *place = group | (u64::from(by_default) * (u64::from(ENABLED) << 32));
             }
             at += 1;
         });
