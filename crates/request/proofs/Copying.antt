@@ -37,7 +37,7 @@ use Rattle.request.specs.Carried.{Ends, Carried}
 use Rattle.request.specs.Issue.{IssueRoom, RowIssued}
 use Rattle.request.specs.Copies.{RowCopied, Remade, DuplicateJudged, copiedAs, duplicatedAs, CopyIssued}
 use Rattle.request.proofs.Deciding.{fails, holds, refuses, carried-as}
-use Rattle.request.proofs.LookupLaws.{goes-on}
+use Rattle.request.proofs.LookupLaws.{mask-narrow, goes-on}
 use Rattle.request.proofs.Locating.{TokenLocated, not-located}
 use Rattle.request.proofs.RowIssuing.{ends-issuing}
 
@@ -127,10 +127,16 @@ module _ (kind level : ℕ) {i s mask : ℕ} {hs : List Handle} {ss ts ds ss′ 
 pub judges : (held : ℕ) (i : Identity) (type level mask : ℕ) {v w : Bool} → v ≡ Mask.validMask mask → w ≡ within mask held
     → DuplicateJudged held i type level mask ((eqb type 1 || eqb type 2) && leb level 3 && (not (eqb (i .kind) 2 && eqb type 2) || leb level (i .level)) && v && w)
 unfolding validDuplicate validLevel
-judges held i type level mask {v} {w} ev ew = record { judged = λ h t m e. by h t m (ap (λ (x : rules.Identity). x .type) e) (ap (λ (x : rules.Identity). x .level) e) }
+judges held i type level mask {v} {w} ev ew = record {
+  narrow = λ t. mask-narrow mask ev (and-r others v (and-l (others && v) w t));
+  judged = λ h t m e. by h t m (ap (λ (x : rules.Identity). x .type) e) (ap (λ (x : rules.Identity). x .level) e);
+}
   where
+    others : Bool
+    others = (eqb type 1 || eqb type 2) && leb level 3 && (not (eqb (i .kind) 2 && eqb type 2) || leb level (i .level))
+
     by : (h : rules-handle.Handle) (t : rules.Token) → held ≡ h .mask → i .kind ≡ t .identity .type → i .level ≡ t .identity .level
-        → ((eqb type 1 || eqb type 2) && leb level 3 && (not (eqb (i .kind) 2 && eqb type 2) || leb level (i .level)) && v && w) ≡ validDuplicate h t type level mask
+        → (others && v && w) ≡ validDuplicate h t type level mask
     by h t m k l = cc
 
 -- ---- request 9: how it ends
@@ -146,10 +152,10 @@ module _ (kind level mask : ℕ) {s n : ℕ} {hs : List Handle} {ss ts ds : List
   unfolding duplicate
   duplicate-unknown {r} f e = not-located g (go kind level mask s) r e f
 
-  module _ (z : x .refusal ≡ 0) (who : Identity) (is : IdentityAt (x .slot) ts who) {ok : Bool} (q : DuplicateJudged held who kind level mask ok) where
+  module _ (z : x .refusal ≡ 0) (who : Identity) (is : IdentityAt (x .slot) ts who) {own : ℕ} (same : own ≡ held) {ok : Bool} (q : DuplicateJudged own who kind level mask ok) where
     -- the test, in the state
     judged : (σ : State) (h : rules-handle.Handle) → held ≡ h .mask → valid σ ≡ true → PartsIn σ hs ss ts ds → ok ≡ validDuplicate h (state.tokenOf σ token) kind level mask
-    judged σ h m v p = q .judged h (state.tokenOf σ token) m (is .given token (g .slot z) .identity σ v (p .tokens))
+    judged σ h m v p = q .judged h (state.tokenOf σ token) (same ∙ m) (is .given token (g .slot z) .identity σ v (p .tokens))
 
     pub duplicate-bad : {r : Outcome} → not ok ≡ true → Ends (answers.Refused 5) r → Carried (λ σ. duplicate σ s n kind level mask) hs ss ts ds ss ts ds r
     unfolding duplicate

@@ -67,14 +67,14 @@ pub record TokenLocated (station number right : ℕ) (hs : List Handle) (ts : Li
       → r .refusal ≡ refusalNumber (isLive (findHandle σ station number)) (permits (handleOf σ station number .mask) right)
 
 pub located : (right : ℕ) {s n mask : ℕ} {hs : List Handle} {h : Handle} {b : Bool} {ts : List ℕ} {x : Located}
-    → HandleGiven s n hs h → mask ≡ h .mask → b ≡ permits mask right → SlotGiven h b ts x → TokenLocated s n right hs ts (h .token) mask x
+    → HandleGiven s n hs h → mask ≡ h .mask → b ≡ permits mask right → SlotGiven h b ts x → TokenLocated s n right hs ts (h .token) (h .mask) x
 unfolding numberOf
 located right {s} {n} {hs = hs} {h = h} g m e x = record {
   small = x .small;
   inside = x .inside;
   slot = x .slot;
   token = λ σ v i. ap (λ (y : rules.Handle). y .token) (g .handle σ v i);
-  mask = λ σ v i. m ∙ ap (λ (y : rules.Handle). y .mask) (g .handle σ v i);
+  mask = λ σ v i. ap (λ (y : rules.Handle). y .mask) (g .handle σ v i);
   refusal = λ σ v i k. x .refusal σ v k (λ live. is-there σ v i live) ∙ refusal-is right g m e σ v i;
 }
   where

@@ -5,7 +5,8 @@ use mathlib.Core.Path.{_≡_, refl, sym, ap, ap₂, _∙_, subst}
 use mathlib.Core.Bool.{Bool, true, false, not}
 use mathlib.Core.List.{List, [], _∷_}
 use lib.Dec.{eqb}
-use Rattle.rules.specs.Mask.{permits}
+use Rattle.rules.specs.Bits.{within}
+use Rattle.rules.specs.Mask.{allRights, permits, validMask}
 use Rattle.rules.specs.Refusal.{refusal, notALiveHandle, rightMissing}
 use Rattle.rules.specs.Table.{isLive}
 use Rattle.rules.specs.Handle as rules
@@ -14,8 +15,11 @@ use Rattle.rules.specs.Valid.{valid}
 use Rattle.rules.specs.State as state
 use Rattle.rules.specs.State.{State, findHandle, tokenOf}
 use Rattle.rules.specs.Decision.{Decision, Served, carriedOut, need_else_then_, withHandle}
+use Rattle.rules.proofs.Bits.{within-le}
+use Rattle.rules.proofs.Logic.{and-r}
 use Rattle.rules.proofs.Facts.{valid-facts}
 use Rattle.rules.proofs.Steps.{Found, found-handle}
+use Rattle.handle.specs.Words.{word16}
 use Rattle.handle.specs.Meaning.{handleOf}
 use Rattle.handle.specs.declared.Handle.{Handle}
 use Rattle.state.specs.Parts.{HandlesIn}
@@ -50,6 +54,11 @@ module _ (right : ℕ) {s n mask : ℕ} {hs : List Handle} {h : Handle} {b : Boo
 
   pub looks-up : {k : ℕ} → k ≡ handleRefusal h b → LookedUp s n right hs h k
   looks-up q = record { small = handle-small h b q; handle = g .handle; refusal = λ σ v i. q ∙ refusal-is σ v i }
+
+-- a mask that may be asked for is one that a handle can have
+pub mask-narrow : (mask : ℕ) {b : Bool} → b ≡ validMask mask → b ≡ true → mask < word16
+unfolding validMask
+mask-narrow mask e t = let l = within-le mask allRights (and-r (not (eqb mask 0)) (within mask allRights) (sym e ∙ t)) in omega arith
 
 -- ---- the decision
 

@@ -63,7 +63,7 @@ fn relabel(words: &mut [u64; TOKEN_WORDS], n: u64, kind: u32, level: u32)
 
 fn issue_copy(
     station: u32,
-    mask: u32,
+    mask: u16,
     slot: usize,
     kind: u32,
     level: u32,
@@ -72,7 +72,7 @@ fn issue_copy(
     dacls: &mut [u8],
     stations: &mut [u64],
 ) -> Outcome
-    requires { ⌜ Lent (now tokens) (now dacls) (now stations) × (slot < tokenSlots) × NumbersLeft (now stations) ⌝ }
+    requires { ⌜ Lent (now tokens) (now dacls) (now stations) × (slot < tokenSlots) × NumbersLeft (now stations) × (station < stationCount) ⌝ }
     ensures { λ r. ⌜ CopyIssued (copiedAs kind level) slot station mask (recordsIn (now (handles .entry))) (now (stations .entry)) (now (tokens .entry)) (now (dacls .entry)) (now (stations .exit)) (now (tokens .exit)) (now (dacls .exit)) r ⌝ }
 {
     let n = next_token(stations);
@@ -94,14 +94,14 @@ fn issue_copy(
 // Nothing is kept but the used privileges.
 fn issue_anonymous(
     station: u32,
-    mask: u32,
+    mask: u16,
     slot: usize,
     handles: &[u64; HANDLE_WORDS],
     tokens: &mut [u64],
     dacls: &mut [u8],
     stations: &mut [u64],
 ) -> Outcome
-    requires { ⌜ Lent (now tokens) (now dacls) (now stations) × (slot < tokenSlots) × NumbersLeft (now stations) ⌝ }
+    requires { ⌜ Lent (now tokens) (now dacls) (now stations) × (slot < tokenSlots) × NumbersLeft (now stations) × (station < stationCount) ⌝ }
     ensures { λ r. ⌜ CopyIssued rules.anonymousCopy slot station mask (recordsIn (now (handles .entry))) (now (stations .entry)) (now (tokens .entry)) (now (dacls .entry)) (now (stations .exit)) (now (tokens .exit)) (now (dacls .exit)) r ⌝ }
 {
     let at = slot * TOKEN_WORDS;
@@ -131,7 +131,7 @@ fn issue_anonymous(
 // Only the type and level asked for make an anonymous copy; to primary, the level becomes 0.
 fn issue_duplicate(
     station: u32,
-    mask: u32,
+    mask: u16,
     slot: usize,
     kind: u32,
     level: u32,
@@ -140,7 +140,7 @@ fn issue_duplicate(
     dacls: &mut [u8],
     stations: &mut [u64],
 ) -> Outcome
-    requires { ⌜ Lent (now tokens) (now dacls) (now stations) × (slot < tokenSlots) × NumbersLeft (now stations) ⌝ }
+    requires { ⌜ Lent (now tokens) (now dacls) (now stations) × (slot < tokenSlots) × NumbersLeft (now stations) × (station < stationCount) ⌝ }
     ensures { λ r. ⌜ CopyIssued (duplicatedAs kind level) slot station mask (recordsIn (now (handles .entry))) (now (stations .entry)) (now (tokens .entry)) (now (dacls .entry)) (now (stations .exit)) (now (tokens .exit)) (now (dacls .exit)) r ⌝ }
 {
     let anonymous = (kind != PRIMARY) & (level == 0);
@@ -201,7 +201,7 @@ pub fn duplicate(
     }
     issue_duplicate(
         station,
-        f.mask,
+        f.mask as u16,
         x.slot,
         f.kind,
         f.level,

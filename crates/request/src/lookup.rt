@@ -8,7 +8,7 @@ use privilege::mask::Mask;
 pub fn mask_of(h: Handle) -> Mask
     ensures { λ r. ⌜ r .0 ≡ h .mask ⌝ }
 {
-    Mask(h.mask)
+    Mask(h.mask as u32)
 }
 
 // It is not the station's live handle, or its mask does not permit the request: 0 if neither.

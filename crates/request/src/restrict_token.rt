@@ -58,7 +58,7 @@ fn refusal_of(
 // Of the token in a slot, where nothing speaks against it.
 fn issue_restricted(
     station: u32,
-    mask: u32,
+    mask: u16,
     slot: usize,
     counts: Counts,
     f: RestrictFields,
@@ -68,7 +68,7 @@ fn issue_restricted(
     dacls: &mut [u8],
     stations: &mut [u64],
 ) -> Outcome
-    requires { ⌜ Lent (now tokens) (now dacls) (now stations) × (slot < tokenSlots) × NumbersLeft (now stations) × (counts .groups ≤ maxGroups) × (counts .restricting + f .«sid_count» ≤ maxRestricting) ⌝ }
+    requires { ⌜ Lent (now tokens) (now dacls) (now stations) × (slot < tokenSlots) × NumbersLeft (now stations) × (station < stationCount) × (counts .groups ≤ maxGroups) × (counts .restricting + f .«sid_count» ≤ maxRestricting) ⌝ }
     ensures { λ r. ⌜ RestrictedIssued slot counts (f .mark) (f .removed) (now (s .entry)) (f .«deny_at») (f .«deny_count») (f .«sid_at») (f .«sid_count») station mask (recordsIn (now (handles .entry))) (now (stations .entry)) (now (tokens .entry)) (now (dacls .entry)) (now (stations .exit)) (now (tokens .exit)) (now (dacls .exit)) r ⌝ }
 {
     let n = next_token(stations);
@@ -100,8 +100,7 @@ pub fn restrict_token(
     ensures { λ r. ⌜ RestrictCarried station (f .handle) (f .mark) (f .removed) (now (s .entry)) (f .«deny_at») (f .«deny_count») (f .«sid_at») (f .«sid_count») (recordsIn (now (handles .entry))) (now (stations .entry)) (now (tokens .entry)) (now (dacls .entry)) (now (stations .exit)) (now (tokens .exit)) (now (dacls .exit)) r ⌝ }
 {
     let found = find_handle(station, f.handle, handles);
-    let mask = mask_of(found);
-    let x = locate(found, mask.may_duplicate(), tokens);
+    let x = locate(found, mask_of(found).may_duplicate(), tokens);
     if x.refusal != 0 {
         return outcome::refused(x.refusal);
     }
@@ -112,7 +111,7 @@ pub fn restrict_token(
     }
     issue_restricted(
         station,
-        mask.0,
+        found.mask,
         x.slot,
         counts,
         f,

@@ -22,7 +22,7 @@ restrict-token-spec =
     (λ c. search needs)
     (λ c. search needs)
     (λ c. let x = c .before .before .before .before .before .before .before .before .before in search (needs, located _ (x .before .before .before .before .find-handle .ensures) (x .before .before .before .mask-of .ensures) (x .before .before .may-duplicate .ensures) (x .locate .ensures), restrict-refused))
-    (λ c κs. (c .before .before .before .before .before .before .before .before .before .before .before .before .before .before .before .before .before .before .before .before .pre .0, search needs, c .before .before .before .before .refusal-of .ensures .left (c .before .before .before .if2 .left), search needs, c .before .before .before .before .refusal-of .ensures .few (c .before .before .before .if2 .left)))
+    (λ c κs. let given = c .before .before .before .before .before .before .before .before .before .before .before .before .before .before .before .before .before .before .before .before .pre in (given .0, search needs, c .before .before .before .before .refusal-of .ensures .left (c .before .before .before .if2 .left), given .1, search needs, c .before .before .before .before .refusal-of .ensures .few (c .before .before .before .if2 .left)))
     (λ c. search needs)
     (λ c. search needs)
     (λ c. search needs)
