@@ -4,12 +4,13 @@
  * The host lends the broker its memory, as five arrays, on each call. The broker keeps nothing
  * anywhere else, allocates nothing, never calls back and always returns. A host
  *
- *   1. sets aside a `struct obriska_memory` (34,272 bytes) and starts it once;
+ *   1. sets aside a `struct obriska_memory` (34,016 bytes) and starts it once;
  *   2. feeds each station's bytes as they come, in chunks of any length, until the chunk is used
  *      up, and sends each answer to that station;
  *   3. reconnects a station when its line was cut.
  *
- * What every call does for any input, refusals too, is proved (docs/CLAIMS.md). What the host owes:
+ * What every call returns and every lent byte after it are proved for any input, refusals too
+ * (docs/CLAIMS.md): nothing of the stack and no padding is in them. What the host owes:
  *
  *   - each pointer is not null, also before a length of 0, is aligned for its type, and has as many
  *     elements behind it as the length says;
@@ -34,24 +35,74 @@ extern "C" {
 #define OBRISKA_TOKENS 16  /* live tokens at most */
 #define OBRISKA_HANDLES 32 /* live handles at most, of all stations together */
 
-/* Elements of each array that the host lends: exactly these lengths, else refusal 13. */
-#define OBRISKA_TOKENS_LEN 1600   /* uint64_t: 16 slots of 100 words */
-#define OBRISKA_DACLS_LEN 4096    /* uint8_t: 16 slots of 256 bytes */
-#define OBRISKA_HANDLES_LEN 32    /* struct obriska_handle */
-#define OBRISKA_STATIONS_LEN 26   /* uint64_t: two next numbers, 8 stations of 3 words */
-#define OBRISKA_PENDING_LEN 16400 /* uint8_t: 8 stations of 2,050 bytes */
-
 #define OBRISKA_ANSWER_LEN 1024 /* the shortest answer buffer, and the longest answer */
 #define OBRISKA_MAX_BODY 2048   /* the longest body of a request */
 
+/* What one token slot or one station has in an array. */
+#define OBRISKA_TOKEN_WORDS 100    /* of a token slot in `tokens` */
+#define OBRISKA_DACL_BYTES 256     /* of a token slot in `dacls` */
+#define OBRISKA_FIRST_STATION 2    /* the word of station 0 in `stations` */
+#define OBRISKA_STATION_WORDS 3    /* of a station in `stations` */
+#define OBRISKA_PENDING_BYTES 2050 /* of a station in `pending` */
+
+/* Elements of each array that the host lends: exactly these lengths, else refusal 13. */
+#define OBRISKA_TOKENS_LEN (OBRISKA_TOKENS * OBRISKA_TOKEN_WORDS) /* 1,600 uint64_t */
+#define OBRISKA_DACLS_LEN (OBRISKA_TOKENS * OBRISKA_DACL_BYTES)   /* 4,096 uint8_t */
+#define OBRISKA_HANDLES_LEN OBRISKA_HANDLES                       /* 32 struct obriska_handle */
+#define OBRISKA_STATIONS_LEN \
+    (OBRISKA_FIRST_STATION + OBRISKA_STATIONS * OBRISKA_STATION_WORDS) /* 26 uint64_t */
+#define OBRISKA_PENDING_LEN (OBRISKA_STATIONS * OBRISKA_PENDING_BYTES) /* 16,400 uint8_t */
+
+/* ---- places: docs/MEMORY.md has the values ------------------------------------------------- */
+
+/* Words of a token slot. */
+enum obriska_token_word {
+    OBRISKA_TOKEN_NUMBER = 0, /* 0: the slot is free */
+    OBRISKA_TOKEN_MODIFIED = 1,
+    OBRISKA_TOKEN_SESSION = 2,
+    OBRISKA_TOKEN_USER = 3,
+    OBRISKA_TOKEN_TYPE = 4,
+    OBRISKA_TOKEN_LEVEL = 5,
+    OBRISKA_TOKEN_ELEVATION = 6,
+    OBRISKA_TOKEN_WRITE_RESTRICTED = 7,
+    OBRISKA_TOKEN_USER_DENY_ONLY = 8,
+    OBRISKA_TOKEN_OWNER = 9,
+    OBRISKA_TOKEN_PRIMARY_GROUP = 10,
+    OBRISKA_TOKEN_SCOPE = 11,
+    OBRISKA_TOKEN_INTEGRITY = 12,
+    OBRISKA_TOKEN_PRESENT = 13, /* the four privilege words */
+    OBRISKA_TOKEN_ENABLED = 14,
+    OBRISKA_TOKEN_DEFAULT = 15,
+    OBRISKA_TOKEN_USED = 16,
+    OBRISKA_TOKEN_GROUP_COUNT = 17,
+    OBRISKA_TOKEN_RESTRICTING_COUNT = 18,
+    OBRISKA_TOKEN_DACL_LENGTH = 19,
+    OBRISKA_TOKEN_GROUPS = 20,     /* the first of 64: SID in the low half, attributes in the high */
+    OBRISKA_TOKEN_RESTRICTING = 84 /* the first of 16 SIDs */
+};
+
+/* Words of `stations` before its first station. */
+enum obriska_next_word {
+    OBRISKA_NEXT_TOKEN = 0,
+    OBRISKA_NEXT_HANDLE = 1
+};
+
+/* Words of a station. */
+enum obriska_station_word {
+    OBRISKA_STATION_TOKEN = 0,   /* the number of its primary token */
+    OBRISKA_STATION_PENDING = 1, /* how many bytes of a request are pending */
+    OBRISKA_STATION_BROKEN = 2   /* 1: its stream is broken */
+};
+
 /* ---- records -------------------------------------------------------------------------------- */
 
-/* A handle: what lets a station use a token. A free slot has zero in all four fields. */
+/* A handle: what lets a station use a token. A free slot has zero in all its 16 bytes, which the
+ * four fields fill. */
 struct obriska_handle {
-    uint32_t station; /* whose it is, 0 to 7 */
+    uint16_t station; /* whose it is, 0 to 7 */
+    uint16_t mask;    /* the rights that it grants, OBRISKA_RIGHT_.. */
     uint32_t number;  /* from 1, given upward and never twice; 0: the slot is free */
     uint64_t token;   /* the number of its token */
-    uint32_t mask;    /* the rights that it grants, OBRISKA_RIGHT_.. */
 };
 
 /* What a feed returns. */
@@ -77,9 +128,13 @@ struct obriska_memory {
 #define OBRISKA_ASSERT_ _Static_assert
 #endif
 OBRISKA_ASSERT_(sizeof(size_t) == 8, "the library is for 64-bit hosts");
-OBRISKA_ASSERT_(sizeof(struct obriska_handle) == 24, "a handle has 24 bytes");
+OBRISKA_ASSERT_(sizeof(struct obriska_handle) == 16, "a handle has 16 bytes, no padding");
+OBRISKA_ASSERT_(offsetof(struct obriska_handle, station) == 0, "the station is at byte 0");
+OBRISKA_ASSERT_(offsetof(struct obriska_handle, mask) == 2, "the mask is at byte 2");
+OBRISKA_ASSERT_(offsetof(struct obriska_handle, number) == 4, "the number is at byte 4");
+OBRISKA_ASSERT_(offsetof(struct obriska_handle, token) == 8, "the token is at byte 8");
 OBRISKA_ASSERT_(sizeof(struct obriska_fed) == 24, "what a feed returns has 24 bytes");
-OBRISKA_ASSERT_(sizeof(struct obriska_memory) == 34272, "the memory has 34,272 bytes");
+OBRISKA_ASSERT_(sizeof(struct obriska_memory) == 34016, "the memory has 34,016 bytes, no padding");
 #undef OBRISKA_ASSERT_
 
 /* ---- refusals ------------------------------------------------------------------------------- */

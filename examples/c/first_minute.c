@@ -30,11 +30,14 @@ static const char *refusal_text(uint32_t refusal)
     }
 }
 
+/* Bytes of a long chunk that are written. */
+enum { SHOWN = 24 };
+
 static void print_bytes(const uint8_t *bytes, size_t len)
 {
-    for (size_t i = 0; i < len && i < 24; i++)
+    for (size_t i = 0; i < len && i < SHOWN; i++)
         printf(" %02X", (unsigned)bytes[i]);
-    if (len > 24)
+    if (len > SHOWN)
         printf(" .. (%zu bytes)", len);
 }
 
@@ -89,7 +92,7 @@ static void print_handle(const struct obriska_memory *memory, uint32_t station, 
     if (handle == NULL)
         printf("none\n");
     else
-        printf("token %" PRIu64 ", mask 0x%" PRIX32 "\n", handle->token, handle->mask);
+        printf("token %" PRIu64 ", mask 0x%" PRIX16 "\n", handle->token, handle->mask);
 }
 
 struct step {

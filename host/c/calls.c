@@ -32,6 +32,12 @@ static int unchanged(void) { return memcmp(&memory, &before, sizeof memory) == 0
 
 static const uint8_t open_own[] = {0x02, 0x01, 0x28};
 
+static const uint64_t *station_word(size_t station, enum obriska_station_word word)
+{
+    size_t row = OBRISKA_FIRST_STATION + station * OBRISKA_STATION_WORDS;
+    return &memory.stations[row + word];
+}
+
 static void start_asks_for_the_sizes_only(void)
 {
     struct obriska_memory *m = &memory;
@@ -47,12 +53,65 @@ static void start_asks_for_the_sizes_only(void)
         EXPECT(unchanged());
     }
     EXPECT(obriska_memory_start(m) == 0);
-    EXPECT(m->tokens[0] == 1 && m->tokens[2] == 999 && m->tokens[3] == 18);
-    EXPECT(m->tokens[13] == 0x1FFFFFFFFC && m->tokens[100] == 0 && m->tokens[1599] == 0);
-    EXPECT(m->stations[0] == 2 && m->stations[1] == 1 && m->stations[2] == 1);
-    EXPECT(m->stations[23] == 1 && m->stations[24] == 0 && m->stations[25] == 0);
-    EXPECT(m->handles[0].number == 0 && m->handles[31].mask == 0);
-    EXPECT(m->dacls[0] == 0 && m->pending[16399] == 0);
+    EXPECT(m->tokens[OBRISKA_TOKEN_NUMBER] == 1 && m->tokens[OBRISKA_TOKEN_SESSION] == 999);
+    EXPECT(m->tokens[OBRISKA_TOKEN_USER] == 18 && m->tokens[OBRISKA_TOKEN_PRESENT] == 0x1FFFFFFFFC);
+    EXPECT(m->tokens[OBRISKA_TOKEN_WORDS] == 0 && m->tokens[OBRISKA_TOKENS_LEN - 1] == 0);
+    EXPECT(m->stations[OBRISKA_NEXT_TOKEN] == 2 && m->stations[OBRISKA_NEXT_HANDLE] == 1);
+    for (size_t station = 0; station < OBRISKA_STATIONS; station++) {
+        EXPECT(*station_word(station, OBRISKA_STATION_TOKEN) == 1);
+        EXPECT(*station_word(station, OBRISKA_STATION_PENDING) == 0);
+        EXPECT(*station_word(station, OBRISKA_STATION_BROKEN) == 0);
+    }
+    EXPECT(m->handles[0].number == 0 && m->handles[OBRISKA_HANDLES - 1].mask == 0);
+    EXPECT(m->dacls[0] == 0 && m->pending[OBRISKA_PENDING_LEN - 1] == 0);
+}
+
+/* Leaves the pattern on the stack, where the next call's frames will stand. */
+__attribute__((noinline)) static void fill_stack(uint8_t pattern)
+{
+    volatile uint8_t frames[16384];
+    for (size_t i = 0; i < sizeof frames; i++)
+        frames[i] = pattern;
+}
+
+/* Opens and closes handles over memory and a stack of this pattern. */
+static void play_over(uint8_t pattern)
+{
+    static const uint8_t close_first[] = {0x02, 0x02, 0x01};
+    memset(&memory, pattern, sizeof memory);
+    fill_stack(pattern);
+    EXPECT(obriska_memory_start(&memory) == 0);
+    for (uint32_t station = 0; station < OBRISKA_STATIONS; station++) {
+        fill_stack(pattern);
+        EXPECT(is(feed(station, open_own, sizeof open_own), 0, 3, 3));
+    }
+    fill_stack(pattern);
+    EXPECT(is(feed(0, close_first, sizeof close_first), 0, 3, 2));
+}
+
+static void every_byte_is_the_same_whatever_was_there_before(void)
+{
+    static const uint8_t patterns[] = {0x55, 0x99, 0xAA, 0xFF};
+    play_over(0x00);
+    before = memory;
+    for (size_t i = 0; i < sizeof patterns; i++) {
+        play_over(patterns[i]);
+        EXPECT(unchanged());
+    }
+}
+
+static void a_free_handle_slot_is_zero_in_every_byte(void)
+{
+    struct obriska_handle *last = &memory.handles[OBRISKA_HANDLES - 1];
+    EXPECT(obriska_memory_start(&memory) == 0);
+    for (size_t i = 0; i < sizeof *last; i++) {
+        ((uint8_t *)last)[i] = 0x80;
+        before = memory;
+        EXPECT(is(feed(0, open_own, 3), OBRISKA_REFUSED_MEMORY, 0, 0));
+        EXPECT(unchanged());
+        ((uint8_t *)last)[i] = 0;
+        EXPECT(is(feed(0, open_own, 0), 0, 0, 0));
+    }
 }
 
 static void the_lowest_of_11_to_13_refuses_a_call_and_nothing_is_written(void)
@@ -60,12 +119,14 @@ static void the_lowest_of_11_to_13_refuses_a_call_and_nothing_is_written(void)
     memset(&memory, 0xAA, sizeof memory);
     memset(answer, 0x55, sizeof answer);
     before = memory;
-    EXPECT(is(obriska_memory_feed(&memory, 8, open_own, 3, answer, 1023), 11, 0, 0));
-    EXPECT(is(obriska_memory_feed(&memory, 7, open_own, 3, answer, 1023), 12, 0, 0));
-    EXPECT(is(obriska_memory_feed(&memory, 7, open_own, 3, answer, 1024), 13, 0, 0));
-    EXPECT(is(obriska_memory_feed(&memory, 7, open_own, 0, answer, 1024), 13, 0, 0));
-    EXPECT(obriska_memory_reconnect(&memory, 8) == 11);
-    EXPECT(obriska_memory_reconnect(&memory, 7) == 13);
+    const uint32_t last = OBRISKA_STATIONS - 1, none = OBRISKA_STATIONS;
+    const size_t enough = OBRISKA_ANSWER_LEN, less = OBRISKA_ANSWER_LEN - 1;
+    EXPECT(is(obriska_memory_feed(&memory, none, open_own, 3, answer, less), 11, 0, 0));
+    EXPECT(is(obriska_memory_feed(&memory, last, open_own, 3, answer, less), 12, 0, 0));
+    EXPECT(is(obriska_memory_feed(&memory, last, open_own, 3, answer, enough), 13, 0, 0));
+    EXPECT(is(obriska_memory_feed(&memory, last, open_own, 0, answer, enough), 13, 0, 0));
+    EXPECT(obriska_memory_reconnect(&memory, none) == 11);
+    EXPECT(obriska_memory_reconnect(&memory, last) == 13);
     EXPECT(unchanged());
     for (size_t i = 0; i < sizeof answer; i++)
         EXPECT(answer[i] == 0x55);
@@ -89,12 +150,13 @@ static void a_feed_ends_at_the_first_request(void)
 
 static void a_request_is_answered_at_its_last_byte(void)
 {
+    const uint8_t *pending = &memory.pending[3 * OBRISKA_PENDING_BYTES];
     EXPECT(obriska_memory_start(&memory) == 0);
     EXPECT(is(feed(3, open_own, 1), 0, 1, 0));
     EXPECT(is(feed(3, open_own + 1, 1), 0, 1, 0));
-    EXPECT(memory.pending[3 * 2050] == 0x02 && memory.stations[3 + 3 * 3] == 2);
+    EXPECT(*pending == 0x02 && *station_word(3, OBRISKA_STATION_PENDING) == 2);
     EXPECT(is(feed(3, open_own + 2, 1), 0, 1, 3));
-    EXPECT(memory.pending[3 * 2050] == 0x00 && memory.stations[3 + 3 * 3] == 0);
+    EXPECT(*pending == 0x00 && *station_word(3, OBRISKA_STATION_PENDING) == 0);
 }
 
 static void a_broken_stream_ignores_bytes_until_a_reconnect(void)
@@ -139,6 +201,8 @@ static void a_copy_goes_on_where_the_memory_was(void)
 int main(void)
 {
     start_asks_for_the_sizes_only();
+    every_byte_is_the_same_whatever_was_there_before();
+    a_free_handle_slot_is_zero_in_every_byte();
     the_lowest_of_11_to_13_refuses_a_call_and_nothing_is_written();
     a_feed_ends_at_the_first_request();
     a_request_is_answered_at_its_last_byte();

@@ -12,6 +12,7 @@ use Rattle.rules.specs.Basic.{all, implies, isEmpty}
 use Rattle.rules.specs.Number.{encode, encodeIn, lowFirst}
 use Rattle.rules.specs.Frame as Frame
 use Rattle.rules.specs.Frame.{frame, framed, framedBy, lengthOf}
+use Rattle.rules.specs.Refusal.{streamBroken}
 use Rattle.rules.specs.Station.{Station, startStation, withPending, cleared, brokenOff}
 use Rattle.rules.specs.State.{State, handleSlots, stationCount, withStations, stationAt, changeStation, stationToken}
 use Rattle.rules.specs.Valid.{isPart, streamValid, valid}
@@ -34,6 +35,7 @@ use Rattle.stream.specs.Meaning.{framedOf, Starts, stopOf, Joined}
 use Rattle.stream.specs.declared.Framed.the-variants as code
 use Rattle.stream.specs.declared.Stopped.{Stopped}
 use Rattle.stream.proofs.Feeding.{stopAt, stream-eaten, fed-part, fed-broken, fed-whole}
+use Rattle.request.specs.Answer.{WroteFrame}
 use Rattle.valid.specs.Meaning.{memoryOf}
 use Rattle.serve.specs.Served.{Held, BodyServed}
 use Rattle.serve.specs.declared.Reply.{Reply}
@@ -83,14 +85,15 @@ frame-served s start count used hs r w b e = record {
 
 -- ---- the stream breaks
 
-two-bytes : (out : List ℕ) → 1024 ≤ length out → set (set out 0 1) 1 10 ≡ 1 ∷ 10 ∷ drop 2 out
-two-bytes [] h = absurd (omega arith)
-two-bytes (x ∷ []) h = absurd (omega arith)
-two-bytes (x ∷ y ∷ out) h = refl
-
-pub broken-off : (s count used : ℕ) {ss row out ss′ row′ : List ℕ} → 1024 ≤ length out → row′ ≡ zeroed count row → StreamSet s 0 true ss ss′
-    → BrokenOff s count used ss row out ss′ row′ (set (set out 0 1) 1 10) (record { fed = record { refusal = 0; used = used; answered = 2 }; change = record { slot = handleSlots; handle = none } })
-broken-off s count used {out = out} h e w = record { turn = refl; stations = w; emptied = e; answer = two-bytes out h }
+pub broken-off : (s count used n : ℕ) {ss row out ss′ row′ out′ : List ℕ} → row′ ≡ zeroed count row → StreamSet s 0 true ss ss′ → WroteFrame (streamBroken ∷ []) out out′ n
+    → BrokenOff s count used ss row out ss′ row′ out′ (record { fed = record { refusal = 0; used = used; answered = n }; change = record { slot = handleSlots; handle = none } })
+unfolding frame encode encodeIn lowFirst
+broken-off s count used n e w a = record {
+  turn = ap (λ (k : ℕ). record { fed = record { refusal = 0; used = used; answered = k }; change = record { slot = handleSlots; handle = none } }) (a .size);
+  stations = w;
+  emptied = e;
+  answer = a .bytes;
+}
 
 -- ---- what a valid state gives
 

@@ -21,7 +21,7 @@ use Rattle.rules.specs.WholeList.{Return, doneBy, memoryAfter, returnsOn, retur
 use Rattle.rules.proofs.Logic.{and-l, and-r, and-i}
 use Rattle.rules.proofs.Tables.{on-if}
 use Rattle.rules.proofs.WholeList.{whole-list}
-use Rattle.broker.specs.Promise.{Does}
+use Rattle.broker.specs.Promise.{StartPromise}
 use Rattle.broker.specs.WholeRun.{FeedCall, ReconnectCall, Link, feed, reconnect, Chain, none, link, Ran, memories, RestStays, AllStay, answersIn, happened, eventsIn, states, WholeRun, CanRun}
 
 -- ---- one call: what it left and returned is what `Calls` says
@@ -29,24 +29,24 @@ use Rattle.broker.specs.WholeRun.{FeedCall, ReconnectCall, Link, feed, r
 returnOf : Done → Return
 returnOf d = record { refusal = d .refusal; used = d .used; answer = d .answer }
 
-record DoesAs (d : Done) (r : Return) (m′ : Memory) : Type 0 where
+record DoesAs (d : Done) (m′ : Memory) (r : Return) : Type 0 where
   pub memory : m′ ≡ d .memory
   pub returns : r ≡ returnOf d
 
-module _ {s : ℕ} {chunk : List ℕ} {room : ℕ} {m : Memory} {r : Return} {m′ : Memory} (f : FeedCall s chunk room m r m′) where
+module _ {m : Memory} {s : ℕ} {chunk : List ℕ} {room : ℕ} {m′ : Memory} {r : Return} (f : FeedCall m s chunk room m′ r) where
   fed-done : Done
   fed-done = feedOn m s chunk (length (f .out))
 
-  fed-same : DoesAs fed-done r m′
+  fed-same : DoesAs fed-done m′ r
   unfolding buffer fed-done returnOf
   fed-same =
       let p = f .promise in
       let said = ap₂ take (p .answered) (p .answer) ∙ take-append-seam (fed-done .answer) _ in
       record { memory = p .memory; returns = f .returned ∙ cc }
 
-  fed-as : DoesAs (feedOn m s chunk room) r m′
+  fed-as : DoesAs (feedOn m s chunk room) m′ r
   unfolding fed-done
-  fed-as = subst (λ (n : ℕ). DoesAs (feedOn m s chunk n) r m′) (f .size) fed-same
+  fed-as = subst (λ (n : ℕ). DoesAs (feedOn m s chunk n) m′ r) (f .size) fed-same
 
   fed-rest : drop (length (r .answer)) (f .out′) ≡ drop (length (r .answer)) (f .out)
   unfolding buffer fed-done returnOf
@@ -64,31 +64,31 @@ reconnect-quiet m s =
     on-if Quiet (leb stationCount s) _ _ (λ t. refl)
     (λ t. on-if Quiet (valid m) _ _ (λ v. on-if (λ (x : Result). Quiet (written x)) (leb stationCount s) _ _ (λ u. refl) (λ u. refl)) (λ v. refl))
 
-reconnected-as : (s : ℕ) (m : Memory) (r : Return) (m′ : Memory) → ReconnectCall s m r m′ → DoesAs (reconnectOn m s) r m′
+reconnected-as : (m : Memory) (s : ℕ) (m′ : Memory) (r : Return) → ReconnectCall m s m′ r → DoesAs (reconnectOn m s) m′ r
 unfolding Quiet
-reconnected-as s m r m′ f =
+reconnected-as m s m′ r f =
     record {
       memory = f .promise .memory;
       returns = f .returned ∙ ap (λ (k : ℕ). record { refusal = k; used = 0; answer = [] }) (f .promise .refusal) ∙ reconnect-quiet m s;
     }
 
-link-as : {c : Call} {m : Memory} {r : Return} {m′ : Memory} → Link c m r m′ → DoesAs (doneBy m c) r m′
+link-as : {m : Memory} {c : Call} {m′ : Memory} {r : Return} → Link m c m′ r → DoesAs (doneBy m c) m′ r
 unfolding doneBy
 link-as (feed f) = fed-as f
-link-as (reconnect {s} {m} {r} {m′} f) = reconnected-as s m r m′ f
+link-as (reconnect {m} {s} {m′} {r} f) = reconnected-as m s m′ r f
 
-link-rest : {c : Call} {m m′ : Memory} {r : Return} (l : Link c m r m′) → RestStays l
+link-rest : {m m′ : Memory} {c : Call} {r : Return} (l : Link m c m′ r) → RestStays l
 unfolding RestStays
 link-rest (feed f) = fed-rest f
 link-rest (reconnect f) = tt
 
 -- the contracts leave a call something to do
-can-link : (c : Call) (m : Memory) → Link c m (returnOf (doneBy m c)) (doneBy m c .memory)
+can-link : (m : Memory) (c : Call) → Link m c (doneBy m c .memory) (returnOf (doneBy m c))
 unfolding doneBy returnOf buffer Quiet
-can-link (feeds s chunk room) m =
+can-link m (feeds s chunk room) =
     let out : List ℕ = replicate room 0 in
     let d = feedOn m s chunk (length out) in
-    let made : FeedCall s chunk room m (returnOf d) (d .memory) = record {
+    let made : FeedCall m s chunk room (d .memory) (returnOf d) = record {
       out = out;
       out′ = buffer (d .answer) out;
       fed = record { refusal = d .refusal; used = d .used; answered = length (d .answer) };
@@ -96,40 +96,40 @@ can-link (feeds s chunk room) m =
       promise = record { refusal = refl; used = refl; answered = refl; memory = refl; answer = refl };
       returned = ap (λ (a : List ℕ). record { refusal = d .refusal; used = d .used; answer = a }) (sym (take-append-seam (d .answer) _));
     } in
-    feed (subst (λ (n : ℕ). FeedCall s chunk room m (returnOf (feedOn m s chunk n)) (feedOn m s chunk n .memory)) (length-replicate room 0) made)
-can-link (reconnects s) m = reconnect (record { refusal = reconnectOn m s .refusal; promise = record { refusal = refl; memory = refl }; returned = sym (reconnect-quiet m s) })
+    feed (subst (λ (n : ℕ). FeedCall m s chunk room (feedOn m s chunk n .memory) (returnOf (feedOn m s chunk n))) (length-replicate room 0) made)
+can-link m (reconnects s) = reconnect (record { refusal = reconnectOn m s .refusal; promise = record { refusal = refl; memory = refl }; returned = sym (reconnect-quiet m s) })
 
 -- ---- a chain, from any memory
 
-chain-memory : {cs : List Call} {rs : List Return} {m m′ : Memory} → Chain cs m rs m′ → m′ ≡ memoryAfter cs m
+chain-memory : {m m′ : Memory} {cs : List Call} {rs : List Return} → Chain m cs m′ rs → m′ ≡ memoryAfter cs m
 unfolding memoryAfter
 chain-memory none = refl
 chain-memory (link {cs = cs} l x) = chain-memory x ∙ ap (memoryAfter cs) (link-as l .memory)
 
-chain-returns : {cs : List Call} {rs : List Return} {m m′ : Memory} → Chain cs m rs m′ → rs ≡ returnsOn cs m
+chain-returns : {m m′ : Memory} {cs : List Call} {rs : List Return} → Chain m cs m′ rs → rs ≡ returnsOn cs m
 unfolding returnsOn returnOf
 chain-returns none = refl
 chain-returns (link {cs = cs} l x) =
     let d = link-as l in ap₂ (λ (q : Return) (qs : List Return). q ∷ qs) (d .returns) (chain-returns x ∙ ap (returnsOn cs) (d .memory))
 
-chain-rest : {cs : List Call} {rs : List Return} {m m′ : Memory} (x : Chain cs m rs m′) → AllStay x
+chain-rest : {m m′ : Memory} {cs : List Call} {rs : List Return} (x : Chain m cs m′ rs) → AllStay x
 unfolding AllStay
 chain-rest none = tt
 chain-rest (link l x) = (link-rest l, chain-rest x)
 
-can-chain : (cs : List Call) (m : Memory) → Chain cs m (returnsOn cs m) (memoryAfter cs m)
+can-chain : (m : Memory) (cs : List Call) → Chain m cs (memoryAfter cs m) (returnsOn cs m)
 unfolding returnsOn memoryAfter returnOf
-can-chain [] m = none
-can-chain (c ∷ cs) m = link (can-link c m) (can-chain cs (doneBy m c .memory))
+can-chain m [] = none
+can-chain m (c ∷ cs) = link (can-link m c) (can-chain (doneBy m c .memory) cs)
 
 -- m stands for σ now and after any calls
 Stands : State → Memory → Type 0
 Stands σ m = (cs : List Call) → all ofBytes cs ≡ true → memoryAfter cs m ≡ encode (after cs σ)
 
-chain-along : {cs : List Call} {rs : List Return} {m m′ : Memory} (σ : State) → all ofBytes cs ≡ true → Stands σ m → (x : Chain cs m rs m′) → memories x ≡ map encode (states cs σ)
+chain-along : {m m′ : Memory} {cs : List Call} {rs : List Return} (σ : State) → all ofBytes cs ≡ true → Stands σ m → (x : Chain m cs m′ rs) → memories x ≡ map encode (states cs σ)
 unfolding memories states Stands memoryAfter after all
 chain-along σ w h none = refl
-chain-along σ w h (link {c} {cs} {m₁ = m₁} l x) =
+chain-along σ w h (link {m₁ = m₁} {c = c} {cs = cs} l x) =
     let τ = returned σ c .after in
     let next : Stands τ m₁ = subst (Stands τ) (sym (link-as l .memory)) (λ ds v. h (c ∷ ds) (and-i (and-l (ofBytes c) (all ofBytes cs) w) v)) in
     ap₂ (λ (n : Memory) (ns : List Memory). n ∷ ns) (next [] refl) (chain-along τ (and-r (ofBytes c) (all ofBytes cs) w) next x)
@@ -137,7 +137,7 @@ chain-along σ w h (link {c} {cs} {m₁ = m₁} l x) =
 -- ---- from start
 
 -- a start that returned 0 left the start's memory
-begun-as : (m₀ m : Memory) → Does (startOn m₀) m 0 → m ≡ encode start
+begun-as : (m₀ m : Memory) → StartPromise m₀ m 0 → m ≡ encode start
 unfolding startOn refusedOn
 begun-as m₀ m d = from (sized m₀) (d .refusal) (d .memory)
   where
@@ -148,7 +148,7 @@ begun-as m₀ m d = from (sized m₀) (d .refusal) (d .memory)
     from true e h = h
     from false e h = absurd (omega (arith, e))
 
-can-begin : (m₀ : Memory) → sized m₀ ≡ true → Does (startOn m₀) (encode start) 0
+can-begin : (m₀ : Memory) → sized m₀ ≡ true → StartPromise m₀ (encode start) 0
 unfolding startOn
 can-begin m₀ h = rw h (record { refusal = refl; memory = refl })
 
@@ -178,7 +178,7 @@ unfolding eventsIn returnsOf events returnedBy
 events-as [] σ = refl
 events-as (c ∷ cs) σ = ap₂ _++_ (happened-as c σ) (events-as cs (returned σ c .after))
 
-module _ {cs : List Call} {rs : List Return} {m′ : Memory} (w : all ofBytes cs ≡ true) (x : Ran cs rs m′) where
+module _ {cs : List Call} {m′ : Memory} {rs : List Return} (w : all ofBytes cs ≡ true) (x : Ran cs m′ rs) where
   begun : x .begun ≡ encode start
   begun = begun-as (x .before) (x .begun) (x .started)
 
@@ -202,8 +202,8 @@ module _ {cs : List Call} {rs : List Return} {m′ : Memory} (w : all ofBytes cs
   run-along = chain-along start w (subst (Stands start) (sym begun) (λ ds v. whole-list ds v .memory)) (x .calls)
 
 -- every start that returned 0, and every list of calls after it; a chunk is of bytes
-pub whole-run : {cs : List Call} {rs : List Return} {m′ : Memory} → all ofBytes cs ≡ true → (x : Ran cs rs m′) → WholeRun x
-whole-run {cs} {rs} {m′} w x =
+pub whole-run : {cs : List Call} {m′ : Memory} {rs : List Return} → all ofBytes cs ≡ true → (x : Ran cs m′ rs) → WholeRun x
+whole-run {cs} {m′} {rs} w x =
     let whole = whole-list cs w in
     record {
       memory = run-memory w x;
@@ -225,5 +225,5 @@ can-run cs w before h =
       before = before;
       begun = encode start;
       started = can-begin before h;
-      calls = subst (Chain cs (encode start) (returnsOf cs start)) (whole .memory) (subst (λ rs. Chain cs (encode start) rs (memoryAfter cs (encode start))) (whole .returns) (can-chain cs (encode start)));
+      calls = subst (Chain (encode start) cs (encode (after cs start))) (whole .returns) (subst (λ (m : Memory). Chain (encode start) cs m (returnsOn cs (encode start))) (whole .memory) (can-chain (encode start) cs));
     }

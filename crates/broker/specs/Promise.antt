@@ -1,4 +1,4 @@
--- What a call did, as the rules' `Calls` say it: `d` is what they say of this call. Assumes nothing.
+-- What the three calls promise: each did what the rules' `Calls` say of it. Assumes nothing.
 use Prim.Native.Nat.{ℕ, _≤_}
 use mathlib.Core.Path.{_≡_}
 use mathlib.Core.List.{List, _++_}
@@ -14,6 +14,8 @@ use Rattle.broker.specs.declared.Fed.{Fed}
 use Rattle.broker.specs.declared.by_value.Turn.{Turn}
 use Rattle.broker.specs.declared.by_value.Started.{Started}
 
+-- ---- what a call did; `d` is what it had to do
+
 -- start and reconnect return the refusal
 pub record Does (d : Done) (after : Memory) (r : ℕ) : Type 0 where
   pub refusal : r ≡ d .refusal
@@ -27,6 +29,18 @@ pub record Feeds (d : Done) (after : Memory) (out out′ : List ℕ) (r : Fed) :
   pub memory : after ≡ d .memory
   pub answer : out′ ≡ buffer (d .answer) out
 
+-- ---- the contract of each call, which demand 3's links (`WholeRun`) cite too: memory before, arguments, memory after, result
+
+abbrev pub StartPromise : Memory → Memory → ℕ → Type 0
+StartPromise m m′ r = Does (startOn m) m′ r
+
+-- of a station's chunk; `out` is the answer buffer
+abbrev pub FeedPromise : Memory → ℕ → List ℕ → List ℕ → Memory → List ℕ → Fed → Type 0
+FeedPromise m s chunk out m′ out′ r = Feeds (feedOn m s chunk (length out)) m′ out out′ r
+
+abbrev pub ReconnectPromise : Memory → ℕ → Memory → ℕ → Type 0
+ReconnectPromise m s m′ r = Does (reconnectOn m s) m′ r
+
 -- ---- the same with the handle list by value: `count` is the lent list's length, `items` are its first 32 handles
 
 -- the first n handles become free slots
@@ -35,15 +49,15 @@ freed n hs = replicate n none ++ drop n hs
 
 pub record StartsWith (count : ℕ) (ts ds ss ps ts′ ds′ ss′ ps′ : List ℕ) (r : Started) : Type 0 where
   pub started : (hs : List Handle) → length hs ≡ count
-      → Does (startOn (memoryOf ts ds hs ss ps)) (memoryOf ts′ ds′ (freed (r .freed) hs) ss′ ps′) (r .refusal)
+      → StartPromise (memoryOf ts ds hs ss ps) (memoryOf ts′ ds′ (freed (r .freed) hs) ss′ ps′) (r .refusal)
   pub inside : r .freed ≤ count
 
 pub record FeedsWith (station : ℕ) (chunk : List ℕ) (count : ℕ) (items : List Handle) (ts ds ss ps out ts′ ds′ ss′ ps′ out′ : List ℕ) (r : Turn) : Type 0 where
   pub fed : (hs : List Handle) → length hs ≡ count → loaded hs ≡ items
-      → Feeds (feedOn (memoryOf ts ds hs ss ps) station chunk (length out)) (memoryOf ts′ ds′ (changed hs (r .change)) ss′ ps′) out out′ (r .fed)
+      → FeedPromise (memoryOf ts ds hs ss ps) station chunk out (memoryOf ts′ ds′ (changed hs (r .change)) ss′ ps′) out′ (r .fed)
   -- a handle of number 0 frees its slot
   pub clears : (hs : List Handle) → length hs ≡ count → loaded hs ≡ items → r .change .handle .number ≡ 0 → changed hs (r .change) ≡ set hs (r .change .slot) none
 
 pub record ReconnectsWith (station count : ℕ) (items : List Handle) (ts ds ss ps ss′ ps′ : List ℕ) (r : ℕ) : Type 0 where
   pub reconnected : (hs : List Handle) → length hs ≡ count → loaded hs ≡ items
-      → Does (reconnectOn (memoryOf ts ds hs ss ps) station) (memoryOf ts ds hs ss′ ps′) r
+      → ReconnectPromise (memoryOf ts ds hs ss ps) station (memoryOf ts ds hs ss′ ps′) r

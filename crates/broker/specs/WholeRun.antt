@@ -13,56 +13,55 @@ use Rattle.rules.specs.Memory.{Memory, sized, encode}
 use Rattle.rules.specs.Run as Run
 use Rattle.rules.specs.Run.{Call, feeds, reconnects, ofBytes, noted, Event, byte, reconnected}
 use Rattle.rules.specs.Growth.{Mem}
-use Rattle.rules.specs.Calls.{startOn, feedOn, reconnectOn}
 use Rattle.rules.specs.WholeList.{Return, returnsOf}
 use Rattle.rules.specs.Throughout.{Throughout}
 use Rattle.broker.specs.declared.Fed.{Fed}
-use Rattle.broker.specs.Promise.{Does, Feeds}
+use Rattle.broker.specs.Promise.{StartPromise, FeedPromise, ReconnectPromise}
 
 -- ---- one call, from the memory m to m′, with what it returned: the contract of obriska_feed or obriska_reconnect
 
-pub record FeedCall (s : ℕ) (chunk : List ℕ) (room : ℕ) (m : Memory) (r : Return) (m′ : Memory) : Type 0 where
+pub record FeedCall (m : Memory) (s : ℕ) (chunk : List ℕ) (room : ℕ) (m′ : Memory) (r : Return) : Type 0 where
   -- the answer buffer before and after
   pub out : List ℕ
   pub out′ : List ℕ
   pub fed : Fed
   pub size : length out ≡ room
-  pub promise : Feeds (feedOn m s chunk (length out)) m′ out out′ fed
+  pub promise : FeedPromise m s chunk out m′ out′ fed
   pub returned : r ≡ record { refusal = fed .refusal; used = fed .used; answer = take (fed .answered) out′ }
 
-pub record ReconnectCall (s : ℕ) (m : Memory) (r : Return) (m′ : Memory) : Type 0 where
+pub record ReconnectCall (m : Memory) (s : ℕ) (m′ : Memory) (r : Return) : Type 0 where
   pub refusal : ℕ
-  pub promise : Does (reconnectOn m s) m′ refusal
+  pub promise : ReconnectPromise m s m′ refusal
   pub returned : r ≡ record { refusal = refusal; used = 0; answer = [] }
 
-pub data Link : Call → Memory → Return → Memory → Type 0 where
-  feed : {s : ℕ} {chunk : List ℕ} {room : ℕ} {m : Memory} {r : Return} {m′ : Memory} → FeedCall s chunk room m r m′ → Link (feeds s chunk room) m r m′
-  reconnect : {s : ℕ} {m : Memory} {r : Return} {m′ : Memory} → ReconnectCall s m r m′ → Link (reconnects s) m r m′
+pub data Link : Memory → Call → Memory → Return → Type 0 where
+  feed : {m : Memory} {s : ℕ} {chunk : List ℕ} {room : ℕ} {m′ : Memory} {r : Return} → FeedCall m s chunk room m′ r → Link m (feeds s chunk room) m′ r
+  reconnect : {m : Memory} {s : ℕ} {m′ : Memory} {r : Return} → ReconnectCall m s m′ r → Link m (reconnects s) m′ r
 
 -- ---- calls one after the other
 
-pub data Chain : List Call → Memory → List Return → Memory → Type 0 where
-  none : {m : Memory} → Chain [] m [] m
-  link : {c : Call} {cs : List Call} {r : Return} {rs : List Return} {m m₁ m′ : Memory} → Link c m r m₁ → Chain cs m₁ rs m′ → Chain (c ∷ cs) m (r ∷ rs) m′
+pub data Chain : Memory → List Call → Memory → List Return → Type 0 where
+  none : {m : Memory} → Chain m [] m []
+  link : {m m₁ m′ : Memory} {c : Call} {cs : List Call} {r : Return} {rs : List Return} → Link m c m₁ r → Chain m₁ cs m′ rs → Chain m (c ∷ cs) m′ (r ∷ rs)
 
 -- a start that returned 0 (the contract of obriska_start), then the calls
-pub record Ran (cs : List Call) (rs : List Return) (m′ : Memory) : Type 0 where
+pub record Ran (cs : List Call) (m′ : Memory) (rs : List Return) : Type 0 where
   pub before : Memory
   pub begun : Memory
-  pub started : Does (startOn before) begun 0
-  pub calls : Chain cs begun rs m′
+  pub started : StartPromise before begun 0
+  pub calls : Chain begun cs m′ rs
 
 -- the memory after each call
-unfoldable pub memories : {cs : List Call} {rs : List Return} {m m′ : Memory} → Chain cs m rs m′ → List Memory
+unfoldable pub memories : {m m′ : Memory} {cs : List Call} {rs : List Return} → Chain m cs m′ rs → List Memory
 memories none = []
 memories (link {m₁ = m₁} l x) = m₁ ∷ memories x
 
 -- the bytes after a feed's answer are those that were there
-unfoldable pub RestStays : {c : Call} {m m′ : Memory} {r : Return} → Link c m r m′ → Type 0
+unfoldable pub RestStays : {m m′ : Memory} {c : Call} {r : Return} → Link m c m′ r → Type 0
 RestStays (feed {r = r} f) = drop (length (r .answer)) (f .out′) ≡ drop (length (r .answer)) (f .out)
 RestStays (reconnect f) = Unit {0}
 
-unfoldable pub AllStay : {cs : List Call} {rs : List Return} {m m′ : Memory} → Chain cs m rs m′ → Type 0
+unfoldable pub AllStay : {m m′ : Memory} {cs : List Call} {rs : List Return} → Chain m cs m′ rs → Type 0
 AllStay none = Unit {0}
 AllStay (link l x) = RestStays l × AllStay x
 
@@ -89,11 +88,11 @@ states (c ∷ cs) σ = let τ = Run.returned σ c .after in τ ∷ states cs τ
 -- ---- the claim
 
 -- two runs with the same answers and the same end
-pub record SameRun (rs qs : List Return) (m′ n′ : Memory) : Type 0 where
+pub record SameRun (m′ n′ : Memory) (rs qs : List Return) : Type 0 where
   pub answers : answersIn rs ≡ answersIn qs
   pub memory : m′ ≡ n′
 
-pub record WholeRun {cs : List Call} {rs : List Return} {m′ : Memory} (x : Ran cs rs m′) : Type 0 where
+pub record WholeRun {cs : List Call} {m′ : Memory} {rs : List Return} (x : Ran cs m′ rs) : Type 0 where
   -- 'after the list the memory holds what the plain desk holds', and so after each call of it
   pub memory : m′ ≡ encode (Run.after cs start)
   pub along : memories (x .calls) ≡ map encode (states cs start)
@@ -104,10 +103,10 @@ pub record WholeRun {cs : List Call} {rs : List Return} {m′ : Memory} (x : Ran
   -- '13 never comes'
   pub never13 : (r : Return) → Mem r rs → r .refusal ≡ invalidMemory → ⊥
   -- 'two lists alike in the order of reconnects and used bytes, with their stations, give the same answers and the same memory'
-  pub alike : {ds : List Call} {qs : List Return} {n′ : Memory} → all ofBytes ds ≡ true → Ran ds qs n′ → eventsIn ds qs ≡ eventsIn cs rs → SameRun qs rs n′ m′
+  pub alike : {ds : List Call} {n′ : Memory} {qs : List Return} → all ofBytes ds ≡ true → Ran ds n′ qs → eventsIn ds qs ≡ eventsIn cs rs → SameRun n′ m′ qs rs
   -- the order of serving, cutting, growth, and that answers fit
   pub throughout : Throughout cs
 
 -- the contracts leave each list a run, from any memory of the right sizes: the claim is of something
 unfoldable pub CanRun : List Call → Type 0
-CanRun cs = (before : Memory) → sized before ≡ true → Ran cs (returnsOf cs start) (encode (Run.after cs start))
+CanRun cs = (before : Memory) → sized before ≡ true → Ran cs (encode (Run.after cs start)) (returnsOf cs start)

@@ -20,12 +20,14 @@ use crate::station;
 use handle::HANDLE_WORDS;
 use handle::NONE;
 use handle::SLOTS;
+use request::answer;
+use request::answer::Answer;
 use state::handles::Change;
 use stream::Framed;
 use valid::layout::PENDING_BYTES;
 
 // The answer to a break, with document 01's number.
-const STREAM_BROKEN: u8 = 10;
+const STREAM_BROKEN: u64 = 10;
 
 // No answer, and no handle changes: the slot is past the end of the lent list.
 pub fn unanswered(refusal: u32, used: usize, slots: usize) -> Turn
@@ -58,22 +60,23 @@ fn break_off(
     station: u32,
     count: usize,
     used: usize,
+    tokens: &[u64],
+    dacls: &[u8],
     stations: &mut [u64],
     row: &mut [u8],
     out: &mut [u8],
 ) -> Turn
-    requires { ⌜ (station < stationCount) × (length (now stations) ≡ stationsSize) × (count ≤ length (now row)) × (maxAnswer ≤ length (now out)) ⌝ }
+    requires { ⌜ Lent (now tokens) (now dacls) (now stations) × (station < stationCount) × (count ≤ length (now row)) × (maxAnswer ≤ length (now out)) ⌝ }
     ensures { λ r. ⌜ BrokenOff station count used (now (stations .entry)) (now (row .entry)) (now (out .entry)) (now (stations .exit)) (now (row .exit)) (now (out .exit)) r ⌝ }
 {
     stream::clear(row, count);
     station::set_stream(station, 0, true, stations);
-    out[0] = 1;
-    out[1] = STREAM_BROKEN;
+    let written = answer::write(Answer::Refused(STREAM_BROKEN), tokens, dacls, out);
     Turn {
         fed: Fed {
             refusal: 0,
             used: used,
-            answered: 2,
+            answered: written,
         },
         change: Change {
             slot: SLOTS,
@@ -144,7 +147,7 @@ fn accept_row(
     let what = stop.what;
     match what {
         Framed::Part => keep(station, count, used, stations),
-        Framed::Broken => break_off(station, count, used, stations, row, out),
+        Framed::Broken => break_off(station, count, used, tokens, dacls, stations, row, out),
         Framed::Whole { start } => serve_frame(
             station,
             start,

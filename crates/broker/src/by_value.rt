@@ -20,7 +20,7 @@ const SHORT_BUFFER: u32 = 12;
 const INVALID_MEMORY: u32 = 13;
 
 // No answer is longer.
-const MAX_ANSWER: usize = 1024;
+pub const MAX_ANSWER: usize = 1024;
 
 // The refusal, and how many handles become free slots: 32, or none.
 pub struct Started {

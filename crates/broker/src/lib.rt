@@ -1,13 +1,11 @@
 // The broker: start, feed and reconnect over the memory that a host lends. No call asks anything of its input.
 ghost use mathlib.Core.Path.{_≡_};
-ghost use lib.ListN.{length};
 ghost use Rattle.rules.specs.Index.{foundIndex};
 ghost use Rattle.rules.specs.Handle.{isHandle};
 ghost use Rattle.handle.specs.Meaning.{slotsOf};
 ghost use Rattle.handle.specs.Loaded.{loaded};
-ghost use Rattle.rules.specs.Calls.{startOn, feedOn, reconnectOn};
 ghost use Rattle.valid.specs.Meaning.{memoryOf};
-ghost use Rattle.broker.specs.Promise.{Does, Feeds};
+ghost use Rattle.broker.specs.Promise.{StartPromise, FeedPromise, ReconnectPromise};
 use handle::Handle;
 use handle::list;
 
@@ -34,7 +32,7 @@ pub extern "C" fn obriska_start(
     stations: &mut [u64],
     pending: &mut [u8],
 ) -> u32
-    ensures { λ r. ⌜ Does (startOn (memoryOf (now (tokens .entry)) (now (dacls .entry)) (now (handles .entry)) (now (stations .entry)) (now (pending .entry)))) (memoryOf (now (tokens .exit)) (now (dacls .exit)) (now (handles .exit)) (now (stations .exit)) (now (pending .exit))) r ⌝ }
+    ensures { λ r. ⌜ StartPromise (memoryOf (now (tokens .entry)) (now (dacls .entry)) (now (handles .entry)) (now (stations .entry)) (now (pending .entry))) (memoryOf (now (tokens .exit)) (now (dacls .exit)) (now (handles .exit)) (now (stations .exit)) (now (pending .exit))) r ⌝ }
 {
     let s = by_value::start(tokens, dacls, handles.len(), stations, pending);
     list::clear_first(handles, s.freed);
@@ -53,7 +51,7 @@ pub extern "C" fn obriska_feed(
     stations: &mut [u64],
     pending: &mut [u8],
 ) -> Fed
-    ensures { λ r. ⌜ Feeds (feedOn (memoryOf (now (tokens .entry)) (now (dacls .entry)) (now (handles .entry)) (now (stations .entry)) (now (pending .entry))) station (now (chunk .entry)) (length (now (answer .entry)))) (memoryOf (now (tokens .exit)) (now (dacls .exit)) (now (handles .exit)) (now (stations .exit)) (now (pending .exit))) (now (answer .entry)) (now (answer .exit)) r ⌝ }
+    ensures { λ r. ⌜ FeedPromise (memoryOf (now (tokens .entry)) (now (dacls .entry)) (now (handles .entry)) (now (stations .entry)) (now (pending .entry))) station (now (chunk .entry)) (now (answer .entry)) (memoryOf (now (tokens .exit)) (now (dacls .exit)) (now (handles .exit)) (now (stations .exit)) (now (pending .exit))) (now (answer .exit)) r ⌝ }
 {
     let count = handles.len();
     let held = list::load(handles);
@@ -86,7 +84,7 @@ pub extern "C" fn obriska_reconnect(
     stations: &mut [u64],
     pending: &mut [u8],
 ) -> u32
-    ensures { λ r. ⌜ Does (reconnectOn (memoryOf (now (tokens .entry)) (now (dacls .entry)) (now (handles .entry)) (now (stations .entry)) (now (pending .entry))) station) (memoryOf (now (tokens .entry)) (now (dacls .entry)) (now (handles .entry)) (now (stations .exit)) (now (pending .exit))) r ⌝ }
+    ensures { λ r. ⌜ ReconnectPromise (memoryOf (now (tokens .entry)) (now (dacls .entry)) (now (handles .entry)) (now (stations .entry)) (now (pending .entry))) station (memoryOf (now (tokens .entry)) (now (dacls .entry)) (now (handles .entry)) (now (stations .exit)) (now (pending .exit))) r ⌝ }
 {
     let held = list::load(handles);
     by_value::reconnect(

@@ -1,5 +1,6 @@
 -- The handle record and the list by value in a walk: their types, machine values and relations; the types of lent slices. Assumes nothing.
 use mathlib.Core.Path.{refl}
+use Prim.Native.Nat.{ℕ}
 use lib.Dec.{lit<}
 use mir.Syntax.{Ty, Lifetime, imm, mut, w64, tyInt, tyRef}
 use mir.Val.{Val}
@@ -18,6 +19,10 @@ use Rattle.handle.proofs.Handles.Laws as S′
 
 abbrev pub R : RattleType
 R = T.the-row
+
+-- a record's bytes
+abbrev pub slotBytes : ℕ
+slotBytes = 16
 
 abbrev pub word : Ty
 word = tyInt w64

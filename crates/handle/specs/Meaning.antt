@@ -17,7 +17,7 @@ slotsOf hs = map handleAt (map handleOf hs)
 
 -- the all-zero handle, which a free slot holds
 abbrev pub none : Handle
-none = record { station = 0; number = 0; token = 0; mask = 0 }
+none = record { station = 0; mask = 0; number = 0; token = 0 }
 
 -- ---- tests of one slot, as the code makes them
 

@@ -1,17 +1,23 @@
--- The handle list inside a call: three words a slot. Assumes nothing.
+-- The handle list inside a call: two words a slot. Assumes nothing.
 use mathlib.Core.List.{List, [], _∷_}
-use Prim.Native.Nat.{ℕ, zero, suc, _/_, _%_}
+use Prim.Native.Nat.{ℕ, zero, suc, _+_, _*_, _/_, _%_}
 use lib.ListN.{getD, drop}
 use Rattle.rules.specs.State.{handleSlots}
 use Rattle.rules.specs.Memory.{word32}
 use Rattle.handle.specs.declared.Handle.{Handle}
 
 abbrev pub slotWords : ℕ
-slotWords = 3
+slotWords = 2
 
--- station + number · 2^32, the token, the mask
+abbrev pub word16 : ℕ
+word16 = 0x10000
+
+abbrev pub firstWord : Handle → ℕ
+firstWord h = h .station + h .mask * word16 + h .number * word32
+
+-- the first word, the token
 abbrev pub recordIn : List ℕ → Handle
-recordIn ws = record { station = getD ws 0 0 % word32; number = getD ws 0 0 / word32; token = getD ws 1 0; mask = getD ws 2 0 % word32 }
+recordIn ws = record { station = getD ws 0 0 % word16; mask = getD ws 0 0 / word16 % word16; number = getD ws 0 0 / word32; token = getD ws 1 0 }
 
 -- of n slots
 unfoldable pub recordsFrom : ℕ → List ℕ → List Handle

@@ -10,33 +10,36 @@ ghost use Rattle.rules.specs.Handle.{isHandle};
 ghost use Rattle.rules.specs.State.{handleToken, handleSlots};
 ghost use Rattle.rules.specs.Memory.{word32};
 ghost use Rattle.handle.specs.Meaning.{slotsOf, none, isFree, isNamed, refersTo};
-ghost use Rattle.handle.specs.Words.{slotWords, recordsIn};
+ghost use Rattle.handle.specs.Words.{word16, slotWords, firstWord, recordsIn};
 
 pub mod list;
 
 pub const SLOTS: usize = 32;
 
-// A slot's words: station + number * 2^32, the token, the mask.
-const SLOT_WORDS: usize = 3;
+// A slot's words: station + mask * 2^16 + number * 2^32, the token.
+const SLOT_WORDS: usize = 2;
 
 pub const HANDLE_WORDS: usize = SLOTS * SLOT_WORDS;
 
+const WORD_16: u64 = 65536;
+
 const WORD_32: u64 = 4294967296;
 
+// 16 bytes, none of them padding.
 #[repr(C)]
 pub struct Handle {
-    pub station: u32,
+    pub station: u16,
+    pub mask: u16,
     pub number: u32,
     pub token: u64,
-    pub mask: u32,
 }
 
 // What a free slot holds.
 pub const NONE: Handle = Handle {
     station: 0,
+    mask: 0,
     number: 0,
     token: 0,
-    mask: 0,
 };
 
 // A slot whose number is 0 is free.
@@ -55,7 +58,7 @@ fn is_free(h: Handle) -> bool
 fn is_named(h: Handle, station: u32, number: u32) -> bool
     ensures { λ r. ⌜ r ≡ isNamed station number h ⌝ }
 {
-    (h.number != 0) & ((h.number == number) & (h.station == station))
+    (h.number != 0) & ((h.number == number) & (h.station as u32 == station))
 }
 
 fn refers_to(h: Handle, token: u64) -> bool
@@ -64,10 +67,10 @@ fn refers_to(h: Handle, token: u64) -> bool
     (h.number != 0) & (token == h.token)
 }
 
-fn low_half(w: u64) -> u32
-    ensures { λ r. ⌜ r ≡ w % word32 ⌝ }
+fn low_quarter(w: u64) -> u16
+    ensures { λ r. ⌜ r ≡ w % word16 ⌝ }
 {
-    (w % WORD_32) as u32
+    (w % WORD_16) as u16
 }
 
 fn high_half(w: u64) -> u32
@@ -85,11 +88,18 @@ pub fn at(words: &[u64; HANDLE_WORDS], slot: usize) -> Handle
     }
     let from = slot * SLOT_WORDS;
     Handle {
-        station: low_half(words[from]),
+        station: low_quarter(words[from]),
+        mask: low_quarter(words[from] / WORD_16),
         number: high_half(words[from]),
         token: words[from + 1],
-        mask: low_half(words[from + 2]),
     }
+}
+
+// The word in front of the token.
+fn first_word(h: Handle) -> u64
+    ensures { λ r. ⌜ r ≡ firstWord h ⌝ }
+{
+    h.station as u64 + h.mask as u64 * WORD_16 + h.number as u64 * WORD_32
 }
 
 // A handle into a slot.
@@ -98,9 +108,8 @@ pub fn put(words: &mut [u64], slot: usize, h: Handle)
     ensures { λ _. ⌜ recordsIn (now (words .exit)) ≡ set (recordsIn (now (words .entry))) slot h ⌝ }
 {
     let from = slot * SLOT_WORDS;
-    words[from] = h.station as u64 + h.number as u64 * WORD_32;
+    words[from] = first_word(h);
     words[from + 1] = h.token;
-    words[from + 2] = h.mask as u64;
 }
 
 // ---- the list

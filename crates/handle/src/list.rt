@@ -1,51 +1,49 @@
 // The handle list as a host lends it, a slice of records. Each function over it is thin: it crosses to the words, or stores records.
 ghost use mathlib.Core.Path.{_≡_};
 ghost use mathlib.Core.List.{_++_};
-ghost use Prim.Native.Nat.{_≤_};
+ghost use Prim.Native.Nat.{_*_, _≤_};
 ghost use lib.ListN.{length, set, replicate, drop};
 ghost use Rattle.rules.specs.Index.{foundIndex};
 ghost use Rattle.rules.specs.Handle.{isHandle};
 ghost use Rattle.rules.specs.State.{handleSlots};
 ghost use Rattle.handle.specs.Meaning.{slotsOf, none};
-ghost use Rattle.handle.specs.Words.{recordsIn};
+ghost use Rattle.handle.specs.Words.{slotWords, recordsIn};
 ghost use Rattle.handle.specs.Loaded.{loaded};
 use crate::HANDLE_WORDS;
 use crate::Handle;
 use crate::Handles;
 use crate::NONE;
+use crate::SLOT_WORDS;
 use crate::SLOTS;
 
-// All slots free.
-fn no_items() -> [Handle; SLOTS]
-    ensures { λ r. ⌜ r ≡ replicate handleSlots none ⌝ }
+fn no_words() -> [u64; HANDLE_WORDS]
+    ensures { λ r. ⌜ r ≡ replicate (handleSlots * slotWords) 0 ⌝ }
 {
-    [NONE; SLOTS]
+    [0; HANDLE_WORDS]
 }
 
-// The records as words.
-fn of_items(items: [Handle; SLOTS]) -> Handles
-    ensures { λ r. ⌜ recordsIn (r .words) ≡ items ⌝ }
+fn of_words(words: [u64; HANDLE_WORDS]) -> Handles
+    ensures { λ r. ⌜ r .words ≡ words ⌝ }
 {
-    let mut words = [0u64; HANDLE_WORDS];
-    let mut i: usize = 0;
-    while i < SLOTS {
-        crate::put(&mut words, i, items[i]);
-        i += 1;
-    }
     Handles { words: words }
 }
 
-// The first 32 records; free slots where the list is shorter.
+// The first 32 records as words; free slots where the list is shorter.
 pub fn load(list: &[Handle]) -> Handles
     ensures { λ r. ⌜ recordsIn (r .words) ≡ loaded (now (list .entry)) ⌝ }
 {
-    let mut items = no_items();
-    let mut i: usize = 0;
-    while (i < SLOTS) & (i < list.len()) {
-        items[i] = list[i];
-        i = i + 1;
+    let mut words = no_words();
+    let mut slot: usize = 0;
+    while (slot < SLOTS) & (slot < list.len()) {
+        let h = list[slot];
+        let from = slot * SLOT_WORDS;
+        let first = crate::first_word(h);
+        words[from] = first;
+        let then = from + 1;
+        words[then] = h.token;
+        slot = slot + 1;
     }
-    of_items(items)
+    of_words(words)
 }
 
 // The list with h in a slot; unchanged for a slot past the end.

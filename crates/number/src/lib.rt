@@ -1,7 +1,7 @@
 // Numbers on the line: seven bits a byte, low bits first, the top bit set where more follow; the shortest form only.
 ghost use mathlib.Core.Path.{_≡_};
 ghost use Prim.Native.Nat.{_≤_, _<_, min};
-ghost use lib.ListN.{length};
+ghost use lib.ListN.{length, getD};
 ghost use Rattle.rules.specs.Number.{encode};
 ghost use Rattle.number.specs.Over.{over};
 ghost use Rattle.number.specs.Meaning.{NumberAt, Passed};
@@ -14,6 +14,7 @@ pub use cursor::Cursor;
 pub use cursor::Field;
 pub use frame::answer;
 pub use frame::sizes;
+pub use reader::bytes_at;
 pub use reader::number_at;
 
 // The largest values of the fields' widths.
@@ -96,6 +97,14 @@ fn read(s: &[u8], at: usize, limit: u64) -> Number
             Number::Value { value, next }
         }
     }
+}
+
+// The plain byte at a place.
+fn byte(s: &[u8], at: usize) -> u8
+    requires { ⌜ at < length (now s) ⌝ }
+    ensures { λ r. ⌜ r ≡ getD (now (s .entry)) at 0 ⌝ }
+{
+    s[at]
 }
 
 // The place after count numbers of a limit.

@@ -3,25 +3,25 @@ use Prim.Native.Nat.{ℕ, _+_, _-_, _*_, _^_, _≤_, _<_}
 use native.Mathlib.Omega.{arith}
 use mathlib.Core.Path.{_≡_, refl, sym, ap, subst, _∙_}
 use mathlib.Core.Logic.{⊎-elim}
-use mathlib.Core.Bool.{false, not}
+use mathlib.Core.Bool.{true, false, not}
 use mathlib.Core.List.{List}
 use lib.ListN.{length, take, drop, length-take, length-drop}
 use lib.Dec.{ltb}
 use lib.Seq.{take-take, take-at, length-take-le}
 use borrow.Author.Tests.{ltb-true, not-false}
 use borrow.Rule.Slice.PartMut.{putMid, take-put}
-use Rattle.rules.specs.Memory.{Memory}
+use Rattle.rules.specs.Memory.{Memory, valid}
 use Rattle.rules.proofs.Numbers.{below-or}
 use Rattle.handle.specs.declared.Handles.{Handles}
 use Rattle.valid.proofs.TokenRow.{drop-take}
 use Rattle.session.specs.Program as program
-use Rattle.session.specs.Program.{maxChunk}
+use Rattle.session.specs.Program.{maxChunk, budget}
 use Rattle.session.specs.Input.{nextOf, Says, Kept, Bounds, maxWaiting}
 use Rattle.session.specs.declared.input.Next.{Next}
 use Rattle.session.specs.declared.input.Next.the-variants as next
 use Rattle.obriska.specs.declared.Served.{Served}
 use Rattle.obriska.specs.declared.Advanced.{Advanced}
-use Rattle.obriska.specs.Serving.{bufferBytes, Ready, held, Room, Refilled, Serves, Follows, Advances}
+use Rattle.obriska.specs.Serving.{bufferBytes, Ready, held, Room, Refilled, Serves, Follows, Advances, Ends}
 
 -- ---- refill
 
@@ -135,14 +135,22 @@ module _ (from end : ℕ) (b : List ℕ) (x : Next) (f : Says (take end b) from 
 
 -- ---- run
 
-module _ (from end : ℕ) (b b′ : List ℕ) (m m′ : Memory) (room : ℕ) (r : Advanced) (f : Advances from end b b′ m m′ room r) (left : ℕ) where
-  -- each turn but the last takes a chunk, or leaves more bytes held
-  pub falls : not (r .going) ≡ false → 0 < left → from ≤ end → end ≤ length b → length b ≡ bufferBytes → length b′ ≡ length b
-      → (left - r .chunks) * (bufferBytes + 1) + (bufferBytes - (r .end - r .from)) < left * (bufferBytes + 1) + (bufferBytes - (end - from))
-  falls g h order fits long same = ⊎-elim
-      (λ z. let e : r .chunks ≡ 0 = omega arith in omega (arith, f .more (not-false (r .going) g) e, f .inside))
-      (λ z. omega (arith, f .count, f .inside, f .order))
-      (below-or (r .chunks) 1)
+module _ (from end : ℕ) (b b′ : List ℕ) (m m′ : Memory) (room : ℕ) (r : Advanced) (f : Advances from end b b′ m m′ room r) where
+  module _ (chunks : ℕ) (below : chunks < budget) where
+    -- each turn but the last takes a chunk, or leaves more bytes held
+    pub falls : not (r .going) ≡ false → from ≤ end → end ≤ length b → length b ≡ bufferBytes → length b′ ≡ length b
+        → (budget - (chunks + r .chunks)) * (bufferBytes + 1) + (bufferBytes - (r .end - r .from)) < (budget - chunks) * (bufferBytes + 1) + (bufferBytes - (end - from))
+    falls g order fits long same = ⊎-elim
+        (λ z. let e : r .chunks ≡ 0 = omega arith in omega (arith, f .more (not-false (r .going) g) e, f .inside))
+        (λ z. omega (arith, f .count, f .inside, f .order))
+        (below-or (r .chunks) 1)
+
+    pub stops : valid m ≡ true → Ends m′ (record { stopped = true; chunks = chunks + r .chunks; handles = r .handles })
+    stops v = record { most = omega (arith, f .count); all = λ t. let z : _≡_ {A = ℕ} 0 1 = cc in absurd (omega arith); memory = f .stays v }
 
   pub stays-ready : (a a′ : List ℕ) → Ready b a m → length b′ ≡ length b → length a′ ≡ length a → Ready b′ a′ m′
   stays-ready a a′ k e h = record { input = e ∙ k .input; output = omega (arith, k .output); memory = f .stays (k .memory) }
+
+-- the loop is left once the budget is used up
+pub used-up : (m : Memory) (chunks : ℕ) (hs : Handles) → chunks ≤ budget → budget ≤ chunks → valid m ≡ true → Ends m (record { stopped = false; chunks = chunks; handles = hs })
+used-up m chunks hs h l v = record { most = h; all = λ t. omega arith; memory = v }

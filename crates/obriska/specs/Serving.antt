@@ -6,9 +6,10 @@ use mathlib.Core.List.{List}
 use lib.ListN.{length, take, drop}
 use Rattle.rules.specs.Frame.{maxAnswer}
 use Rattle.rules.specs.Memory.{Memory, decode, valid}
-use Rattle.session.specs.Program.{Next, chunk, more, stop, next, fed}
+use Rattle.session.specs.Program.{Next, chunk, more, stop, budget, next, fed}
 use Rattle.obriska.specs.declared.Step.{Step}
 use Rattle.obriska.specs.declared.Advanced.{Advanced}
+use Rattle.obriska.specs.declared.Ended.{Ended}
 
 -- the size of the input's buffer
 abbrev pub bufferBytes : ℕ
@@ -66,3 +67,9 @@ pub record Advances (from end : ℕ) (before after : List ℕ) (m m′ : Memory)
   pub count : r .chunks ≤ 1
   pub more : r .going ≡ true → r .chunks ≡ 0 → end - from < r .end - r .from
   pub stays : valid m ≡ true → valid m′ ≡ true
+
+-- the whole run: it takes no more chunks than the budget, and that many where it did not stop before; memory is valid at its end
+pub record Ends (m : Memory) (r : Ended) : Type 0 where
+  pub most : r .chunks ≤ budget
+  pub all : r .stopped ≡ false → r .chunks ≡ budget
+  pub memory : valid m ≡ true

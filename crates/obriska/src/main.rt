@@ -4,16 +4,24 @@ ghost use Prim.Native.Nat.{_≤_};
 ghost use lib.ListN.{length};
 ghost use Rattle.handle.specs.Words.{recordsIn};
 ghost use Rattle.valid.specs.Meaning.{memoryOf};
-ghost use Rattle.obriska.specs.Serving.{bufferBytes, Ready, Steps, Serves, Room, Refilled, Advances};
+ghost use Rattle.obriska.specs.Serving.{bufferBytes, Ready, Steps, Serves, Room, Refilled, Advances, Ends};
+use broker::by_value::MAX_ANSWER;
 use handle::Handles;
 use libc::STDIN_FILENO;
 use libc::STDOUT_FILENO;
 use session::input;
 use session::input::Next;
 use session::turn;
+use valid::layout::COUNTERS_AND_ROWS;
+use valid::layout::DACLS;
+use valid::layout::PENDING;
+use valid::layout::TOKENS;
 
 // The most chunks, so that the program ends.
 const CHUNKS: u64 = 4294967295;
+
+// The size of the input's buffer.
+const BUFFER: usize = 65536;
 
 // After one feed: how much of the chunk is used, whether the answer was written, the handles.
 struct Step {
@@ -34,6 +42,13 @@ struct Advanced {
     chunks: u64,
     from: usize,
     end: usize,
+    handles: Handles,
+}
+
+// After all chunks: whether the program stopped before it had taken the most, how many it took, the handles.
+struct Ended {
+    stopped: bool,
+    chunks: u64,
     handles: Handles,
 }
 
@@ -190,7 +205,7 @@ fn advance(
     }
 }
 
-// Chunk after chunk, until the input ends or is not what it should be, or nothing more can be written.
+// Chunk after chunk, until the input ends or is not what it should be, nothing more can be written, or the most are taken.
 fn run(
     buffer: &mut [u8],
     answer: &mut [u8],
@@ -199,14 +214,15 @@ fn run(
     handles: Handles,
     stations: &mut [u64],
     pending: &mut [u8],
-)
+) -> Ended
     requires { ⌜ Ready (now buffer) (now answer) (memoryOf (now tokens) (now dacls) (recordsIn (handles .words)) (now stations) (now pending)) ⌝ }
+    ensures { λ r. ⌜ Ends (memoryOf (now (tokens .exit)) (now (dacls .exit)) (recordsIn (r .handles .words)) (now (stations .exit)) (now (pending .exit))) r ⌝ }
 {
     let mut held = handles;
-    let mut left = CHUNKS;
+    let mut chunks: u64 = 0;
     let mut from: usize = 0;
     let mut end: usize = 0;
-    while 0 < left {
+    while chunks < CHUNKS {
         let a = advance(
             buffer,
             answer,
@@ -218,23 +234,32 @@ fn run(
             from,
             end,
         );
-        if !a.going {
-            return;
-        }
         held = a.handles;
+        chunks += a.chunks;
+        if !a.going {
+            return Ended {
+                stopped: true,
+                chunks,
+                handles: held,
+            };
+        }
         from = a.from;
         end = a.end;
-        left -= a.chunks;
+    }
+    Ended {
+        stopped: false,
+        chunks,
+        handles: held,
     }
 }
 
 fn main() {
-    let mut buffer = [0u8; 65536];
-    let mut answer = [0u8; 1024];
-    let mut tokens = [0u64; 1600];
-    let mut dacls = [0u8; 4096];
-    let mut stations = [0u64; 26];
-    let mut pending = [0u8; 16400];
+    let mut buffer = [0u8; BUFFER];
+    let mut answer = [0u8; MAX_ANSWER];
+    let mut tokens = [0u64; TOKENS];
+    let mut dacls = [0u8; DACLS];
+    let mut stations = [0u64; COUNTERS_AND_ROWS];
+    let mut pending = [0u8; PENDING];
     let handles = turn::start(&mut tokens, &mut dacls, &mut stations, &mut pending);
     run(
         &mut buffer,

@@ -33,7 +33,8 @@ impl Mask {
         self.0 & other.0 == self.0
     }
 
-    pub fn permits(self, right: Mask) -> bool
+    // A right is tested by its own function, below.
+    fn permits(self, right: Mask) -> bool
         ensures { λ r. ⌜ r ≡ permits (self .0) (right .0) ⌝ }
     {
         right.within(self)
@@ -56,12 +57,6 @@ impl Mask {
         ensures { λ r. ⌜ r ≡ permits (self .0) rights.duplicate ⌝ }
     {
         self.permits(Mask::DUPLICATE)
-    }
-
-    pub fn may_impersonate(self) -> bool
-        ensures { λ r. ⌜ r ≡ permits (self .0) rights.impersonate ⌝ }
-    {
-        self.permits(Mask::IMPERSONATE)
     }
 
     pub fn may_query(self) -> bool

@@ -19,10 +19,9 @@ use Rattle.request.specs.declared.outcome.Outcome.{Outcome}
 use Rattle.request.specs.declared.answer.Answer.{Answer}
 use Rattle.request.specs.declared.answer.Answer.the-variants as answers
 use Rattle.request.specs.Carried.{Ends}
-use Rattle.request.specs.Located.{TokenLocated}
 use Rattle.request.specs.Ending.{refused, becomes, tokenAfter, served, RowsEnd}
 use Rattle.request.specs.Defaults.{defaultsEnding, DefaultsCarried}
-use Rattle.request.proofs.Locating.{not-located}
+use Rattle.request.proofs.Locating.{TokenLocated, not-located}
 use Rattle.request.proofs.RowEnding.{Rule, rows-end}
 
 module _ (owner group flag : ℕ) (bytes : List ℕ) where
@@ -49,7 +48,7 @@ module _ (owner group flag : ℕ) (bytes : List ℕ) where
       by true = refl
       by false = refl
 
-module _ (s n owner group flag : ℕ) (bytes : List ℕ) (hs : List Handle) (ss ts ds : List ℕ) (x : Located) (g : TokenLocated s n mask.adjustDefault hs ts x) where
+module _ (s n owner group flag : ℕ) (bytes : List ℕ) (hs : List Handle) (ss ts ds : List ℕ) (token held : ℕ) (x : Located) (g : TokenLocated s n mask.adjustDefault hs ts token held x) where
   pub no-handle : (r : Outcome) → (x .refusal ≡ 0 → ⊥) → Ends (answers.Refused (x .refusal)) r
       → DefaultsCarried s n owner group flag bytes hs ss ts ds ss ts ds r
   unfolding adjust

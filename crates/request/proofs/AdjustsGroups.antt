@@ -32,11 +32,10 @@ use Rattle.request.specs.declared.outcome.Outcome.{Outcome}
 use Rattle.request.specs.declared.answer.Answer.{Answer}
 use Rattle.request.specs.declared.answer.Answer.the-variants as answers
 use Rattle.request.specs.Carried.{Ends}
-use Rattle.request.specs.Located.{TokenLocated}
 use Rattle.request.specs.Ending.{Ending, refused, becomes, tokenAfter, answered, served}
 use Rattle.request.specs.Switching.{groupsIn, mayEntry, isGood, isFree, pick, judged, GroupsSwitched, ending, RowSwitched}
 use Rattle.request.specs.Adjusts.{EntriesCarried}
-use Rattle.request.proofs.Locating.{not-located}
+use Rattle.request.proofs.Locating.{TokenLocated, not-located}
 use Rattle.request.proofs.RowEnding.{Rule, row-ends}
 use Rattle.request.proofs.Reports.{report}
 
@@ -158,7 +157,7 @@ kept f es t e = by (isGood (t .groups) es) (isFree (t .identity .user) (t .group
     by true false = refl
     by false c = refl
 
-module _ {s n : ℕ} {hs : List Handle} (body : List ℕ) (at count : ℕ) {ss ts ds : List ℕ} {y : Located} (g : TokenLocated s n mask.adjustGroups hs ts y) where
+module _ {s n : ℕ} {hs : List Handle} (body : List ℕ) (at count : ℕ) {ss ts ds : List ℕ} {token held : ℕ} {y : Located} (g : TokenLocated s n mask.adjustGroups hs ts token held y) where
   pub no-handle : (r : Outcome) → (y .refusal ≡ 0 → ⊥) → Ends (answers.Refused (y .refusal)) r → EntriesCarried adjust s n body at count hs ss ts ds ss ts ds r
   unfolding adjust
   no-handle r f i = record { carried = λ es later h. not-located g (rest es) r i f }

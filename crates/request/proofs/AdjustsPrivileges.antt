@@ -33,11 +33,10 @@ use Rattle.request.specs.declared.outcome.Outcome as Ended
 use Rattle.request.specs.declared.answer.Answer.{Answer}
 use Rattle.request.specs.declared.answer.Answer.the-variants as answers
 use Rattle.request.specs.Carried.{Ends}
-use Rattle.request.specs.Located.{TokenLocated}
 use Rattle.request.specs.Ending.{tokenAfter, served, RowEnds}
 use Rattle.request.specs.Adjusting.{Outcome, done, refused, judged, outcomeOf, endingOf, privilegesEnding}
 use Rattle.request.specs.Adjusts.{EntriesCarried}
-use Rattle.request.proofs.Locating.{not-located}
+use Rattle.request.proofs.Locating.{TokenLocated, not-located}
 use Rattle.request.proofs.RowEnding.{Rule, row-ends}
 
 -- ---- in the row
@@ -93,7 +92,7 @@ unfolding nextModified withPrivileges
 same-dacl t (done p w) = refl
 same-dacl t refused = refl
 
-module _ {s n : ℕ} {hs : List Handle} (body : List ℕ) (at count : ℕ) {ss ts ds : List ℕ} {x : Located} (g : TokenLocated s n mask.adjustPrivileges hs ts x) where
+module _ {s n : ℕ} {hs : List Handle} (body : List ℕ) (at count : ℕ) {ss ts ds : List ℕ} {token held : ℕ} {x : Located} (g : TokenLocated s n mask.adjustPrivileges hs ts token held x) where
   pub no-handle : {r : Ended.Outcome} → (x .refusal ≡ 0 → ⊥) → Ends (answers.Refused (x .refusal)) r → EntriesCarried adjust s n body at count hs ss ts ds ss ts ds r
   unfolding adjust
   no-handle {r} f i = record { carried = λ es later h. not-located g (rest es) r i f }

@@ -1,10 +1,9 @@
 -- Bytes of a body that are written as a DACL. Assumes nothing.
 use Prim.Native.Nat.{ℕ, zero, suc, _+_, _-_, _≤_}
-use native.Mathlib.Nat.{add-sub-cancel-left}
 use native.Mathlib.Omega.{arith}
 use mathlib.Core.Path.{_≡_, refl, sym, ap, _∙_, subst}
 use mathlib.Core.List.{List, [], _∷_, _++_, append-nil}
-use lib.ListN.{length, take, drop, set, replicate, length-drop, drop-of-length-le}
+use lib.ListN.{length, take, drop, set, replicate, length-take, length-drop, drop-of-length-le}
 use lib.Seq.{take-at, drop-at}
 use Rattle.table.specs.Lists.{pad, pad-fits}
 use Rattle.rules.specs.Number.{Read, got, bad}
@@ -46,11 +45,11 @@ module _ (s : List ℕ) (at size : ℕ) (h : There byte s at size []) where
   pub there-long : length (valuesAt byte s at size) ≡ size
   there-long = subst (Long byte size) h (times-long byte size (drop at s))
 
-  pub bytes-written : {ws bs : List ℕ} → bs ≡ pad maxDacl (take (at + size - at) (drop at s)) → DaclWritten (valuesAt byte s at size) ws (set ws 19 size) bs
+  pub bytes-written : {ws bs : List ℕ} → bs ≡ pad maxDacl (take size (drop at s)) → DaclWritten (valuesAt byte s at size) ws (set ws 19 size) bs
   unfolding tokenRow head daclRow withDefaults
   bytes-written {ws} e = record {
     row = record { row = λ t k. ap (set ws 19) (sym there-long) ∙ ap (λ (l : List ℕ). set l 19 (length (valuesAt byte s at size))) k };
-    dacl = λ t. e ∙ ap (λ (n : ℕ). pad maxDacl (take n (drop at s))) (add-sub-cancel-left at size) ∙ ap (pad maxDacl) (sym (part .0));
+    dacl = λ t. e ∙ ap (pad maxDacl) (sym (part .0));
   }
 
 -- ---- a row written in two parts: the bytes, and then zeros
@@ -58,15 +57,23 @@ module _ (s : List ℕ) (at size : ℕ) (h : There byte s at size []) where
 abbrev then-from : ℕ → ℕ → List ℕ → List ℕ → List ℕ
 then-from n k zs out = take n out ++ (zs ++ drop (k - n) (drop n out))
 
-pub two-parts : {xs ys zs : List ℕ} (out : List ℕ) → length out ≡ maxDacl → length xs ≤ maxDacl → ys ≡ xs → zs ≡ replicate (maxDacl - length xs) 0
-    → then-from (length xs) maxDacl zs (take 0 out ++ (ys ++ drop (length xs - 0) (drop 0 out))) ≡ pad maxDacl xs
-two-parts {xs} {ys} {zs} out l h e z =
-    let n = length xs in
+two-parts : (n : ℕ) {xs ys zs : List ℕ} (out : List ℕ) → length out ≡ maxDacl → length xs ≡ n → n ≤ maxDacl → ys ≡ xs → zs ≡ replicate (maxDacl - n) 0
+    → then-from n maxDacl zs (take 0 out ++ (ys ++ drop (n - 0) (drop 0 out))) ≡ pad maxDacl xs
+two-parts n {xs} {ys} {zs} out l k h e z =
     let rest : List ℕ = drop (n - 0) out in
     ap (λ (b : List ℕ). then-from n maxDacl zs (b ++ rest)) e
     ∙ ap (λ (b : List ℕ). then-from n maxDacl b (xs ++ rest)) z
-    ∙ ap (λ (b : List ℕ). b ++ (replicate (maxDacl - n) 0 ++ drop (maxDacl - n) (drop n (xs ++ rest)))) (take-at xs rest n refl)
-    ∙ ap (λ (b : List ℕ). xs ++ (replicate (maxDacl - n) 0 ++ drop (maxDacl - n) b)) (drop-at xs rest n refl)
+    ∙ ap (λ (b : List ℕ). b ++ (replicate (maxDacl - n) 0 ++ drop (maxDacl - n) (drop n (xs ++ rest)))) (take-at xs rest n k)
+    ∙ ap (λ (b : List ℕ). xs ++ (replicate (maxDacl - n) 0 ++ drop (maxDacl - n) b)) (drop-at xs rest n k)
     ∙ ap (λ (b : List ℕ). xs ++ (replicate (maxDacl - n) 0 ++ b)) (drop-of-length-le rest {i = maxDacl - n} (simp length-drop (omega arith)))
     ∙ ap (λ (b : List ℕ). xs ++ b) (append-nil (replicate (maxDacl - n) 0))
-    ∙ sym (pad-fits maxDacl xs h)
+    ∙ ap (λ (m : ℕ). xs ++ replicate (maxDacl - m) 0) (sym k)
+    ∙ sym (pad-fits maxDacl xs (omega arith))
+
+-- the first part is lent to the reader
+pub stored : (s : List ℕ) (at n : ℕ) (out : List ℕ) {ys zs : List ℕ} → at + n ≤ length s → n ≤ maxDacl → length out ≡ maxDacl
+    → ys ≡ take (length (take (n - 0) (drop 0 out))) (drop at s) → zs ≡ replicate (maxDacl - n) 0
+    → then-from n maxDacl zs (take 0 out ++ (ys ++ drop (n - 0) (drop 0 out))) ≡ pad maxDacl (take n (drop at s))
+stored s at n out h few l e z =
+    let part : length (take (n - 0) (drop 0 out)) ≡ n = simp (length-take, length-drop) (omega arith) in
+    two-parts n out l (simp (length-take, length-drop) (omega arith)) few (e ∙ ap (λ (m : ℕ). take m (drop at s)) part) z

@@ -34,12 +34,11 @@ use Rattle.request.specs.declared.answer.Answer.the-variants as answers
 use Rattle.request.specs.declared.located.Located.{Located}
 use Rattle.request.specs.declared.outcome.Outcome.{Outcome}
 use Rattle.request.specs.Carried.{Ends, Carried}
-use Rattle.request.specs.Located.{TokenLocated}
 use Rattle.request.specs.Issue.{IssueRoom, RowIssued}
 use Rattle.request.specs.Copies.{RowCopied, Remade, DuplicateJudged, copiedAs, duplicatedAs, CopyIssued}
 use Rattle.request.proofs.Deciding.{fails, holds, refuses, carried-as}
-use Rattle.request.proofs.LookupLaws.{goes-on}
-use Rattle.request.proofs.Locating.{not-located}
+use Rattle.request.proofs.LookupLaws.{mask-narrow, goes-on}
+use Rattle.request.proofs.Locating.{TokenLocated, not-located}
 use Rattle.request.proofs.RowIssuing.{ends-issuing}
 
 -- ---- of any copy
@@ -67,10 +66,10 @@ issues-made f l k w b e = record {
 }
 
 -- a request on the handle that was found, and its token
-module _ {s n right : ℕ} {hs : List Handle} {ss ts ds : List ℕ} {x : Located} (g : TokenLocated s n right hs ts x) (z : x .refusal ≡ 0) where
+module _ {s n right : ℕ} {hs : List Handle} {ss ts ds : List ℕ} {token held : ℕ} {x : Located} (g : TokenLocated s n right hs ts token held x) (z : x .refusal ≡ 0) where
   pub on-located : (go : State → rules-handle.Handle → rules.Token → Decision) → {ss′ ts′ ds′ : List ℕ} {r : Outcome}
-      → ((h : State → rules-handle.Handle) → ((σ : State) → valid σ ≡ true → PartsIn σ hs ss ts ds → x .mask ≡ h σ .mask)
-      → Carried (λ σ. go σ (h σ) (state.tokenOf σ (x .token))) hs ss ts ds ss′ ts′ ds′ r)
+      → ((h : State → rules-handle.Handle) → ((σ : State) → valid σ ≡ true → PartsIn σ hs ss ts ds → held ≡ h σ .mask)
+      → Carried (λ σ. go σ (h σ) (state.tokenOf σ token)) hs ss ts ds ss′ ts′ ds′ r)
       → Carried (λ σ. withHandle σ s n right (go σ)) hs ss ts ds ss′ ts′ ds′ r
   on-located go c = carried-as (λ σ v p.
       goes-on σ s n right (go σ) (g .refusal σ v (p .handles) (p .tokens)) z
@@ -128,10 +127,16 @@ module _ (kind level : ℕ) {i s mask : ℕ} {hs : List Handle} {ss ts ds ss′ 
 pub judges : (held : ℕ) (i : Identity) (type level mask : ℕ) {v w : Bool} → v ≡ Mask.validMask mask → w ≡ within mask held
     → DuplicateJudged held i type level mask ((eqb type 1 || eqb type 2) && leb level 3 && (not (eqb (i .kind) 2 && eqb type 2) || leb level (i .level)) && v && w)
 unfolding validDuplicate validLevel
-judges held i type level mask {v} {w} ev ew = record { judged = λ h t m e. by h t m (ap (λ (x : rules.Identity). x .type) e) (ap (λ (x : rules.Identity). x .level) e) }
+judges held i type level mask {v} {w} ev ew = record {
+  narrow = λ t. mask-narrow mask ev (and-r others v (and-l (others && v) w t));
+  judged = λ h t m e. by h t m (ap (λ (x : rules.Identity). x .type) e) (ap (λ (x : rules.Identity). x .level) e);
+}
   where
+    others : Bool
+    others = (eqb type 1 || eqb type 2) && leb level 3 && (not (eqb (i .kind) 2 && eqb type 2) || leb level (i .level))
+
     by : (h : rules-handle.Handle) (t : rules.Token) → held ≡ h .mask → i .kind ≡ t .identity .type → i .level ≡ t .identity .level
-        → ((eqb type 1 || eqb type 2) && leb level 3 && (not (eqb (i .kind) 2 && eqb type 2) || leb level (i .level)) && v && w) ≡ validDuplicate h t type level mask
+        → (others && v && w) ≡ validDuplicate h t type level mask
     by h t m k l = cc
 
 -- ---- request 9: how it ends
@@ -142,31 +147,31 @@ go kind level mask s σ h t =
     need canIssue σ else tableFull then
     issued s mask (duplicated (σ .tokens .next) kind level t) σ
 
-module _ (kind level mask : ℕ) {s n : ℕ} {hs : List Handle} {ss ts ds : List ℕ} {x : Located} (g : TokenLocated s n Mask.duplicate hs ts x) where
+module _ (kind level mask : ℕ) {s n : ℕ} {hs : List Handle} {ss ts ds : List ℕ} {token held : ℕ} {x : Located} (g : TokenLocated s n Mask.duplicate hs ts token held x) where
   pub duplicate-unknown : {r : Outcome} → (x .refusal ≡ 0 → ⊥) → Ends (answers.Refused (x .refusal)) r → Carried (λ σ. duplicate σ s n kind level mask) hs ss ts ds ss ts ds r
   unfolding duplicate
   duplicate-unknown {r} f e = not-located g (go kind level mask s) r e f
 
-  module _ (z : x .refusal ≡ 0) (who : Identity) (is : IdentityAt (x .slot) ts who) {ok : Bool} (q : DuplicateJudged (x .mask) who kind level mask ok) where
+  module _ (z : x .refusal ≡ 0) (who : Identity) (is : IdentityAt (x .slot) ts who) {own : ℕ} (same : own ≡ held) {ok : Bool} (q : DuplicateJudged own who kind level mask ok) where
     -- the test, in the state
-    judged : (σ : State) (h : rules-handle.Handle) → x .mask ≡ h .mask → valid σ ≡ true → PartsIn σ hs ss ts ds → ok ≡ validDuplicate h (state.tokenOf σ (x .token)) kind level mask
-    judged σ h m v p = q .judged h (state.tokenOf σ (x .token)) m (is .given (x .token) (g .slot z) .identity σ v (p .tokens))
+    judged : (σ : State) (h : rules-handle.Handle) → held ≡ h .mask → valid σ ≡ true → PartsIn σ hs ss ts ds → ok ≡ validDuplicate h (state.tokenOf σ token) kind level mask
+    judged σ h m v p = q .judged h (state.tokenOf σ token) (same ∙ m) (is .given token (g .slot z) .identity σ v (p .tokens))
 
     pub duplicate-bad : {r : Outcome} → not ok ≡ true → Ends (answers.Refused 5) r → Carried (λ σ. duplicate σ s n kind level mask) hs ss ts ds ss ts ds r
     unfolding duplicate
     duplicate-bad {r} f e = on-located g z (go kind level mask s) (λ h m. refuses 5 r e (omega arith)
-        (λ σ v p. fails (validDuplicate (h σ) (state.tokenOf σ (x .token)) kind level mask) σ 5 _ (ap not (sym (judged σ (h σ) (m σ v p) v p)) ∙ f)))
+        (λ σ v p. fails (validDuplicate (h σ) (state.tokenOf σ token) kind level mask) σ 5 _ (ap not (sym (judged σ (h σ) (m σ v p) v p)) ∙ f)))
 
     module _ (t : not ok ≡ false) {room : Bool} (i : IssueRoom hs ts ss room) where
       pub duplicate-full : {r : Outcome} → not room ≡ true → Ends (answers.Refused 8) r → Carried (λ σ. duplicate σ s n kind level mask) hs ss ts ds ss ts ds r
       unfolding duplicate
       duplicate-full {r} f e = on-located g z (go kind level mask s) (λ h m. refuses 8 r e (omega arith) (λ σ v p.
-          holds (validDuplicate (h σ) (state.tokenOf σ (x .token)) kind level mask) σ badField _ (ap not (sym (judged σ (h σ) (m σ v p) v p)) ∙ t)
+          holds (validDuplicate (h σ) (state.tokenOf σ token) kind level mask) σ badField _ (ap not (sym (judged σ (h σ) (m σ v p) v p)) ∙ t)
           ∙ fails (canIssue σ) σ 8 _ (ap not (sym (i .room σ v p)) ∙ f)))
 
       pub duplicates : {ss′ ts′ ds′ : List ℕ} {r : Outcome} → not room ≡ false → CopyIssued (duplicatedAs kind level) (x .slot) s mask hs ss ts ds ss′ ts′ ds′ r
           → Carried (λ σ. duplicate σ s n kind level mask) hs ss ts ds ss′ ts′ ds′ r
       unfolding duplicate duplicatedAs
       duplicates f c = on-located g z (go kind level mask s) (λ h m. carried-as (λ σ v p.
-          holds (validDuplicate (h σ) (state.tokenOf σ (x .token)) kind level mask) σ badField _ (ap not (sym (judged σ (h σ) (m σ v p) v p)) ∙ t)
-          ∙ holds (canIssue σ) σ tableFull _ (ap not (sym (i .room σ v p)) ∙ f)) (c .carried (x .token) (g .slot z)))
+          holds (validDuplicate (h σ) (state.tokenOf σ token) kind level mask) σ badField _ (ap not (sym (judged σ (h σ) (m σ v p) v p)) ∙ t)
+          ∙ holds (canIssue σ) σ tableFull _ (ap not (sym (i .room σ v p)) ∙ f)) (c .carried token (g .slot z)))

@@ -27,13 +27,11 @@ use Rattle.state.specs.TokenCalls.{IdentityGiven, Held, Used}
 use Rattle.state.specs.ReleaseFacts.{PartsIn, Installed}
 use Rattle.state.proofs.TokenFrames.{used-stations, used-handles}
 use Rattle.request.specs.declared.answer.Answer.the-variants as answers
-use Rattle.request.specs.declared.lookup.Target.{Target}
 use Rattle.request.specs.declared.outcome.Outcome.{Outcome}
 use Rattle.request.specs.Carried.{Ends, Carried}
-use Rattle.request.specs.Lookup.{LookedUp}
 use Rattle.request.specs.Install.{Matching, refusalNumber, Checked, MarksUsed, Placed}
 use Rattle.request.proofs.Deciding.{refuses, ends-with}
-use Rattle.request.proofs.LookupLaws.{looked-up, looked-up-found, handle-refuses}
+use Rattle.request.proofs.LookupLaws.{LookedUp, looked-up, looked-up-found, handle-refuses}
 
 -- ---- the checks
 
@@ -129,18 +127,18 @@ passes σ true true false rest e = absurd (omega arith)
 passes σ true false c rest e = absurd (omega arith)
 passes σ false b c rest e = absurd (omega arith)
 
-module _ {s n : ℕ} {hs : List Handle} {ss ts ds : List ℕ} {x : Target} (l : LookedUp s n assignPrimary hs x) where
-  pub no-handle : (x .refusal ≡ 0 → ⊥) → (r : Outcome) → Ends (answers.Refused (x .refusal)) r → Carried (λ σ. install σ s n) hs ss ts ds ss ts ds r
+module _ {s n : ℕ} {hs : List Handle} {ss ts ds : List ℕ} {h : Handle} {j : ℕ} (l : LookedUp s n assignPrimary hs h j) where
+  pub no-handle : (j ≡ 0 → ⊥) → (r : Outcome) → Ends (answers.Refused j) r → Carried (λ σ. install σ s n) hs ss ts ds ss ts ds r
   unfolding install
   no-handle f r e = handle-refuses l _ r e f
 
-  module _ (z : x .refusal ≡ 0) {same : Bool} (m : Matching (x .handle .token) s ts ss same) {k : ℕ} (c : Checked same (x .handle .token) s ts ss k) where
+  module _ (z : j ≡ 0) {same : Bool} (m : Matching (h .token) s ts ss same) {k : ℕ} (c : Checked same (h .token) s ts ss k) where
     module _ (σ : State) (v : valid σ ≡ true) (p : PartsIn σ hs ss ts ds) where
       abbrev new : rules.Token
-      new = state.tokenOf σ (x .handle .token)
+      new = state.tokenOf σ (h .token)
 
       abbrev after : State
-      after = released (setToken s (x .handle .token) (marked s new σ))
+      after = released (setToken s (h .token) (marked s new σ))
 
       decided : carriedOut σ (install σ s n) ≡ carriedOut σ (decide (held σ s assignPrimaryToken) (eqb (new .identity .type) primary) (same || held σ s tcb) (success after []))
       unfolding install
@@ -158,7 +156,7 @@ module _ {s n : ℕ} {hs : List Handle} {ss ts ds : List ℕ} {x : Target} (l : 
           let q = passes σ (held σ s assignPrimaryToken) (eqb (new .identity .type) primary) (same || held σ s tcb) (success after []) (sym checked ∙ e) in
           (decided ∙ q .0, q .1)
 
-      after-parts : k ≡ 0 → {ss′ ts′ ds′ : List ℕ} → Placed same (x .handle .token) s hs ss ts ds ss′ ts′ ds′ → PartsIn after hs ss′ ts′ ds′
+      after-parts : k ≡ 0 → {ss′ ts′ ds′ : List ℕ} → Placed same (h .token) s hs ss ts ds ss′ ts′ ds′ → PartsIn after hs ss′ ts′ ds′
       after-parts e w =
           let i = looked-up-found l σ v (p .handles) z .token in
           w .parts σ v p (m .same σ v (p .tokens) (p .stations)) (i .was) (i .number) (eqb-true (new .identity .type) primary (passed e .1))
@@ -166,7 +164,7 @@ module _ {s n : ℕ} {hs : List Handle} {ss ts ds : List ℕ} {x : Target} (l : 
     pub not-allowed : (k ≡ 0 → ⊥) → (r : Outcome) → Ends (answers.Refused k) r → Carried (λ σ. install σ s n) hs ss ts ds ss ts ds r
     not-allowed f r e = refuses k r e (c .small) (λ σ v p. refused σ v p f)
 
-    pub installed : k ≡ 0 → {ss′ ts′ ds′ : List ℕ} → Placed same (x .handle .token) s hs ss ts ds ss′ ts′ ds′ → (r : Outcome) → Ends answers.Done r
+    pub installed : k ≡ 0 → {ss′ ts′ ds′ : List ℕ} → Placed same (h .token) s hs ss ts ds ss′ ts′ ds′ → (r : Outcome) → Ends answers.Done r
         → Carried (λ σ. install σ s n) hs ss ts ds ss′ ts′ ds′ r
     installed e w r d =
         ends-with answers.Done r d (λ σ v p. tt) (λ σ v p. rw (passed σ v p e .0) (after-parts σ v p e w)) (λ σ v p. rw (passed σ v p e .0))

@@ -5,8 +5,8 @@ use mathlib.Core.Path.{_≡_, refl, sym, ap, ap₂, _∙_, subst}
 use mathlib.Core.Bool.{Bool, true, false, not}
 use mathlib.Core.List.{List, [], _∷_}
 use lib.Dec.{eqb}
-use borrow.Author.Tests.{eq-eqb, ne-eqb}
-use Rattle.rules.specs.Mask.{permits}
+use Rattle.rules.specs.Bits.{within}
+use Rattle.rules.specs.Mask.{allRights, permits, validMask}
 use Rattle.rules.specs.Refusal.{refusal, notALiveHandle, rightMissing}
 use Rattle.rules.specs.Table.{isLive}
 use Rattle.rules.specs.Handle as rules
@@ -15,44 +15,50 @@ use Rattle.rules.specs.Valid.{valid}
 use Rattle.rules.specs.State as state
 use Rattle.rules.specs.State.{State, findHandle, tokenOf}
 use Rattle.rules.specs.Decision.{Decision, Served, carriedOut, need_else_then_, withHandle}
+use Rattle.rules.proofs.Bits.{within-le}
+use Rattle.rules.proofs.Logic.{and-r}
 use Rattle.rules.proofs.Facts.{valid-facts}
 use Rattle.rules.proofs.Steps.{Found, found-handle}
+use Rattle.handle.specs.Words.{word16}
 use Rattle.handle.specs.Meaning.{handleOf}
 use Rattle.handle.specs.declared.Handle.{Handle}
 use Rattle.state.specs.Parts.{HandlesIn}
 use Rattle.state.specs.HandleFacts.{HandleGiven}
-use Rattle.request.specs.declared.lookup.Target.{Target}
 use Rattle.request.specs.declared.outcome.Outcome.{Outcome}
 use Rattle.request.specs.declared.answer.Answer.the-variants as answers
 use Rattle.request.specs.Carried.{Ends, Carried}
-use Rattle.request.specs.Lookup.{refusalNumber, handleRefusal, LookedUp}
+use Rattle.request.specs.Lookup.{refusalNumber, handleRefusal}
 use Rattle.request.proofs.Deciding.{refuses}
 
--- ---- lookup itself
-
-module _ (h : Handle) (right : ℕ) where
-  pub not-live : h .number ≡ 0 → 2 ≡ handleRefusal h right
-  not-live e = rw (eq-eqb (h .number) 0 e)
-
-  module _ {b : Bool} (live : h .number ≡ 0 → ⊥) (e : b ≡ permits (h .mask) right) where
-    pub permitted : b ≡ true → 0 ≡ handleRefusal h right
-    permitted t = rw (ne-eqb (h .number) 0 live, sym e ∙ t)
-
-    pub forbidden : b ≡ false → 3 ≡ handleRefusal h right
-    forbidden t = rw (ne-eqb (h .number) 0 live, sym e ∙ t)
+-- ---- the handle that was found
 
 refusal-small : (known permitted : Bool) → refusalNumber known permitted < 128
 refusal-small true true = omega arith
 refusal-small true false = omega arith
 refusal-small false permitted = omega arith
 
-pub looks-up : {s n right k : ℕ} {hs : List Handle} {h : Handle} → HandleGiven s n hs h → k ≡ handleRefusal h right
-    → LookedUp s n right hs (record { refusal = k; handle = h })
-looks-up {right = right} {h = h} g e = record {
-  small = let l : handleRefusal h right < 128 = refusal-small (not (eqb (h .number) 0)) (permits (h .mask) right) in rw e l;
-  handle = g .handle;
-  refusal = λ σ v i. e ∙ ap₂ refusalNumber (sym (g .live σ v i)) (ap (λ (x : rules.Handle). permits (x .mask) right) (g .handle σ v i));
-}
+pub handle-small : (h : Handle) (permitted : Bool) {k : ℕ} → k ≡ handleRefusal h permitted → k < 128
+handle-small h permitted e = let l = refusal-small (not (eqb (h .number) 0)) permitted in rw e l
+
+pub record LookedUp (station number right : ℕ) (hs : List Handle) (h : Handle) (k : ℕ) : Type 0 where
+  pub small : k < 128
+  pub handle : (σ : State) → valid σ ≡ true → HandlesIn σ hs → handleOf h ≡ state.handleOf σ station number
+  pub refusal : (σ : State) → valid σ ≡ true → HandlesIn σ hs
+      → k ≡ refusalNumber (isLive (findHandle σ station number)) (permits (state.handleOf σ station number .mask) right)
+
+-- its mask, and whether the mask has the right
+module _ (right : ℕ) {s n mask : ℕ} {hs : List Handle} {h : Handle} {b : Bool} (g : HandleGiven s n hs h) (m : mask ≡ h .mask) (e : b ≡ permits mask right) where
+  pub refusal-is : (σ : State) → valid σ ≡ true → HandlesIn σ hs → handleRefusal h b ≡ refusalNumber (isLive (findHandle σ s n)) (permits (state.handleOf σ s n .mask) right)
+  refusal-is σ v i = ap₂ refusalNumber (sym (g .live σ v i))
+      (e ∙ ap (λ (x : ℕ). permits x right) m ∙ ap (λ (x : rules.Handle). permits (x .mask) right) (g .handle σ v i))
+
+  pub looks-up : {k : ℕ} → k ≡ handleRefusal h b → LookedUp s n right hs h k
+  looks-up q = record { small = handle-small h b q; handle = g .handle; refusal = λ σ v i. q ∙ refusal-is σ v i }
+
+-- a mask that may be asked for is one that a handle can have
+pub mask-narrow : (mask : ℕ) {b : Bool} → b ≡ validMask mask → b ≡ true → mask < word16
+unfolding validMask
+mask-narrow mask e t = let l = within-le mask allRights (and-r (not (eqb mask 0)) (within mask allRights) (sym e ∙ t)) in omega arith
 
 -- ---- the decision
 
@@ -87,22 +93,22 @@ module _ (σ : State) (s n right : ℕ) (go : rules.Handle → Token → Decisio
   unfolding withHandle
   goes-on z = passed σ (isLive (findHandle σ s n)) (permits (state.handleOf σ s n .mask) right) _ (sym e ∙ z)
 
-module _ {s n right : ℕ} {hs : List Handle} {t : Target} (l : LookedUp s n right hs t) where
+module _ {s n right : ℕ} {hs : List Handle} {h : Handle} {k : ℕ} (l : LookedUp s n right hs h k) where
   module _ (σ : State) (v : valid σ ≡ true) (i : HandlesIn σ hs) (go : rules.Handle → Token → Decision) where
-    pub looked-up-refused : (t .refusal ≡ 0 → ⊥) → carriedOut σ (withHandle σ s n right go) ≡ record { state = σ; answer = t .refusal ∷ [] }
+    pub looked-up-refused : (k ≡ 0 → ⊥) → carriedOut σ (withHandle σ s n right go) ≡ record { state = σ; answer = k ∷ [] }
     looked-up-refused f = stops-at σ s n right go (l .refusal σ v i) f
 
-    pub looked-up : t .refusal ≡ 0
-        → carriedOut σ (withHandle σ s n right go) ≡ carriedOut σ (go (handleOf (t .handle)) (tokenOf σ (t .handle .token)))
+    pub looked-up : k ≡ 0
+        → carriedOut σ (withHandle σ s n right go) ≡ carriedOut σ (go (handleOf h) (tokenOf σ (h .token)))
     looked-up e =
         goes-on σ s n right go (l .refusal σ v i) e
-        ∙ ap (λ (h : rules.Handle). carriedOut σ (go h (tokenOf σ (h .token)))) (sym (l .handle σ v i))
+        ∙ ap (λ (x : rules.Handle). carriedOut σ (go x (tokenOf σ (x .token)))) (sym (l .handle σ v i))
 
-  pub looked-up-found : (σ : State) → valid σ ≡ true → HandlesIn σ hs → t .refusal ≡ 0 → Found σ (handleOf (t .handle))
+  pub looked-up-found : (σ : State) → valid σ ≡ true → HandlesIn σ hs → k ≡ 0 → Found σ (handleOf h)
   looked-up-found σ v i e = subst (Found σ) (sym (l .handle σ v i))
       (found-handle σ s n (valid-facts σ v) (is-known (isLive (findHandle σ s n)) (permits (state.handleOf σ s n .mask) right) (sym (l .refusal σ v i) ∙ e)))
 
   -- the refusal of any request that begins with the handle
-  pub handle-refuses : {ss ts ds : List ℕ} (go : State → rules.Handle → Token → Decision) (r : Outcome) → Ends (answers.Refused (t .refusal)) r → (t .refusal ≡ 0 → ⊥)
+  pub handle-refuses : {ss ts ds : List ℕ} (go : State → rules.Handle → Token → Decision) (r : Outcome) → Ends (answers.Refused (k)) r → (k ≡ 0 → ⊥)
       → Carried (λ σ. withHandle σ s n right (go σ)) hs ss ts ds ss ts ds r
-  handle-refuses go r e f = refuses (t .refusal) r e (l .small) (λ σ v p. looked-up-refused σ v (p .handles) (go σ) f)
+  handle-refuses go r e f = refuses (k) r e (l .small) (λ σ v p. looked-up-refused σ v (p .handles) (go σ) f)

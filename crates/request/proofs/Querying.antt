@@ -34,17 +34,15 @@ use Rattle.state.specs.TokenCalls.{FoundAt}
 use Rattle.state.specs.ReleaseFacts.{PartsIn}
 use Rattle.state.proofs.Slots.{live-or}
 use Rattle.state.proofs.TokenLooks.{slots-read, slots-long}
-use Rattle.request.specs.declared.lookup.Target.{Target}
 use Rattle.request.specs.declared.outcome.Outcome.{Outcome}
 use Rattle.request.specs.declared.answer.Answer.{Answer}
 use Rattle.request.specs.declared.answer.Answer.the-variants as answers
 use Rattle.request.specs.Body.{RowCounted}
 use Rattle.request.specs.Answer.{tokenIn, answerOf}
 use Rattle.request.specs.Carried.{Ends, Carried}
-use Rattle.request.specs.Lookup.{LookedUp}
 use Rattle.request.specs.Query.{classDecision, ClassAnswered}
 use Rattle.request.proofs.Deciding.{ends-with}
-use Rattle.request.proofs.LookupLaws.{looked-up, looked-up-found, handle-refuses}
+use Rattle.request.proofs.LookupLaws.{LookedUp, looked-up, looked-up-found, handle-refuses}
 
 -- ---- the slot of a live token
 
@@ -127,14 +125,14 @@ module _ (n class capacity : ℕ) {ts : List ℕ} where
 
 -- ---- the request
 
-module _ {s n : ℕ} (class capacity : ℕ) {hs : List Handle} {ss ts ds : List ℕ} {t : Target} (l : LookedUp s n mask.query hs t) where
-  pub query-refused : {r : Outcome} → (t .refusal ≡ 0 → ⊥) → Ends (answers.Refused (t .refusal)) r
+module _ {s n : ℕ} (class capacity : ℕ) {hs : List Handle} {ss ts ds : List ℕ} {h : Handle} {k : ℕ} (l : LookedUp s n mask.query hs h k) where
+  pub query-refused : {r : Outcome} → (k ≡ 0 → ⊥) → Ends (answers.Refused k) r
       → Carried (λ σ. query σ s n class capacity) hs ss ts ds ss ts ds r
   unfolding query
   query-refused {r} f e = handle-refuses l (λ σ h x. classDecision class capacity σ x) r e f
 
-  module _ {a : Answer} (found : t .refusal ≡ 0) (c : ClassAnswered (t .handle .token) class capacity ts a) where
-    is-there : (σ : State) → valid σ ≡ true → PartsIn σ hs ss ts ds → Mem (t .handle .token) (map numberOf (lives (σ .tokens .slots)))
+  module _ {a : Answer} (found : k ≡ 0) (c : ClassAnswered (h .token) class capacity ts a) where
+    is-there : (σ : State) → valid σ ≡ true → PartsIn σ hs ss ts ds → Mem (h .token) (map numberOf (lives (σ .tokens .slots)))
     unfolding numberOf
     is-there σ v p =
         let i = looked-up-found l σ v (p .handles) found .token in

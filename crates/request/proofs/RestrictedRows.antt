@@ -11,13 +11,17 @@ use lib.ListN.{length, take, getD, set, replicate, length-append, length-map, le
 use lib.Seq.{append-snoc, getD-append-add, getD-take, set-append-seam, set-append-left, take-set-lt}
 use Rattle.table.specs.Lists.{pad, length-pad, pad-fits}
 use Rattle.rules.specs.Basic.{if_then_else_, changeAt}
-use Rattle.rules.specs.Bits.{without}
 use Rattle.rules.specs.Growth.{Mem, here, there}
 use Rattle.rules.specs.Group.{Group, denied}
+use Rattle.rules.specs.Privileges as rules
 use Rattle.rules.specs.Privileges.{remove}
-use Rattle.rules.specs.Token.{Token, maxGroups, maxRestricting, withGroups}
+use Rattle.rules.specs.Token.{Token, maxGroups, maxRestricting, withPrivileges, withGroups}
 use Rattle.rules.specs.Memory.{tokenWords, word32, mark, pack, unpack, head, tokenRow}
 use Rattle.rules.proofs.Logic.{length-changeAt}
+use Rattle.privilege.specs.Meaning.{privilegesOf}
+use Rattle.privilege.specs.declared.privileges.Privileges.{Privileges}
+use Rattle.token.specs.Row.{privilegesIn, Becomes}
+use Rattle.state.proofs.TokenScalars.{privileges-in-row}
 use Rattle.request.specs.Copies.{Remade}
 use Rattle.request.specs.Switching.{onWord}
 use Rattle.request.specs.Restricting.{Packed, denyIn, DeniedAt, withSids, addIn, SidAdded}
@@ -138,19 +142,18 @@ unfolding mark
 mark-set true b = refl
 mark-set false b = refl
 
-pub limits : (n m removed : ℕ) {ws : List ℕ} {a b c d e : ℕ} → length ws ≡ tokenWords → a ≡ markWord m (getD ws 7 0) → b ≡ markWord m (getD ws 8 0)
-    → c ≡ without (getD ws 13 0) removed → d ≡ without (getD ws 14 0) removed → e ≡ without (getD ws 15 0) removed
-    → Remade (limitedTo n m removed) ws (set (set (set (set (set (set (set (set ws 0 n) 1 n) 6 1) 7 a) 8 b) 13 c) 14 d) 15 e)
-unfolding limitedTo remove tokenRow head
-limits n m removed long ea eb ec ed ee = record {
+pub limits : (n m removed : ℕ) {ws ws₁ : List ℕ} {a b : ℕ} {p q : Privileges} → a ≡ markWord m (getD ws 7 0) → b ≡ markWord m (getD ws 8 0)
+    → p ≡ privilegesIn ws → privilegesOf q ≡ remove removed (privilegesOf p) → Becomes (withPrivileges (privilegesOf q)) ws ws₁ → length ws₁ ≡ length ws → length ws ≡ tokenWords
+    → Remade (limitedTo n m removed) ws (set (set (set (set (set ws₁ 0 n) 1 n) 6 1) 7 a) 8 b)
+unfolding limitedTo withPrivileges tokenRow head
+limits n m removed {ws} ea eb g r w kept long = record {
   made = record {
-    row = λ t q.
-        let fa = ea ∙ ap (λ (l : List ℕ). markWord m (getD l 7 0)) q ∙ mark-set (eqb m 1) (t .limits .writeRestricted) in
-        let fb = eb ∙ ap (λ (l : List ℕ). markWord m (getD l 8 0)) q ∙ mark-set (eqb m 1) (t .limits .userDenyOnly) in
-        let fc = ec ∙ ap (λ (l : List ℕ). without (getD l 13 0) removed) q in
-        let fd = ed ∙ ap (λ (l : List ℕ). without (getD l 14 0) removed) q in
-        let fe = ee ∙ ap (λ (l : List ℕ). without (getD l 15 0) removed) q in
-        λ i. set (set (set (set (set (set (set (set (q i) 0 n) 1 n) 6 1) 7 (fa i)) 8 (fb i)) 13 (fc i)) 14 (fd i)) 15 (fe i);
+    row = λ t e.
+        let fa = ea ∙ ap (λ (l : List ℕ). markWord m (getD l 7 0)) e ∙ mark-set (eqb m 1) (t .limits .writeRestricted) in
+        let fb = eb ∙ ap (λ (l : List ℕ). markWord m (getD l 8 0)) e ∙ mark-set (eqb m 1) (t .limits .userDenyOnly) in
+        let left = r ∙ ap (remove removed) (ap privilegesOf g ∙ privileges-in-row ws t e) in
+        let fw = w .row t e ∙ ap (λ (x : rules.Privileges). tokenRow (withPrivileges x t)) left in
+        λ i. set (set (set (set (set (fw i) 0 n) 1 n) 6 1) 7 (fa i)) 8 (fb i);
   };
-  long = simp length-set long;
+  long = simp length-set (kept ∙ long);
 }

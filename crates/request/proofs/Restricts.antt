@@ -35,14 +35,13 @@ use Rattle.request.specs.declared.outcome.Outcome.{Outcome}
 use Rattle.request.specs.declared.located.Located.{Located}
 use Rattle.request.specs.declared.restricted.Counts.{Counts}
 use Rattle.request.specs.Carried.{Ends}
-use Rattle.request.specs.Located.{TokenLocated}
 use Rattle.request.specs.Issue.{IssueRoom, RowIssued}
 use Rattle.request.specs.Copies.{RowCopied, Remade}
 use Rattle.request.specs.Restricting.{IndexesJudged, Packed, GroupsDenied, withSids, SidsAdded}
 use Rattle.request.specs.Restricts.{Lists, Counted, CountsAt, limitedTo, CopyMade, refusalNumber, hasRoom, RestrictRefusal, restrictedAs, RestrictedIssued, RestrictCarried}
 use Rattle.request.proofs.Deciding.{refuses, carried-as}
 use Rattle.request.proofs.Pairs.{Long, times-long}
-use Rattle.request.proofs.Locating.{not-located}
+use Rattle.request.proofs.Locating.{TokenLocated, not-located}
 use Rattle.request.proofs.Copying.{issues-made, on-located}
 
 -- ---- the counts of the token in a slot
@@ -175,7 +174,7 @@ goes-on true true σ rest e z = refl
 goes-on true false σ rest e z = absurd (omega arith)
 goes-on false room σ rest e z = absurd (omega arith)
 
-module _ {s n mark removed : ℕ} {body : List ℕ} {denyAt denyCount sidAt sidCount : ℕ} {hs : List Handle} {ss ts ds : List ℕ} (x : Located) (g : TokenLocated s n Mask.duplicate hs ts x) where
+module _ {s n mark removed : ℕ} {body : List ℕ} {denyAt denyCount sidAt sidCount : ℕ} {hs : List Handle} {ss ts ds : List ℕ} {token held : ℕ} {x : Located} (g : TokenLocated s n Mask.duplicate hs ts token held x) where
   pub restrict-unknown : {r : Outcome} → (x .refusal ≡ 0 → ⊥) → Ends (answers.Refused (x .refusal)) r
       → RestrictCarried s n mark removed body denyAt denyCount sidAt sidCount hs ss ts ds ss ts ds r
   unfolding restrict
@@ -184,11 +183,11 @@ module _ {s n mark removed : ℕ} {body : List ℕ} {denyAt denyCount sidAt sidC
   module _ (z : x .refusal ≡ 0) {k : Counts} (c : CountsAt (x .slot) ts k) {f : ℕ} (j : RestrictRefusal k mark removed body denyAt denyCount sidCount hs ss ts f) where
     -- the refusal, in the state
     refused : (deny sids : List ℕ) → Lists body denyAt denyCount sidAt sidCount deny sids → (σ : State) → valid σ ≡ true → PartsIn σ hs ss ts ds
-        → f ≡ refusalNumber (validRestrict (state.tokenOf σ (x .token)) mark removed deny) (hasRoom (state.tokenOf σ (x .token)) sids σ)
+        → f ≡ refusalNumber (validRestrict (state.tokenOf σ token) mark removed deny) (hasRoom (state.tokenOf σ token) sids σ)
     refused deny sids l σ v p =
-        let there = in-slot (x .token) (g .slot z) v (p .tokens) (g .inside) in
+        let there = in-slot token (g .slot z) v (p .tokens) (g .inside) in
         j .refusal deny (l .after) (l .denied) sids (subst (Long u32 sidCount) (l .added) (times-long u32 sidCount (drop sidAt body)))
-        (state.tokenOf σ (x .token)) (c .counted (state.tokenOf σ (x .token)) (there .isValid) (there .words)) σ v p
+        (state.tokenOf σ token) (c .counted (state.tokenOf σ token) (there .isValid) (there .words)) σ v p
 
     pub restrict-refused : {r : Outcome} → (f ≡ 0 → ⊥) → Ends (answers.Refused f) r → RestrictCarried s n mark removed body denyAt denyCount sidAt sidCount hs ss ts ds ss ts ds r
     unfolding restrict
@@ -196,12 +195,12 @@ module _ {s n mark removed : ℕ} {body : List ℕ} {denyAt denyCount sidAt sidC
       carried = λ deny sids l. on-located g z (go mark removed deny sids s) (λ h m. refuses f r e (j .small) (λ σ v p. stops _ _ σ _ (refused deny sids l σ v p) y));
     }
 
-    pub restricts : {ss′ ts′ ds′ : List ℕ} {r : Outcome} → f ≡ 0 → RestrictedIssued (x .slot) k mark removed body denyAt denyCount sidAt sidCount s (x .mask) hs ss ts ds ss′ ts′ ds′ r
+    pub restricts : {ss′ ts′ ds′ : List ℕ} {r : Outcome} → f ≡ 0 → RestrictedIssued (x .slot) k mark removed body denyAt denyCount sidAt sidCount s held hs ss ts ds ss′ ts′ ds′ r
         → RestrictCarried s n mark removed body denyAt denyCount sidAt sidCount hs ss ts ds ss′ ts′ ds′ r
     unfolding restrict restrictedAs
     restricts y i = record {
       carried = λ deny sids l. on-located g z (go mark removed deny sids s) (λ h m. carried-as
           (λ σ v p. goes-on _ _ σ _ (refused deny sids l σ v p) y
-          ∙ ap (λ (b : ℕ). carriedOut σ (issued s b (restricted (σ .tokens .next) mark removed deny sids (state.tokenOf σ (x .token))) σ)) (sym (m σ v p)))
-          (i .copy deny sids l c .carried (x .token) (g .slot z)));
+          ∙ ap (λ (b : ℕ). carriedOut σ (issued s b (restricted (σ .tokens .next) mark removed deny sids (state.tokenOf σ token)) σ)) (sym (m σ v p)))
+          (i .copy deny sids l c .carried token (g .slot z)));
     }

@@ -21,8 +21,8 @@ use Rattle.request.specs.declared.outcome.Outcome.{Outcome}
 use Rattle.request.specs.declared.answer.Answer.{Answer}
 use Rattle.request.specs.Answer.{answerOf}
 use Rattle.request.specs.Carried.{Ends, Carried}
-use Rattle.request.specs.Located.{TokenLocated}
 use Rattle.request.specs.Ending.{Ending, refused, becomes, tokenAfter, answered, served, RowEnds, RowsEnd}
+use Rattle.request.proofs.Locating.{TokenLocated}
 use Rattle.request.proofs.LookupLaws.{goes-on}
 use Rattle.request.proofs.Deciding.{ends-with}
 
@@ -58,9 +58,9 @@ module _ (n : ℕ) {i : ℕ} {ts ds : List ℕ} (at : FoundAt n ts i) {σ : Stat
 
 -- ---- the whole request
 
-module _ {s n right : ℕ} {hs : List Handle} {ss ts ds : List ℕ} {y : Located} (g : TokenLocated s n right hs ts y) (z : y .refusal ≡ 0)
+module _ {s n right : ℕ} {hs : List Handle} {ss ts ds : List ℕ} {token held : ℕ} {y : Located} (g : TokenLocated s n right hs ts token held y) (z : y .refusal ≡ 0)
     (go : State → handles.Handle → Token → Decision) (x : Token → Ending) (rule : Rule go x) where
-  decided : (σ : State) → valid σ ≡ true → PartsIn σ hs ss ts ds → carriedOut σ (withHandle σ s n right (go σ)) ≡ served σ (x (state.tokenOf σ (y .token)))
+  decided : (σ : State) → valid σ ≡ true → PartsIn σ hs ss ts ds → carriedOut σ (withHandle σ s n right (go σ)) ≡ served σ (x (state.tokenOf σ token))
   decided σ v p =
       goes-on σ s n right (go σ) (g .refusal σ v (p .handles) (p .tokens)) z
       ∙ rule σ (state.handleOf σ s n)
@@ -69,13 +69,13 @@ module _ {s n right : ℕ} {hs : List Handle} {ss ts ds : List ℕ} {y : Located
   -- the token in the row that is lent
   module _ (σ : State) (v : valid σ ≡ true) (p : PartsIn σ hs ss ts ds) where
     abbrev own : Token
-    own = state.tokenOf σ (y .token)
+    own = state.tokenOf σ token
 
     ok : tokenValid own ≡ true
-    ok = in-slot (y .token) (g .slot z) v (p .tokens) (g .inside) .isValid
+    ok = in-slot token (g .slot z) v (p .tokens) (g .inside) .isValid
 
     row : lent (y .slot) ts ≡ tokenRow own
-    row = lent-row (y .token) (g .slot z) v (p .tokens) (g .inside)
+    row = lent-row token (g .slot z) v (p .tokens) (g .inside)
 
     told : {ws : List ℕ} {a : Answer} → RowEnds x (lent (y .slot) ts) ws a → (ts′ ds′ : List ℕ) → answerOf ts′ ds′ a ≡ carriedOut σ (withHandle σ s n right (go σ)) .answer
     told e ts′ ds′ = e .answer own ok row ts′ ds′ ∙ sym (served-answer σ (x own)) ∙ sym (ap (λ (q : Served). q .answer) (decided σ v p))
@@ -87,7 +87,7 @@ module _ {s n right : ℕ} {hs : List Handle} {ss ts ds : List ℕ} {y : Located
   row-ends num dacl {ws} {a} e r w = ends-with a r w (λ σ v p. e .fit _ _)
       (λ σ v p. let t = own σ v p in
       rw (decided σ v p) (served-parts σ (x t) p
-      (words-after (y .token) (g .slot z) v (p .tokens) (g .inside) (x t) (num t) (dacl t) (e .row t (ok σ v p) (row σ v p)))))
+      (words-after token (g .slot z) v (p .tokens) (g .inside) (x t) (num t) (dacl t) (e .row t (ok σ v p) (row σ v p)))))
       (λ σ v p. told σ v p e _ _)
 
   -- it leaves the token's number
@@ -96,7 +96,7 @@ module _ {s n right : ℕ} {hs : List Handle} {ss ts ds : List ℕ} {y : Located
       → Carried (λ σ. withHandle σ s n right (go σ)) hs ss ts ds ss (back (y .slot) ws ts) (back-dacl (y .slot) bs ds) r
   rows-end num {ws} {bs} {a} e r w = ends-with a r w (λ σ v p. e .ends .fit _ _)
       (λ σ v p. let t = own σ v p in
-      let dacl = lent-dacl-row (y .token) (g .slot z) v (p .tokens) (g .inside) in
+      let dacl = lent-dacl-row token (g .slot z) v (p .tokens) (g .inside) in
       rw (decided σ v p) (served-parts σ (x t) p
-      (rows-after (y .token) (g .slot z) v (p .tokens) (g .inside) (x t) (num t) (e .ends .row t (ok σ v p) (row σ v p)) (e .dacl t (ok σ v p) (row σ v p) dacl))))
+      (rows-after token (g .slot z) v (p .tokens) (g .inside) (x t) (num t) (e .ends .row t (ok σ v p) (row σ v p)) (e .dacl t (ok σ v p) (row σ v p) dacl))))
       (λ σ v p. told σ v p (e .ends) _ _)

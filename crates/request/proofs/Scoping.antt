@@ -24,14 +24,12 @@ use Rattle.state.specs.TokenCalls.{FoundAt, WordsChanged, Held, Used}
 use Rattle.state.proofs.InPlace.{lent, back, words-changed, words-unchanged}
 use Rattle.state.specs.ReleaseFacts.{PartsIn}
 use Rattle.state.proofs.TokenFrames.{with-slots, with-tokens, used-stations, used-handles}
-use Rattle.request.specs.declared.lookup.Target.{Target}
 use Rattle.request.specs.declared.outcome.Outcome.{Outcome}
 use Rattle.request.specs.declared.answer.Answer.the-variants as answers
 use Rattle.request.specs.Carried.{Ends, Carried}
 use Rattle.request.specs.Scope.{ScopeApplied}
-use Rattle.request.specs.Lookup.{LookedUp}
 use Rattle.request.proofs.Deciding.{refuses, ends-with}
-use Rattle.request.proofs.LookupLaws.{looked-up, handle-refuses}
+use Rattle.request.proofs.LookupLaws.{LookedUp, looked-up, handle-refuses}
 
 -- ---- the effect
 
@@ -62,24 +60,24 @@ scope-applied {s = s} in8 m c = record {
 abbrev go : ℕ → ℕ → State → rules.Handle → Rules.Token → Decision
 go s v σ h t = need held σ s tcb else privilegeNotHeld then success (changeToken (h .token) (scopedToken v) (used tcb s σ)) []
 
-module _ {s n : ℕ} (v : ℕ) {hs : List Handle} {ss ts ds : List ℕ} {t : Target} (l : LookedUp s n adjustScope hs t) where
-  pub scope-handle-refused : {r : Outcome} → (t .refusal ≡ 0 → ⊥) → Ends (answers.Refused (t .refusal)) r
+module _ {s n : ℕ} (v : ℕ) {hs : List Handle} {ss ts ds : List ℕ} {h : Handle} {k : ℕ} (l : LookedUp s n adjustScope hs h k) where
+  pub scope-handle-refused : {r : Outcome} → (k ≡ 0 → ⊥) → Ends (answers.Refused k) r
       → Carried (λ σ. scope σ s n v) hs ss ts ds ss ts ds r
   unfolding scope
   scope-handle-refused {r} f e = handle-refuses l (go s v) r e f
 
-  module _ (found : t .refusal ≡ 0) {b : Bool} (h : Held tcb s ts ss b) where
+  module _ (found : k ≡ 0) {b : Bool} (is : Held tcb s ts ss b) where
     decided : (σ : State) → valid σ ≡ true → PartsIn σ hs ss ts ds
-        → carriedOut σ (scope σ s n v) ≡ carriedOut σ (need b else privilegeNotHeld then success (changeToken (t .handle .token) (scopedToken v) (used tcb s σ)) [])
+        → carriedOut σ (scope σ s n v) ≡ carriedOut σ (need b else privilegeNotHeld then success (changeToken (h .token) (scopedToken v) (used tcb s σ)) [])
     unfolding scope
     decided σ w p =
-        looked-up l σ w (p .handles) (go s v σ) found ∙ rw (sym (h .held σ w (p .tokens) (p .stations)))
+        looked-up l σ w (p .handles) (go s v σ) found ∙ rw (sym (is .held σ w (p .tokens) (p .stations)))
 
     pub scope-not-held : {r : Outcome} → not b ≡ true → Ends (answers.Refused 4) r → Carried (λ σ. scope σ s n v) hs ss ts ds ss ts ds r
     unfolding carriedOut refusal
     scope-not-held {r} f e = refuses 4 r e (omega arith) (λ σ w p. decided σ w p ∙ rw (not-true b f))
 
-    pub scope-changes : {r : Outcome} {ts′ : List ℕ} → not b ≡ false → ScopeApplied s (t .handle .token) v ts ss ts′ → Ends answers.Done r
+    pub scope-changes : {r : Outcome} {ts′ : List ℕ} → not b ≡ false → ScopeApplied s (h .token) v ts ss ts′ → Ends answers.Done r
         → Carried (λ σ. scope σ s n v) hs ss ts ds ss ts′ ds r
     unfolding carriedOut changeToken putToken
     scope-changes {r} f c e = ends-with answers.Done r e (λ σ w p. tt)

@@ -1,7 +1,7 @@
 -- Requests 9 and 10: a copy of the token in a slot, judged and issued. Assumes nothing.
 use Prim.Native.Nat.{ℕ, _<_}
 use mathlib.Core.Path.{_≡_}
-use mathlib.Core.Bool.{Bool}
+use mathlib.Core.Bool.{Bool, true}
 use mathlib.Core.List.{List}
 use lib.ListN.{length}
 use Rattle.table.specs.Table.{record-at}
@@ -13,6 +13,7 @@ use Rattle.rules.specs.Decision.{issued}
 use Rattle.rules.specs.Memory.{tokenWords}
 use Rattle.rules.specs.Duplicate as duplicates
 use Rattle.rules.specs.Duplicate.{validDuplicate}
+use Rattle.handle.specs.Words.{word16}
 use Rattle.handle.specs.declared.Handle.{Handle}
 use Rattle.token.specs.Meaning.{identityOf}
 use Rattle.token.specs.Row.{Becomes}
@@ -34,6 +35,8 @@ pub record Remade (f : rules.Token → rules.Token) (ws ws′ : List ℕ) : Type
 
 -- by the handle's mask and who the token is
 pub record DuplicateJudged (held : ℕ) (i : Identity) (type level mask : ℕ) (r : Bool) : Type 0 where
+  -- what a handle's width asks
+  pub narrow : r ≡ true → mask < word16
   pub judged : (h : rules-handle.Handle) (t : rules.Token) → held ≡ h .mask → identityOf i ≡ t .identity → r ≡ validDuplicate h t type level mask
 
 -- the copies, by the next number last but the token

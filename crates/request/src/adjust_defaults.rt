@@ -10,10 +10,11 @@ ghost use Rattle.request.specs.Defaults.{DefaultsCarried};
 use crate::defaults;
 use crate::fields::DefaultsFields;
 use crate::located::locate;
+use crate::lookup::mask_of;
 use crate::outcome;
 use crate::outcome::Outcome;
 use handle::HANDLE_WORDS;
-use privilege::mask::Mask;
+use state::handles::find_handle;
 use token::layout::MAX_DACL;
 use token::layout::TOKEN_WORDS;
 
@@ -30,7 +31,8 @@ pub fn adjust_defaults(
     requires { ⌜ Lent (now tokens) (now dacls) (now stations) × (f .at ≤ length (now s)) × There byte (now s) (f .at) (f .size) [] ⌝ }
     ensures { λ r. ⌜ DefaultsCarried station (f .handle) (f .owner) (f .group) (f .flag) (valuesAt byte (now (s .entry)) (f .at) (f .size)) (recordsIn (now (handles .entry))) (now (stations .entry)) (now (tokens .entry)) (now (dacls .entry)) (now (stations .entry)) (now (tokens .exit)) (now (dacls .exit)) r ⌝ }
 {
-    let x = locate(station, f.handle, Mask::ADJUST_DEFAULT, handles, tokens);
+    let found = find_handle(station, f.handle, handles);
+    let x = locate(found, mask_of(found).may_adjust_default(), tokens);
     if x.refusal != 0 {
         return outcome::refused(x.refusal);
     }

@@ -10,11 +10,12 @@ ghost use Rattle.request.specs.Switching.{RowSwitched};
 use crate::answer::Answer;
 use crate::fields::EntriesFields;
 use crate::groups;
-use crate::located;
+use crate::located::locate;
+use crate::lookup::mask_of;
 use crate::outcome;
 use crate::outcome::Outcome;
 use handle::HANDLE_WORDS;
-use privilege::mask::Mask;
+use state::handles::find_handle;
 use token::layout::GROUP_COUNT;
 use token::layout::HEAD_WORDS;
 use token::layout::MAX_GROUPS;
@@ -48,7 +49,8 @@ pub fn adjust_groups(
     requires { ⌜ Lent (now tokens) (now dacls) (now stations) ⌝ }
     ensures { λ r. ⌜ EntriesCarried adjust station (f .handle) (now (s .entry)) (f .at) (f .count) (recordsIn (now (handles .entry))) (now (stations .entry)) (now (tokens .entry)) (now (dacls .entry)) (now (stations .entry)) (now (tokens .exit)) (now (dacls .entry)) r ⌝ }
 {
-    let x = located::locate(station, f.handle, Mask::ADJUST_GROUPS, handles, tokens);
+    let found = find_handle(station, f.handle, handles);
+    let x = locate(found, mask_of(found).may_adjust_groups(), tokens);
     if x.refusal != 0 {
         return outcome::refused(x.refusal);
     }

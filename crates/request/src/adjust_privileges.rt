@@ -11,13 +11,14 @@ ghost use Rattle.request.specs.Adjusting.{privilegesEnding};
 ghost use Rattle.request.specs.Adjusts.{EntriesCarried};
 use crate::answer::Answer;
 use crate::fields::EntriesFields;
-use crate::located;
+use crate::located::locate;
+use crate::lookup::mask_of;
 use crate::outcome;
 use crate::outcome::Outcome;
 use crate::privileges;
 use crate::refusal;
 use handle::HANDLE_WORDS;
-use privilege::mask::Mask;
+use state::handles::find_handle;
 use token::layout::TOKEN_WORDS;
 use token::row;
 
@@ -49,7 +50,8 @@ pub fn adjust_privileges(
     requires { ⌜ Lent (now tokens) (now dacls) (now stations) ⌝ }
     ensures { λ r. ⌜ EntriesCarried adjust station (f .handle) (now (s .entry)) (f .at) (f .count) (recordsIn (now (handles .entry))) (now (stations .entry)) (now (tokens .entry)) (now (dacls .entry)) (now (stations .entry)) (now (tokens .exit)) (now (dacls .entry)) r ⌝ }
 {
-    let x = located::locate(station, f.handle, Mask::ADJUST_PRIVILEGES, handles, tokens);
+    let found = find_handle(station, f.handle, handles);
+    let x = locate(found, mask_of(found).may_adjust_privileges(), tokens);
     if x.refusal != 0 {
         return outcome::refused(x.refusal);
     }

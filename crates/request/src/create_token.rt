@@ -74,7 +74,16 @@ fn issue_created(
     used(Privileges::CREATE_TOKEN, station, tokens, stations);
     let all = Mask::ALL;
     let dacl = [0u8; MAX_DACL];
-    issue_row(station, all.0, row, &dacl, handles, tokens, dacls, stations)
+    issue_row(
+        station,
+        all.0 as u16,
+        row,
+        &dacl,
+        handles,
+        tokens,
+        dacls,
+        stations,
+    )
 }
 
 pub fn create_token(

@@ -1,27 +1,26 @@
 // Request 8: the default DACL, written in its row as it stands in a body.
 ghost use mathlib.Core.Path.{_≡_};
 ghost use mathlib.Core.List.{[]};
-ghost use Prim.Native.Nat.{_≤_};
-ghost use lib.ListN.{length};
+ghost use Prim.Native.Nat.{_+_, _≤_};
+ghost use lib.ListN.{length, take, drop};
 ghost use Rattle.table.specs.Lists.{pad};
 ghost use Rattle.rules.specs.Token.{maxDacl};
 ghost use Rattle.rules.specs.Memory.{tokenWords};
 ghost use Rattle.rules.specs.Request.{byte};
 ghost use Rattle.request.specs.Layout.{valuesAt, There};
 ghost use Rattle.request.specs.Bytes.{DaclWritten};
-use table::slices::copy_bytes;
+use number::bytes_at;
 use table::slices::zero_bytes;
 use token::layout::DACL_COUNT;
 use token::layout::MAX_DACL;
 
-// The bytes, and then zeros.
-fn store(src: &[u8], out: &mut [u8])
-    requires { ⌜ (length (now src) ≤ maxDacl) × (length (now out) ≡ maxDacl) ⌝ }
-    ensures { λ _. ⌜ now (out .exit) ≡ pad maxDacl (now (src .entry)) ⌝ }
+// The bytes that stand at a place of a body, and then zeros.
+fn store(s: &[u8], at: usize, size: usize, out: &mut [u8])
+    requires { ⌜ (at + size ≤ length (now s)) × (size ≤ maxDacl) × (length (now out) ≡ maxDacl) ⌝ }
+    ensures { λ _. ⌜ now (out .exit) ≡ pad maxDacl (take size (drop at (now (s .entry)))) ⌝ }
 {
-    let n = src.len();
-    copy_bytes(src, &mut out[0..n]);
-    zero_bytes(MAX_DACL - n, &mut out[n..MAX_DACL]);
+    bytes_at(s, at, &mut out[0..size]);
+    zero_bytes(MAX_DACL - size, &mut out[size..MAX_DACL]);
 }
 
 // The bytes from a place of a body on, to its end, are the DACL; its length is a word of the token's row.
@@ -30,6 +29,5 @@ pub fn write(s: &[u8], at: usize, size: usize, words: &mut [u64], dacl: &mut [u8
     ensures { λ _. ⌜ DaclWritten (valuesAt byte (now (s .entry)) at size) (now (words .entry)) (now (words .exit)) (now (dacl .exit)) ⌝ }
 {
     words[DACL_COUNT] = size as u64;
-    let end = at + size;
-    store(&s[at..end], dacl);
+    store(s, at, size, dacl);
 }

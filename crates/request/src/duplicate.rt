@@ -14,12 +14,14 @@ use crate::copies;
 use crate::fields::DuplicateFields;
 use crate::issue::can_issue;
 use crate::issue::issue_row;
-use crate::located;
+use crate::located::locate;
+use crate::lookup::mask_of;
 use crate::outcome;
 use crate::outcome::Outcome;
 use crate::refusal;
 use handle::HANDLE_WORDS;
 use privilege::mask::Mask;
+use state::handles::find_handle;
 use state::tokens::identity_at;
 use state::tokens::next_token;
 use token::Identity;
@@ -33,8 +35,8 @@ const IMPERSONATION: u32 = 2;
 const ANONYMOUS: u32 = 7;
 
 // By a handle of mask `held`, of a token that is `source`.
-fn valid_duplicate(held: u32, source: Identity, kind: u32, level: u32, mask: u32) -> bool
-    ensures { λ r. ⌜ DuplicateJudged held source kind level mask r ⌝ }
+fn valid_duplicate(held: Mask, source: Identity, kind: u32, level: u32, mask: u32) -> bool
+    ensures { λ r. ⌜ DuplicateJudged (held .0) source kind level mask r ⌝ }
 {
     let asked = Mask(mask);
     let both = (source.kind as u32 == IMPERSONATION) & (kind == IMPERSONATION);
@@ -42,7 +44,7 @@ fn valid_duplicate(held: u32, source: Identity, kind: u32, level: u32, mask: u32
         & (level <= 3)
         & (!both | (level <= source.level as u32))
         & asked.valid()
-        & asked.within(Mask(held))
+        & asked.within(held)
 }
 
 // ---- the copy of the token in a slot, where there is room for it
@@ -61,7 +63,7 @@ fn relabel(words: &mut [u64; TOKEN_WORDS], n: u64, kind: u32, level: u32)
 
 fn issue_copy(
     station: u32,
-    mask: u32,
+    mask: u16,
     slot: usize,
     kind: u32,
     level: u32,
@@ -70,7 +72,7 @@ fn issue_copy(
     dacls: &mut [u8],
     stations: &mut [u64],
 ) -> Outcome
-    requires { ⌜ Lent (now tokens) (now dacls) (now stations) × (slot < tokenSlots) × NumbersLeft (now stations) ⌝ }
+    requires { ⌜ Lent (now tokens) (now dacls) (now stations) × (slot < tokenSlots) × NumbersLeft (now stations) × (station < stationCount) ⌝ }
     ensures { λ r. ⌜ CopyIssued (copiedAs kind level) slot station mask (recordsIn (now (handles .entry))) (now (stations .entry)) (now (tokens .entry)) (now (dacls .entry)) (now (stations .exit)) (now (tokens .exit)) (now (dacls .exit)) r ⌝ }
 {
     let n = next_token(stations);
@@ -92,14 +94,14 @@ fn issue_copy(
 // Nothing is kept but the used privileges.
 fn issue_anonymous(
     station: u32,
-    mask: u32,
+    mask: u16,
     slot: usize,
     handles: &[u64; HANDLE_WORDS],
     tokens: &mut [u64],
     dacls: &mut [u8],
     stations: &mut [u64],
 ) -> Outcome
-    requires { ⌜ Lent (now tokens) (now dacls) (now stations) × (slot < tokenSlots) × NumbersLeft (now stations) ⌝ }
+    requires { ⌜ Lent (now tokens) (now dacls) (now stations) × (slot < tokenSlots) × NumbersLeft (now stations) × (station < stationCount) ⌝ }
     ensures { λ r. ⌜ CopyIssued rules.anonymousCopy slot station mask (recordsIn (now (handles .entry))) (now (stations .entry)) (now (tokens .entry)) (now (dacls .entry)) (now (stations .exit)) (now (tokens .exit)) (now (dacls .exit)) r ⌝ }
 {
     let at = slot * TOKEN_WORDS;
@@ -129,7 +131,7 @@ fn issue_anonymous(
 // Only the type and level asked for make an anonymous copy; to primary, the level becomes 0.
 fn issue_duplicate(
     station: u32,
-    mask: u32,
+    mask: u16,
     slot: usize,
     kind: u32,
     level: u32,
@@ -138,7 +140,7 @@ fn issue_duplicate(
     dacls: &mut [u8],
     stations: &mut [u64],
 ) -> Outcome
-    requires { ⌜ Lent (now tokens) (now dacls) (now stations) × (slot < tokenSlots) × NumbersLeft (now stations) ⌝ }
+    requires { ⌜ Lent (now tokens) (now dacls) (now stations) × (slot < tokenSlots) × NumbersLeft (now stations) × (station < stationCount) ⌝ }
     ensures { λ r. ⌜ CopyIssued (duplicatedAs kind level) slot station mask (recordsIn (now (handles .entry))) (now (stations .entry)) (now (tokens .entry)) (now (dacls .entry)) (now (stations .exit)) (now (tokens .exit)) (now (dacls .exit)) r ⌝ }
 {
     let anonymous = (kind != PRIMARY) & (level == 0);
@@ -184,12 +186,14 @@ pub fn duplicate(
     requires { ⌜ Lent (now tokens) (now dacls) (now stations) × (station < stationCount) ⌝ }
     ensures { λ r. ⌜ Carried (λ σ. rules.duplicate σ station (f .handle) (f .kind) (f .level) (f .mask)) (recordsIn (now (handles .entry))) (now (stations .entry)) (now (tokens .entry)) (now (dacls .entry)) (now (stations .exit)) (now (tokens .exit)) (now (dacls .exit)) r ⌝ }
 {
-    let x = located::locate(station, f.handle, Mask::DUPLICATE, handles, tokens);
+    let found = find_handle(station, f.handle, handles);
+    let mask = mask_of(found);
+    let x = locate(found, mask.may_duplicate(), tokens);
     if x.refusal != 0 {
         return outcome::refused(x.refusal);
     }
     let source = identity_at(x.slot, tokens);
-    if !valid_duplicate(x.mask, source, f.kind, f.level, f.mask) {
+    if !valid_duplicate(mask, source, f.kind, f.level, f.mask) {
         return outcome::refused(refusal::BAD_FIELD);
     }
     if !can_issue(handles, tokens, stations) {
@@ -197,7 +201,7 @@ pub fn duplicate(
     }
     issue_duplicate(
         station,
-        f.mask,
+        f.mask as u16,
         x.slot,
         f.kind,
         f.level,

@@ -11,13 +11,14 @@ ghost use Rattle.state.specs.StationFacts.{stationsSize};
 ghost use Rattle.request.specs.Carried.{Carried};
 ghost use Rattle.request.specs.Install.{Matching, Checked, MarksUsed, Placed};
 use crate::answer::Answer;
-use crate::lookup::lookup;
+use crate::lookup::handle_refusal;
+use crate::lookup::mask_of;
 use crate::outcome;
 use crate::outcome::Outcome;
 use crate::refusal;
 use handle::HANDLE_WORDS;
-use privilege::mask::Mask;
 use privilege::privileges::Privileges;
+use state::handles::find_handle;
 use state::release;
 use state::stations::caller_number;
 use state::tokens::held;
@@ -96,11 +97,12 @@ pub fn install(
     requires { ⌜ Lent (now tokens) (now dacls) (now stations) × (station < stationCount) ⌝ }
     ensures { λ r. ⌜ Carried (λ σ. rules.install σ station number) (recordsIn (now (handles .entry))) (now (stations .entry)) (now (tokens .entry)) (now (dacls .entry)) (now (stations .exit)) (now (tokens .exit)) (now (dacls .exit)) r ⌝ }
 {
-    let target = lookup(station, number, Mask::ASSIGN_PRIMARY, handles);
-    if target.refusal != 0 {
-        return outcome::refused(target.refusal);
+    let found = find_handle(station, number, handles);
+    let refused = handle_refusal(found, mask_of(found).may_assign_primary());
+    if refused != 0 {
+        return outcome::refused(refused);
     }
-    let token = target.handle.token;
+    let token = found.token;
     let same = matching(token, station, tokens, stations);
     let refusal = refusal_of(same, token, station, tokens, stations);
     if refusal != 0 {

@@ -1,9 +1,9 @@
 // What requests 3, 9 and 10 end with: a new token, and a handle on it.
 ghost use mathlib.Core.Path.{_≡_};
-ghost use Prim.Native.Nat.{_*_};
+ghost use Prim.Native.Nat.{_*_, _<_};
 ghost use lib.ListN.{length};
 ghost use Rattle.rules.specs.Token.{maxDacl};
-ghost use Rattle.rules.specs.State.{tokenSlots};
+ghost use Rattle.rules.specs.State.{tokenSlots, stationCount};
 ghost use Rattle.rules.specs.Memory.{tokenWords};
 ghost use Rattle.handle.specs.Words.{recordsIn};
 ghost use Rattle.state.specs.Parts.{Lent};
@@ -31,7 +31,7 @@ pub fn can_issue(handles: &[u64; HANDLE_WORDS], tokens: &[u64], stations: &[u64]
 // A new token by its rows, and a handle on it.
 pub fn issue_row(
     station: u32,
-    mask: u32,
+    mask: u16,
     words: &[u64],
     bytes: &[u8],
     handles: &[u64; HANDLE_WORDS],
@@ -39,7 +39,7 @@ pub fn issue_row(
     dacls: &mut [u8],
     stations: &mut [u64],
 ) -> Outcome
-    requires { ⌜ Lent (now tokens) (now dacls) (now stations) × (length (now words) ≡ tokenWords) × (length (now bytes) ≡ maxDacl) × NumbersLeft (now stations) ⌝ }
+    requires { ⌜ Lent (now tokens) (now dacls) (now stations) × (length (now words) ≡ tokenWords) × (length (now bytes) ≡ maxDacl) × NumbersLeft (now stations) × (station < stationCount) ⌝ }
     ensures { λ r. ⌜ RowIssued station mask (now (words .entry)) (now (bytes .entry)) (recordsIn (now (handles .entry))) (now (stations .entry)) (now (tokens .entry)) (now (dacls .entry)) (now (stations .exit)) (now (tokens .exit)) (now (dacls .exit)) r ⌝ }
 {
     add_row(words, bytes, tokens, dacls, stations);

@@ -1,39 +1,22 @@
-// The handle that a request names.
+// The handle that a request names: its mask, and what it is refused for.
 ghost use mathlib.Core.Path.{_≡_};
-ghost use Rattle.handle.specs.Words.{recordsIn};
-ghost use Rattle.request.specs.Lookup.{handleRefusal, LookedUp};
+ghost use Rattle.request.specs.Lookup.{handleRefusal};
 use crate::refusal;
-use handle::HANDLE_WORDS;
 use handle::Handle;
 use privilege::mask::Mask;
-use state::handles::find_handle;
 
-// The handle, and the refusal that it brings: 0 if there is none.
-pub struct Target {
-    pub refusal: u64,
-    pub handle: Handle,
+pub fn mask_of(h: Handle) -> Mask
+    ensures { λ r. ⌜ r .0 ≡ h .mask ⌝ }
+{
+    Mask(h.mask as u32)
 }
 
-// It is not the station's live handle, or lacks the right.
-fn refusal_of(found: Handle, right: Mask) -> u64
-    ensures { λ r. ⌜ r ≡ handleRefusal found (right .0) ⌝ }
+// It is not the station's live handle, or its mask does not permit the request: 0 if neither.
+pub fn handle_refusal(found: Handle, permitted: bool) -> u64
+    ensures { λ r. ⌜ r ≡ handleRefusal found permitted ⌝ }
 {
     if found.number == 0 {
         return refusal::NOT_A_LIVE_HANDLE;
     }
-    let mask = Mask(found.mask);
-    if mask.permits(right) {
-        return 0;
-    }
-    refusal::RIGHT_MISSING
-}
-
-pub fn lookup(station: u32, number: u32, right: Mask, handles: &[u64; HANDLE_WORDS]) -> Target
-    ensures { λ r. ⌜ LookedUp station number (right .0) (recordsIn (now (handles .entry))) r ⌝ }
-{
-    let found = find_handle(station, number, handles);
-    Target {
-        refusal: refusal_of(found, right),
-        handle: found,
-    }
+    if permitted { 0 } else { refusal::RIGHT_MISSING }
 }

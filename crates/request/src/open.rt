@@ -34,7 +34,7 @@ pub fn open_own(
         return outcome::refused(refusal::TABLE_FULL);
     }
     let own = caller_number(station, stations);
-    let change = add_handle(station, own, mask, handles, stations);
+    let change = add_handle(station, own, mask as u16, handles, stations);
     Outcome {
         answer: Answer::Value(change.handle.number as u64),
         change: change,

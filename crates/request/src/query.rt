@@ -12,12 +12,13 @@ ghost use Rattle.request.specs.Query.{ClassAnswered};
 use crate::answer::Answer;
 use crate::class::size;
 use crate::fields::QueryFields;
-use crate::lookup::lookup;
+use crate::lookup::handle_refusal;
+use crate::lookup::mask_of;
 use crate::outcome;
 use crate::outcome::Outcome;
 use crate::refusal;
 use handle::HANDLE_WORDS;
-use privilege::mask::Mask;
+use state::handles::find_handle;
 use token::layout::TOKEN_SLOTS;
 use token::layout::TOKEN_WORDS;
 use token::slots;
@@ -55,15 +56,11 @@ pub fn query(
     requires { ⌜ Lent (now tokens) (now dacls) (now stations) ⌝ }
     ensures { λ r. ⌜ Carried (λ σ. rules.query σ station (f .handle) (f .class) (f .capacity)) (recordsIn (now (handles .entry))) (now (stations .entry)) (now (tokens .entry)) (now (dacls .entry)) (now (stations .entry)) (now (tokens .entry)) (now (dacls .entry)) r ⌝ }
 {
-    let target = lookup(station, f.handle, Mask::QUERY, handles);
-    if target.refusal != 0 {
-        return outcome::refused(target.refusal);
+    let found = find_handle(station, f.handle, handles);
+    let refused = handle_refusal(found, mask_of(found).may_query());
+    if refused != 0 {
+        return outcome::refused(refused);
     }
-    let answer = class_of(
-        target.handle.token,
-        f.class as u64,
-        f.capacity as u64,
-        tokens,
-    );
+    let answer = class_of(found.token, f.class as u64, f.capacity as u64, tokens);
     outcome::ends(answer)
 }

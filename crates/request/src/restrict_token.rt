@@ -14,7 +14,8 @@ use crate::copies;
 use crate::fields::RestrictFields;
 use crate::issue::can_issue;
 use crate::issue::issue_row;
-use crate::located;
+use crate::located::locate;
+use crate::lookup::mask_of;
 use crate::outcome;
 use crate::outcome::Outcome;
 use crate::refusal;
@@ -22,9 +23,9 @@ use crate::restrict::valid_indexes;
 use crate::restricted;
 use crate::restricted::Counts;
 use handle::HANDLE_WORDS;
-use privilege::mask::Mask;
 use privilege::privileges::Privileges;
 use privilege::words;
+use state::handles::find_handle;
 use state::tokens::next_token;
 use token::layout::MAX_RESTRICTING;
 
@@ -57,7 +58,7 @@ fn refusal_of(
 // Of the token in a slot, where nothing speaks against it.
 fn issue_restricted(
     station: u32,
-    mask: u32,
+    mask: u16,
     slot: usize,
     counts: Counts,
     f: RestrictFields,
@@ -67,7 +68,7 @@ fn issue_restricted(
     dacls: &mut [u8],
     stations: &mut [u64],
 ) -> Outcome
-    requires { ⌜ Lent (now tokens) (now dacls) (now stations) × (slot < tokenSlots) × NumbersLeft (now stations) × (counts .groups ≤ maxGroups) × (counts .restricting + f .«sid_count» ≤ maxRestricting) ⌝ }
+    requires { ⌜ Lent (now tokens) (now dacls) (now stations) × (slot < tokenSlots) × NumbersLeft (now stations) × (station < stationCount) × (counts .groups ≤ maxGroups) × (counts .restricting + f .«sid_count» ≤ maxRestricting) ⌝ }
     ensures { λ r. ⌜ RestrictedIssued slot counts (f .mark) (f .removed) (now (s .entry)) (f .«deny_at») (f .«deny_count») (f .«sid_at») (f .«sid_count») station mask (recordsIn (now (handles .entry))) (now (stations .entry)) (now (tokens .entry)) (now (dacls .entry)) (now (stations .exit)) (now (tokens .exit)) (now (dacls .exit)) r ⌝ }
 {
     let n = next_token(stations);
@@ -98,7 +99,8 @@ pub fn restrict_token(
     requires { ⌜ Lent (now tokens) (now dacls) (now stations) × (station < stationCount) ⌝ }
     ensures { λ r. ⌜ RestrictCarried station (f .handle) (f .mark) (f .removed) (now (s .entry)) (f .«deny_at») (f .«deny_count») (f .«sid_at») (f .«sid_count») (recordsIn (now (handles .entry))) (now (stations .entry)) (now (tokens .entry)) (now (dacls .entry)) (now (stations .exit)) (now (tokens .exit)) (now (dacls .exit)) r ⌝ }
 {
-    let x = located::locate(station, f.handle, Mask::DUPLICATE, handles, tokens);
+    let found = find_handle(station, f.handle, handles);
+    let x = locate(found, mask_of(found).may_duplicate(), tokens);
     if x.refusal != 0 {
         return outcome::refused(x.refusal);
     }
@@ -109,7 +111,7 @@ pub fn restrict_token(
     }
     issue_restricted(
         station,
-        x.mask,
+        found.mask,
         x.slot,
         counts,
         f,

@@ -10,7 +10,6 @@ ghost use Rattle.request.specs.Restricts.{CountsAt, markWord, limitedTo,
 use crate::fields::RestrictFields;
 use crate::restrict::add_sids;
 use crate::restrict::deny;
-use privilege::words::without;
 use token::layout::*;
 use token::row;
 
@@ -49,17 +48,13 @@ fn limit(words: &mut [u64; TOKEN_WORDS], n: u64, mark: u32, removed: u64)
 {
     let write = marked(mark, words[WRITE_RESTRICTED]);
     let deny = marked(mark, words[USER_DENY_ONLY]);
-    let present = without(words[PRESENT], removed);
-    let enabled = without(words[ENABLED], removed);
-    let by_default = without(words[BY_DEFAULT], removed);
+    let left = row::privileges_in(words).remove(removed);
+    row::set_privileges(words, left);
     words[NUMBER] = n;
     words[MODIFIED] = n;
     words[ELEVATION] = 1;
     words[WRITE_RESTRICTED] = write;
     words[USER_DENY_ONLY] = deny;
-    words[PRESENT] = present;
-    words[ENABLED] = enabled;
-    words[BY_DEFAULT] = by_default;
 }
 
 // The indexes to deny and the restricting SIDs stand in the body.

@@ -14,13 +14,14 @@ ghost use Rattle.handle.specs.Words.{recordsIn};
 ghost use Rattle.request.specs.Scope.{ScopeApplied};
 use crate::answer::Answer;
 use crate::fields::ScopeFields;
-use crate::lookup::lookup;
+use crate::lookup::handle_refusal;
+use crate::lookup::mask_of;
 use crate::outcome;
 use crate::outcome::Outcome;
 use crate::refusal;
 use handle::HANDLE_WORDS;
-use privilege::mask::Mask;
 use privilege::privileges::Privileges;
+use state::handles::find_handle;
 use state::tokens::held;
 use state::tokens::used;
 use token::layout::TOKEN_SLOTS;
@@ -69,13 +70,14 @@ pub fn scope(
     requires { ⌜ Lent (now tokens) (now dacls) (now stations) × (station < stationCount) ⌝ }
     ensures { λ r. ⌜ Carried (λ σ. rules.scope σ station (f .handle) (f .value)) (recordsIn (now (handles .entry))) (now (stations .entry)) (now (tokens .entry)) (now (dacls .entry)) (now (stations .entry)) (now (tokens .exit)) (now (dacls .entry)) r ⌝ }
 {
-    let target = lookup(station, f.handle, Mask::ADJUST_SCOPE, handles);
-    if target.refusal != 0 {
-        return outcome::refused(target.refusal);
+    let found = find_handle(station, f.handle, handles);
+    let refused = handle_refusal(found, mask_of(found).may_adjust_scope());
+    if refused != 0 {
+        return outcome::refused(refused);
     }
     if !held(Privileges::TCB, station, tokens, stations) {
         return outcome::refused(refusal::PRIVILEGE_NOT_HELD);
     }
-    apply(station, target.handle.token, f.value, tokens, stations);
+    apply(station, found.token, f.value, tokens, stations);
     outcome::ends(Answer::Done)
 }

@@ -40,7 +40,9 @@ use Rattle.rules.specs.Serve.{rule, decided, decision, serve}
 use Rattle.rules.specs.State.{withTokens, numberOf, tokenOf, putToken, changeToken, used, handleOf, State}
 use Rattle.rules.specs.Token.{primary, impersonation, sidAt, Token}
 use Rattle.rules.specs.Valid.{is32, is64, between, identityValid, groupValid, groupsValid, limitsValid, defaultsValid}
+use Rattle.rules.specs.Ladder.{status}
 use Rattle.rules.specs.Throughout.{IsAnswer}
+use Rattle.rules.specs.AnyMemory.{statusesIn, statuses}
 use Rattle.rules.proofs.Logic.{and-l, and-r, all-mem, map-mem, member-mem}
 use Rattle.rules.proofs.Bits.{within-trans, within-le}
 use Rattle.rules.proofs.Numbers.{encode-width}
@@ -338,9 +340,24 @@ frame-fits body h = let l = encode-width 14 1 (length body) (omega arith) (omega
 answer : (body : List ℕ) → 1 ≤ length body → length body ≤ suc most → IsAnswer (frame body)
 answer body low high = record { body = body; framing = refl; isFrame = frame-whole body low (omega arith); fits = frame-fits body high }
 
+answer-status : (body : List ℕ) → 1 ≤ length body → length body ≤ suc most → statuses (frame body) ≡ getD body 0 0 ∷ []
+unfolding statuses statusesIn
+answer-status body low high = rw (frame-whole body low (omega arith)) (first body low)
+  where
+    first : (xs : List ℕ) → 1 ≤ length xs → take 1 xs ≡ getD xs 0 0 ∷ []
+    first [] l = absurd (omega arith)
+    first (x ∷ xs) l = refl
+
 pub serve-answers : (σ : State) (s : ℕ) (body : List ℕ) → StateFacts σ → IsAnswer (frame (serve σ s body .answer))
 unfolding serve decision
 serve-answers σ s body f = let x = decided σ s (parse body) in answer (carriedOut σ x .answer) (some σ x) (fits σ x (by-read σ f s (parse body)))
 
+pub serve-status : (σ : State) (s : ℕ) (body : List ℕ) → StateFacts σ → statuses (frame (serve σ s body .answer)) ≡ status (serve σ s body) ∷ []
+unfolding serve decision status
+serve-status σ s body f = let x = decided σ s (parse body) in answer-status (carriedOut σ x .answer) (some σ x) (fits σ x (by-read σ f s (parse body)))
+
 pub break-answers : IsAnswer (frame (streamBroken ∷ []))
 break-answers = answer (streamBroken ∷ []) (omega arith) (omega arith)
+
+pub break-status : statuses (frame (streamBroken ∷ [])) ≡ streamBroken ∷ []
+break-status = answer-status (streamBroken ∷ []) (omega arith) (omega arith)

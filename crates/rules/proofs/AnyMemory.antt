@@ -1,29 +1,38 @@
--- Every call, on any memory: what it answers fits, and a refusal does nothing. Assumes nothing.
+-- Every call, on any memory: what it answers fits, a refusal does nothing, and only a request answered 0 alters a right. Assumes nothing.
 use Prim.Native.Nat.{ℕ, zero, suc, _+_, _≤_}
 use native.Mathlib.Omega.{arith}
-use mathlib.Core.Path.{_≡_, refl, sym, ap, _∙_, subst}
+use mathlib.Core.Path.{_≡_, refl, sym, ap, ap₂, _∙_, subst}
 use mathlib.Core.Bool.{true}
 use mathlib.Core.Logic.{_⊎_, inl, inr, ⊎-elim}
-use mathlib.Core.List.{List, [], _∷_, _++_}
+use mathlib.Core.List.{List, [], _∷_, _++_, map}
 use lib.Dec.{leb, ltb}
 use lib.ListN.{length}
+use Rattle.table.specs.Table.{flat}
+use Rattle.table.specs.Column.{column}
 use Rattle.rules.specs.Basic.{changeAt}
-use Rattle.rules.specs.Refusal.{noStation, shortBuffer, invalidMemory}
-use Rattle.rules.specs.State.{State, stationCount, stationAt, withStations, changeStation}
-use Rattle.rules.specs.Station.{cleared, withPending}
-use Rattle.rules.specs.Frame.{maxAnswer, framed, Framed, part, broken, whole}
+use Rattle.rules.specs.Refusal.{streamBroken, noStation, shortBuffer, invalidMemory}
+use Rattle.rules.specs.Table.{Table}
+use Rattle.rules.specs.Token.{Token}
+use Rattle.rules.specs.Handle.{Handle}
+use Rattle.rules.specs.Station.{Station, cleared, withPending}
+use Rattle.rules.specs.State.{State, start, stationCount, stationAt, withStations, changeStation, stationToken}
+use Rattle.rules.specs.Serve.{serve}
+use Rattle.rules.specs.Frame.{maxAnswer, frame, lengthOf, framedBy, framed, Framed, part, broken, whole}
 use Rattle.rules.specs.Model.{Result, Step, silent, answers, joined, byteAt, step, fedOn, fedFrom, reconnect}
-use Rattle.rules.specs.Memory.{Memory, decode, valid}
-use Rattle.rules.specs.Run.{Call, feeds, reconnects, returned, ofBytes}
+use Rattle.rules.specs.Memory.{Memory, stationWords, slotRow, slotDacl, slotHandle, stationRow, encode, decode, valid}
+use Rattle.rules.specs.Run.{Call, feeds, reconnects, returned, ofBytes, SameRights}
 use Rattle.rules.specs.Growth.{Mem, here, there}
 use Rattle.rules.specs.Calls.{Done, refusedOn, written, feedOn, reconnectOn}
 use Rattle.rules.specs.Throughout.{IsAnswer}
 use Rattle.rules.specs.WholeList.{doneBy}
-use Rattle.rules.specs.AnyMemory.{AnyMemory}
+use Rattle.rules.specs.AnyMemory.{statusesIn, statuses, counters, primaries, LeftAlone, AnyMemory}
+use Rattle.rules.proofs.Logic.{mem-none}
 use Rattle.rules.proofs.Tables.{on-if}
 use Rattle.rules.proofs.Facts.{StateFacts, valid-facts, facts-valid}
 use Rattle.rules.proofs.Always.{clears}
-use Rattle.rules.proofs.Answers.{serve-answers, break-answers}
+use Rattle.rules.proofs.Ladder.{served-status, ladder}
+use Rattle.rules.proofs.Answers.{serve-answers, serve-status, break-answers, break-status}
+use Rattle.rules.proofs.Served.{rights-refl, rights-sym, rights-trans, cleared-rights, broken-rights}
 use Rattle.rules.proofs.Memory.{valid-written, valid-state, written-valid}
 use Rattle.rules.proofs.WholeList.{call-done, call-valid, fed-taken}
 
@@ -39,19 +48,45 @@ pending-gone : (p : State) (s : ℕ) (bytes : List ℕ) → changeStation s clea
 unfolding changeStation withStations cleared withPending
 pending-gone p s bytes = ap (λ xs. withStations xs p) (changed-twice s cleared (withPending bytes) (p .stations) (λ x. refl))
 
-unfoldable Answered : List ℕ → Type 0
-Answered a = (a ≡ []) ⊎ IsAnswer a
+-- an answer, or none; without a status 0 it left all but the streams as in c
+record Ends (c : State) (a : List ℕ) (q : State) : Type 0 where
+  isAnswer : (a ≡ []) ⊎ IsAnswer a
+  status : (n : ℕ) → Mem n (statuses a) → n ≤ streamBroken
+  rights : (Mem 0 (statuses a) → ⊥) → SameRights c q
+
+-- of an answer whose one status is k
+one-status : {c q : State} {a : List ℕ} {k : ℕ} → IsAnswer a → statuses a ≡ k ∷ [] → k ≤ streamBroken → ((k ≡ 0 → ⊥) → SameRights c q) → Ends c a q
+one-status {k = k} i e l h = record { isAnswer = inr i; status = λ n m. only n (subst (Mem n) e m); rights = λ z. h (λ t. z (subst (Mem 0) (sym e) (here (sym t)))) }
+  where
+    only : (n : ℕ) → Mem n (k ∷ []) → n ≤ streamBroken
+    only n (here t) = omega arith
+    only n (there m) = absurd (mem-none m)
+
+no-status : {c q : State} → SameRights c q → Ends c [] q
+unfolding statuses statusesIn framed framedBy lengthOf
+no-status h = record { isAnswer = inl refl; status = λ n m. absurd (mem-none m); rights = λ z. h }
 
 module _ (s : ℕ) (c : State) (f : StateFacts c) where
   unfoldable Next : Step → Type 0
   Next (silent q) = changeStation s cleared q ≡ c
-  Next (answers a q) = IsAnswer a
+  Next (answers a q) = Ends c a q
+
+  -- all but the streams is as in c
+  as-cleared : (p : State) → changeStation s cleared p ≡ c → SameRights c p
+  as-cleared p e = rights-sym (subst (SameRights p) e (cleared-rights p s))
+
+  serves : (p : State) (body : List ℕ) → p ≡ c → Ends c (frame (serve p s body .answer)) (serve p s body .state)
+  serves p body e =
+      let g = subst StateFacts (sym e) f in
+      let low = served-status p s body in
+      one-status (serve-answers p s body g) (serve-status p s body g) (omega arith)
+      (λ z. subst (SameRights c) (sym (ladder p s body .unchanged z ∙ e)) (rights-refl c))
 
   joined-next : (p : State) (bytes : List ℕ) (x : Framed) → changeStation s cleared p ≡ c → Next (joined p s bytes x)
   unfolding joined Next
   joined-next p bytes part e = pending-gone p s bytes ∙ e
-  joined-next p bytes broken e = break-answers
-  joined-next p bytes (whole body) e = serve-answers (changeStation s cleared p) s body (subst StateFacts (sym e) f)
+  joined-next p bytes broken e = one-status break-answers break-status (omega arith) (λ z. rights-trans (as-cleared p e) (broken-rights p s))
+  joined-next p bytes (whole body) e = serves (changeStation s cleared p) body e
 
   step-next : (p : State) (b : ℕ) → changeStation s cleared p ≡ c → Next (step p s b)
   unfolding step byteAt Next
@@ -60,31 +95,73 @@ module _ (s : ℕ) (c : State) (f : StateFacts c) where
       let bytes = x .pending ++ (b ∷ []) in
       on-if Next (x .isBroken) (silent p) (joined p s bytes (framed bytes)) (λ t. e) (λ t. joined-next p bytes (framed bytes) e)
 
-  fed-answered : (bytes : List ℕ) (n : ℕ) (p : State) → changeStation s cleared p ≡ c → Answered (fedFrom n s bytes p .answer)
-  unfolding fedFrom fedOn Answered Next
-  fed-answered [] n p e = inl refl
-  fed-answered (b ∷ bytes) n p e = go (step p s b) (step-next p b e) (λ q k. fed-answered bytes (n + 1) q k)
+  Fed : Result → Type 0
+  Fed r = Ends c (r .answer) (r .after)
+
+  fed-ends : (bytes : List ℕ) (n : ℕ) (p : State) → changeStation s cleared p ≡ c → Ends c (fedFrom n s bytes p .answer) (fedFrom n s bytes p .after)
+  unfolding fedFrom fedOn Next Fed
+  fed-ends [] n p e = no-status (as-cleared p e)
+  fed-ends (b ∷ bytes) n p e = go (step p s b) (step-next p b e) (λ q k. fed-ends bytes (n + 1) q k)
     where
-      go : (x : Step) → Next x → ((q : State) → changeStation s cleared q ≡ c → Answered (fedFrom (n + 1) s bytes q .answer)) → Answered (fedOn (n + 1) (λ q. fedFrom (n + 1) s bytes q) x .answer)
+      go : (x : Step) → Next x → ((q : State) → changeStation s cleared q ≡ c → Fed (fedFrom (n + 1) s bytes q)) → Fed (fedOn (n + 1) (λ q. fedFrom (n + 1) s bytes q) x)
       go (silent q) k ih = ih q k
-      go (answers a q) k ih = inr k
+      go (answers a q) k ih = k
+
+-- ---- the same rights, written
+
+same-primary : (n : ℕ) (xs ys : List Station) → map stationToken xs ≡ map stationToken ys → column stationWords n (flat stationRow xs) ≡ column stationWords n (flat stationRow ys)
+unfolding column flat stationRow stationToken
+same-primary zero xs ys e = refl
+same-primary (suc n) [] [] e = refl
+same-primary (suc n) [] (y ∷ ys) e = absurd (let z : _≡_ {A = ℕ} 0 1 = cc in omega arith)
+same-primary (suc n) (x ∷ xs) [] e = absurd (let z : _≡_ {A = ℕ} 0 1 = cc in omega arith)
+same-primary (suc n) (x ∷ xs) (y ∷ ys) e = ap₂ (λ k ks. k ∷ ks) (cc) (same-primary n xs ys (cc))
+
+rights-left : {p q : State} → SameRights p q → LeftAlone (encode p) (encode q)
+unfolding encode counters primaries
+rights-left {p} {q} h =
+    let t = sym (h .tokens) in
+    record {
+      tokens = ap (λ (x : Table Token). flat slotRow (x .slots)) t;
+      dacls = ap (λ (x : Table Token). flat slotDacl (x .slots)) t;
+      handles = ap (λ (x : Table Handle). map slotHandle (x .slots)) (sym (h .handles));
+      counted = ap₂ (λ (x : Table Token) (y : Table Handle). x .next ∷ y .next ∷ []) t (sym (h .handles));
+      primary = same-primary stationCount (q .stations) (p .stations) (sym (h .primary));
+    }
 
 -- ---- a call
 
 -- what a call did: a refusal did nothing
 record Did (m : Memory) (d : Done) : Type 0 where
-  isAnswer : Answered (d .answer)
+  isAnswer : (d .answer ≡ []) ⊎ IsAnswer (d .answer)
+  status : (n : ℕ) → Mem n (statuses (d .answer)) → n ≤ streamBroken
+  leftAlone : (Mem 0 (statuses (d .answer)) → ⊥) → LeftAlone m (d .memory)
   listed : Mem (d .refusal) (0 ∷ noStation ∷ shortBuffer ∷ invalidMemory ∷ [])
   refused : (d .refusal ≡ 0 → ⊥) → d ≡ refusedOn (d .refusal) m
 
 module _ (m : Memory) where
   refuses : (n : ℕ) → Mem n (0 ∷ noStation ∷ shortBuffer ∷ invalidMemory ∷ []) → Did m (refusedOn n m)
-  unfolding refusedOn Answered
-  refuses n i = record { isAnswer = inl refl; listed = i; refused = λ k. refl }
+  unfolding refusedOn
+  refuses n i =
+      let e = no-status (rights-refl start) in
+      record {
+        isAnswer = e .isAnswer;
+        status = e .status;
+        leftAlone = λ z. record { tokens = refl; dacls = refl; handles = refl; counted = refl; primary = refl };
+        listed = i;
+        refused = λ k. refl;
+      }
 
-  takes : (r : Result) → Answered (r .answer) → r .refusal ≡ 0 → Did m (written r)
+  takes : (r : Result) (s : ℕ) → valid m ≡ true → r .refusal ≡ 0 → Ends (changeStation s cleared (decode m)) (r .answer) (r .after) → Did m (written r)
   unfolding written
-  takes r a e = record { isAnswer = a; listed = here e; refused = λ k. absurd (k e) }
+  takes r s v e h =
+      record {
+        isAnswer = h .isAnswer;
+        status = h .status;
+        leftAlone = λ z. subst (λ (x : Memory). LeftAlone x (encode (r .after))) (valid-written m v) (rights-left (rights-trans (cleared-rights (decode m) s) (h .rights z)));
+        listed = here e;
+        refused = λ k. absurd (k e);
+      }
 
   no-station : Did m (refusedOn noStation m)
   no-station = refuses noStation (there (here refl))
@@ -98,14 +175,14 @@ module _ (m : Memory) where
       on-if (Did m) (leb stationCount s) _ _ (λ t. no-station)
       (λ t. on-if (Did m) (ltb room maxAnswer) _ _ (λ u. refuses shortBuffer (there (there (here refl))))
       (λ u. on-if (Did m) (valid m) _ _
-      (λ v. let p = decode m in takes (fedFrom 0 s chunk p) (fed-answered s (changeStation s cleared p) (clears p s (valid-facts p (valid-state m v)) .facts) chunk 0 p refl) (fed-taken chunk 0 s p))
+      (λ v. let p = decode m in takes (fedFrom 0 s chunk p) s v (fed-taken chunk 0 s p) (fed-ends s (changeStation s cleared p) (clears p s (valid-facts p (valid-state m v)) .facts) chunk 0 p refl))
       (λ v. not-in-order)))
 
   reconnecting : (s : ℕ) → Did m (reconnectOn m s)
-  unfolding reconnectOn reconnect Answered
+  unfolding reconnectOn reconnect
   reconnecting s =
       on-if (Did m) (leb stationCount s) _ _ (λ t. no-station)
-      (λ t. on-if (Did m) (valid m) _ _ (λ v. rw t (takes _ (inl refl) refl)) (λ v. not-in-order))
+      (λ t. on-if (Did m) (valid m) _ _ (λ v. rw t (takes _ s v refl (no-status (rights-refl _)))) (λ v. not-in-order))
 
   did : (c : Call) → Did m (doneBy m c)
   unfolding doneBy
@@ -120,13 +197,19 @@ module _ (m : Memory) where
       let e : doneBy m c ≡ written (returned p c) = ap (λ x. doneBy x c) (sym (valid-written m v)) ∙ call-done p ok c in
       ap (λ (d : Done). valid (d .memory)) e ∙ written-valid (returned p c .after) (facts-valid _ (call-valid p c w (valid-facts p ok)))
 
-short : (a : List ℕ) → Answered a → length a ≤ maxAnswer
-unfolding Answered
+short : (a : List ℕ) → (a ≡ []) ⊎ IsAnswer a → length a ≤ maxAnswer
 short a h = ⊎-elim (λ e. rw e (omega arith)) (λ k. k .fits) h
 
 -- every memory and every call
 pub any-memory : (m : Memory) (c : Call) → AnyMemory m c
-unfolding Answered
 any-memory m c =
     let d = did m c in
-    record { fits = short (doneBy m c .answer) (d .isAnswer); isAnswer = d .isAnswer; listed = d .listed; refused = d .refused; order = stays-valid m c }
+    record {
+      fits = short (doneBy m c .answer) (d .isAnswer);
+      isAnswer = d .isAnswer;
+      status = d .status;
+      listed = d .listed;
+      refused = d .refused;
+      leftAlone = d .leftAlone;
+      order = stays-valid m c;
+    }

@@ -27,10 +27,10 @@ use Rattle.rules.specs.Ladder.{failing, lowest, status, Ladder}
 use Rattle.rules.specs.Growth.{Mem, here, there}
 use Rattle.rules.proofs.Logic.{and-l, and-r}
 
--- the numbers of the checks rise from k on
+-- the numbers of the checks rise from k on, up to 9 at most
 rises : ℕ → Decision → Bool
 rises k (need_else_then_ b r rest) = leb k (r .number) && rises (r .number) rest
-rises k (success after bytes) = true
+rises k (success after bytes) = leb k 9
 
 -- ---- of every request
 
@@ -93,6 +93,24 @@ unfolding carriedOut status
 unchanged σ (need_else_then_ true r rest) h = unchanged σ rest h
 unchanged σ (need_else_then_ false r rest) h = refl
 unchanged σ (success after bytes) h = absurd (h refl)
+
+-- every check's number is one of the list
+at-most-9 : (k : ℕ) (x : Decision) → rises k x ≡ true → k ≤ 9
+unfolding rises
+at-most-9 k (need_else_then_ b r rest) h =
+    let low = leb-true k (r .number) (and-l (leb k (r .number)) _ h) in
+    let high = at-most-9 (r .number) rest (and-r (leb k (r .number)) _ h) in omega arith
+at-most-9 k (success after bytes) h = leb-true k 9 h
+
+listed : (σ : State) (k : ℕ) (x : Decision) → rises k x ≡ true → status (carriedOut σ x) ≤ 9
+unfolding rises carriedOut status
+listed σ k (need_else_then_ true r rest) h = listed σ (r .number) rest (and-r (leb k (r .number)) _ h)
+listed σ k (need_else_then_ false r rest) h = at-most-9 (r .number) rest (and-r (leb k (r .number)) _ h)
+listed σ k (success after bytes) h = omega arith
+
+pub served-status : (σ : State) (s : ℕ) (body : List ℕ) → status (serve σ s body) ≤ 9
+unfolding serve decision
+served-status σ s body = listed σ 1 (decided σ s (parse body)) (of-body σ s (parse body))
 
 pub ladder : (σ : State) (s : ℕ) (body : List ℕ) → Ladder σ s body
 unfolding serve decision

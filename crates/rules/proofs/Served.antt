@@ -40,29 +40,36 @@ answers-served n (e ∷ es) p =
 
 -- ---- one by one
 
-rights-refl : (p : State) → SameRights p p
+pub rights-refl : (p : State) → SameRights p p
 rights-refl p = record { tokens = refl; handles = refl; primary = refl }
 
-rights-trans : {p q r : State} → SameRights p q → SameRights q r → SameRights p r
+pub rights-trans : {p q r : State} → SameRights p q → SameRights q r → SameRights p r
 rights-trans a b = record { tokens = a .tokens ∙ b .tokens; handles = a .handles ∙ b .handles; primary = a .primary ∙ b .primary }
+
+pub rights-sym : {p q : State} → SameRights p q → SameRights q p
+rights-sym a = record { tokens = sym (a .tokens); handles = sym (a .handles); primary = sym (a .primary) }
 
 -- another stream at a station
 stream-rights : (p : State) (s : ℕ) (f : Station → Station) → ((x : Station) → stationToken (f x) ≡ stationToken x) → SameRights p (changeStation s f p)
 unfolding changeStation withStations
 stream-rights p s f e = record { tokens = refl; handles = refl; primary = sym (same-tokens f e s (p .stations)) }
 
-cleared-rights : (p : State) (s : ℕ) → SameRights p (changeStation s cleared p)
+pub cleared-rights : (p : State) (s : ℕ) → SameRights p (changeStation s cleared p)
 unfolding cleared withPending stationToken
 cleared-rights p s = stream-rights p s cleared (λ x. refl)
+
+pub broken-rights : (p : State) (s : ℕ) → SameRights p (changeStation s brokenOff p)
+unfolding brokenOff stationToken
+broken-rights p s = stream-rights p s brokenOff (λ x. refl)
 
 -- after a byte, the rest goes on from what it left
 Goes : State → List Outcome → State → Type 0
 Goes p xs q = (d z : State) (ys : List Outcome) → SameRights d p → ((c : State) → SameRights c q → OneByOne c ys z) → OneByOne d (xs ++ ys) z
 
 joined-goes : (p : State) (s : ℕ) (bytes : List ℕ) (x : Framed) → Goes p (outcomeOf p s x) (stateOf (joined p s bytes x))
-unfolding Goes joined stateOf outcomeOf OneByOne servedBy withPending brokenOff stationToken
+unfolding Goes joined stateOf outcomeOf OneByOne servedBy withPending stationToken
 joined-goes p s bytes part d z ys a go = go d (rights-trans a (stream-rights p s (withPending bytes) (λ x. refl)))
-joined-goes p s bytes broken d z ys a go = go d (rights-trans a (stream-rights p s brokenOff (λ x. refl)))
+joined-goes p s bytes broken d z ys a go = go d (rights-trans a (broken-rights p s))
 joined-goes p s bytes (whole body) d z ys a go = (rights-trans a (cleared-rights p s), go _ (rights-refl _))
 
 event-goes : (p : State) (e : Event) → Goes p (outcomeAt p e) (stateOf (happens p e))

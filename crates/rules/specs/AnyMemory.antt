@@ -1,27 +1,64 @@
 -- What holds of every feed and reconnect on any memory, and not only on memory that calls from the start reach. Assumes nothing.
-use Prim.Native.Nat.{_≤_}
+use Prim.Native.Nat.{ℕ, _≤_}
 use mathlib.Core.Path.{_≡_}
 use mathlib.Core.Bool.{true}
 use mathlib.Core.Logic.{_⊎_}
-use mathlib.Core.List.{[], _∷_}
-use lib.ListN.{length}
-use Rattle.rules.specs.Refusal.{noStation, shortBuffer, invalidMemory}
-use Rattle.rules.specs.Frame.{maxAnswer}
-use Rattle.rules.specs.Memory.{Memory, valid}
+use mathlib.Core.List.{List, [], _∷_}
+use lib.ListN.{length, take, drop}
+use Rattle.table.specs.Column.{column}
+use Rattle.rules.specs.Refusal.{streamBroken, noStation, shortBuffer, invalidMemory}
+use Rattle.rules.specs.State.{stationCount}
+use Rattle.rules.specs.Frame.{Framed, part, broken, whole, framed, maxAnswer}
+use Rattle.rules.specs.Memory.{Memory, counterWords, stationWords, valid}
 use Rattle.rules.specs.Run.{Call, ofBytes}
 use Rattle.rules.specs.Growth.{Mem}
 use Rattle.rules.specs.Calls.{refusedOn}
 use Rattle.rules.specs.Throughout.{IsAnswer}
 use Rattle.rules.specs.WholeList.{doneBy}
 
+-- ---- statuses
+
+-- an answer's status is the first number of its body, below 128 and so one byte; where there is no answer there is none
+unfoldable pub statusesIn : Framed → List ℕ
+statusesIn part = []
+statusesIn broken = []
+statusesIn (whole body) = take 1 body
+
+unfoldable pub statuses : List ℕ → List ℕ
+statuses answer = statusesIn (framed answer)
+
+-- ---- what a refusal leaves alone: all but the streams
+
+-- the next numbers of tokens and of handles
+unfoldable pub counters : Memory → List ℕ
+counters m = take counterWords m.stations
+
+-- each station's primary token, the first word of its row
+unfoldable pub primaries : Memory → List ℕ
+primaries m = column stationWords stationCount (drop counterWords m.stations)
+
+pub record LeftAlone (m m′ : Memory) : Type 0 where
+  pub tokens : m′ .tokens ≡ m .tokens
+  pub dacls : m′ .dacls ≡ m .dacls
+  pub handles : m′ .handles ≡ m .handles
+  pub counted : counters m′ ≡ counters m
+  pub primary : primaries m′ ≡ primaries m
+
+-- ---- the claim
+
 pub record AnyMemory (m : Memory) (c : Call) : Type 0 where
   -- 'no answer is longer than 1,024 bytes'
   pub fits : length (doneBy m c .answer) ≤ maxAnswer
   -- an answer is one valid frame
   pub isAnswer : (doneBy m c .answer ≡ []) ⊎ IsAnswer (doneBy m c .answer)
+  -- 'an answer or a refusal from our list': a status is one of 0 to 10
+  pub status : (n : ℕ) → Mem n (statuses (doneBy m c .answer)) → n ≤ streamBroken
   -- 'a refusal from our list': a call is taken, or refused by 11, 12 or 13
   pub listed : Mem (doneBy m c .refusal) (0 ∷ noStation ∷ shortBuffer ∷ invalidMemory ∷ [])
   -- a call that is refused alters, uses and answers nothing
   pub refused : (doneBy m c .refusal ≡ 0 → ⊥) → doneBy m c ≡ refusedOn (doneBy m c .refusal) m
+  -- 'a refusal alters no token, no handle and no counter', and no station's primary token: nor does a part, a break or a reconnect. Only a
+  -- request that is answered 0 does
+  pub leftAlone : (Mem 0 (statuses (doneBy m c .answer)) → ⊥) → LeftAlone m (doneBy m c .memory)
   -- memory in order stays in order
   pub order : valid m ≡ true → ofBytes c ≡ true → valid (doneBy m c .memory) ≡ true

@@ -7,12 +7,12 @@ use lib.ListN.{length, take, drop, replicate}
 use Rattle.rules.specs.State.{handleSlots}
 use Rattle.rules.specs.Frame.{maxAnswer}
 use Rattle.rules.specs.Memory.{Memory, decode, valid}
-use Rattle.rules.specs.Calls.{startOn, feedOn}
+use Rattle.rules.specs.Calls.{startOn}
 use Rattle.handle.specs.Meaning.{none}
 use Rattle.handle.specs.Words.{recordsIn}
 use Rattle.handle.specs.declared.Handles.{Handles}
 use Rattle.valid.specs.Meaning.{memoryOf}
-use Rattle.broker.specs.Promise.{Feeds}
+use Rattle.broker.specs.Promise.{FeedPromise}
 use Rattle.session.specs.Program.{Output, nothing, fed}
 use Rattle.session.specs.declared.turn.Turned.{Turned}
 
@@ -27,7 +27,7 @@ answering a o = record { bytes = a ++ o .bytes; after = o .after }
 
 -- a feed of a chunk, and what it means for the program on valid memory
 pub record Turns (s : ℕ) (chunk : List ℕ) (m m′ : Memory) (out out′ : List ℕ) (r : Turned) : Type 0 where
-  pub feeds : Feeds (feedOn m s chunk (length out)) m′ out out′ (r .fed)
+  pub feeds : FeedPromise m s chunk out m′ out′ (r .fed)
   pub inside : r .fed .used ≤ length chunk
   pub fits : r .fed .answered ≤ length out′
   pub forward : r .fed .refusal ≡ 0 → 0 < length chunk → 0 < r .fed .used

@@ -3,6 +3,7 @@ ghost use mathlib.Core.Path.{_≡_};
 ghost use Prim.Native.Nat.{_<_};
 ghost use lib.ListN.{length};
 ghost use Rattle.rules.specs.Number.{max32};
+ghost use Rattle.rules.specs.State.{stationCount};
 ghost use Rattle.handle.specs.Words.{recordsIn};
 ghost use Rattle.state.specs.StationFacts.{stationsSize, nextHandle};
 ghost use Rattle.state.specs.HandleFacts.{HandleGiven, HandleRoom, HandleAdded};
@@ -43,11 +44,11 @@ pub fn can_add_handle(handles: &[u64; HANDLE_WORDS], stations: &[u64]) -> bool
 pub fn add_handle(
     station: u32,
     token: u64,
-    mask: u32,
+    mask: u16,
     handles: &[u64; HANDLE_WORDS],
     stations: &mut [u64],
 ) -> Change
-    requires { ⌜ (length (now stations) ≡ stationsSize) × (nextHandle (now stations) < max32) ⌝ }
+    requires { ⌜ (length (now stations) ≡ stationsSize) × (nextHandle (now stations) < max32) × (station < stationCount) ⌝ }
     ensures { λ r. ⌜ HandleAdded station token mask (recordsIn (now (handles .entry))) (now (stations .entry)) (now (stations .exit)) r ⌝ }
 {
     let slot = handle::free_slot(handles);
@@ -56,10 +57,10 @@ pub fn add_handle(
     Change {
         slot: slot,
         handle: Handle {
-            station: station,
+            station: station as u16,
+            mask: mask,
             number: next as u32,
             token: token,
-            mask: mask,
         },
     }
 }

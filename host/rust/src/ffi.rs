@@ -1,17 +1,22 @@
 //! The C interface, and the only unsafe code: every pointer comes with the length of its own array.
 #![allow(unsafe_code)]
 
-use crate::memory::Memory;
+use std::mem::offset_of;
+
+use crate::memory::{Memory, HANDLE_BYTES};
 
 /// A handle slot, as the C interface has it.
 #[repr(C)]
 #[derive(Clone, Copy, Debug, Default, PartialEq, Eq)]
 pub(crate) struct Handle {
-    pub station: u32,
+    pub station: u16,
+    pub mask: u16,
     pub number: u32,
     pub token: u64,
-    pub mask: u32,
 }
+
+/// Bytes of what a feed returns.
+const FED_BYTES: usize = 24;
 
 /// What a feed returns.
 #[repr(C)]
@@ -21,7 +26,9 @@ pub(crate) struct Fed {
     pub answered: usize,
 }
 
-const _: () = assert!(size_of::<Handle>() == 24 && size_of::<Fed>() == 24);
+const _: () = assert!(size_of::<Handle>() == HANDLE_BYTES && size_of::<Fed>() == FED_BYTES);
+const _: () = assert!(offset_of!(Handle, mask) == 2 && offset_of!(Handle, number) == 4);
+const _: () = assert!(offset_of!(Handle, token) == 8);
 
 extern "C" {
     fn obriska_start(

@@ -7,6 +7,12 @@ use crate::{HANDLES, STATIONS, TOKENS};
 pub(crate) const TOKEN_WORDS: usize = 100;
 /// Bytes of a DACL slot.
 pub(crate) const DACL_BYTES: usize = 256;
+/// Bytes of a handle slot.
+pub(crate) const HANDLE_BYTES: usize = 16;
+/// The word of the next token number.
+pub(crate) const NEXT_TOKEN: usize = 0;
+/// The word of the next handle number.
+pub(crate) const NEXT_HANDLE: usize = 1;
 /// The first station's word; before it stand the two next numbers.
 pub(crate) const FIRST_STATION: usize = 2;
 /// Words of a station.
@@ -14,42 +20,50 @@ pub(crate) const STATION_WORDS: usize = 3;
 /// Bytes of a station's pending part.
 pub(crate) const PENDING_BYTES: usize = 2050;
 
+/// Elements of the arrays.
+const TOKENS_LEN: usize = TOKENS * TOKEN_WORDS;
+const DACLS_LEN: usize = TOKENS * DACL_BYTES;
+const STATIONS_LEN: usize = FIRST_STATION + STATIONS * STATION_WORDS;
+const PENDING_LEN: usize = STATIONS * PENDING_BYTES;
+
 /// How many bytes [`Broker::to_bytes`](crate::Broker::to_bytes) gives.
-pub const MEMORY_BYTES: usize = 34_272;
+pub const MEMORY_BYTES: usize = (TOKENS_LEN + STATIONS_LEN) * size_of::<u64>()
+    + DACLS_LEN
+    + HANDLES * HANDLE_BYTES
+    + PENDING_LEN;
 
 /// The five arrays of docs/MEMORY.md.
 #[derive(Clone, PartialEq, Eq)]
 pub(crate) struct Memory {
-    pub tokens: [u64; TOKENS * TOKEN_WORDS],
-    pub dacls: [u8; TOKENS * DACL_BYTES],
+    pub tokens: [u64; TOKENS_LEN],
+    pub dacls: [u8; DACLS_LEN],
     pub handles: [Handle; HANDLES],
-    pub stations: [u64; FIRST_STATION + STATIONS * STATION_WORDS],
-    pub pending: [u8; STATIONS * PENDING_BYTES],
+    pub stations: [u64; STATIONS_LEN],
+    pub pending: [u8; PENDING_LEN],
 }
 
 impl Memory {
     pub(crate) fn zeroed() -> Box<Self> {
         Box::new(Memory {
-            tokens: [0; TOKENS * TOKEN_WORDS],
-            dacls: [0; TOKENS * DACL_BYTES],
+            tokens: [0; TOKENS_LEN],
+            dacls: [0; DACLS_LEN],
             handles: [Handle::default(); HANDLES],
-            stations: [0; FIRST_STATION + STATIONS * STATION_WORDS],
-            pending: [0; STATIONS * PENDING_BYTES],
+            stations: [0; STATIONS_LEN],
+            pending: [0; PENDING_LEN],
         })
     }
 
     /// The arrays one after the other, little-endian, as a C host has them in
-    /// `struct obriska_memory`; a handle's four unused bytes are zero.
+    /// `struct obriska_memory`.
     pub(crate) fn to_bytes(&self) -> Vec<u8> {
         let mut bytes = Vec::with_capacity(MEMORY_BYTES);
         bytes.extend(self.tokens.iter().flat_map(|word| word.to_le_bytes()));
         bytes.extend(self.dacls);
         for handle in &self.handles {
             bytes.extend(handle.station.to_le_bytes());
+            bytes.extend(handle.mask.to_le_bytes());
             bytes.extend(handle.number.to_le_bytes());
             bytes.extend(handle.token.to_le_bytes());
-            bytes.extend(handle.mask.to_le_bytes());
-            bytes.extend([0; 4]);
         }
         bytes.extend(self.stations.iter().flat_map(|word| word.to_le_bytes()));
         bytes.extend(self.pending);
@@ -66,10 +80,8 @@ impl Memory {
         memory.tokens.fill_with(|| reader.u64());
         memory.dacls.fill_with(|| reader.u8());
         memory.handles.fill_with(|| {
-            let (station, number, token) = (reader.u32(), reader.u32(), reader.u64());
-            let mask = reader.u32();
-            reader.u32(); // unused
-            Handle { station, number, token, mask }
+            let (station, mask) = (reader.u16(), reader.u16());
+            Handle { station, mask, number: reader.u32(), token: reader.u64() }
         });
         memory.stations.fill_with(|| reader.u64());
         memory.pending.fill_with(|| reader.u8());
@@ -91,6 +103,10 @@ impl Reader<'_> {
 
     fn u8(&mut self) -> u8 {
         u8::from_le_bytes(self.take())
+    }
+
+    fn u16(&mut self) -> u16 {
+        u16::from_le_bytes(self.take())
     }
 
     fn u32(&mut self) -> u32 {

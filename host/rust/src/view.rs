@@ -4,10 +4,40 @@ use crate::ffi;
 use crate::memory::{Memory, DACL_BYTES, FIRST_STATION, PENDING_BYTES, STATION_WORDS, TOKEN_WORDS};
 use crate::STATIONS;
 
-/// Word of a token's first group.
-const FIRST_GROUP: usize = 20;
-/// Word of a token's first restricting SID.
-const FIRST_RESTRICTING: usize = 84;
+/// Words of a token slot.
+mod token_word {
+    pub const NUMBER: usize = 0;
+    pub const MODIFIED: usize = 1;
+    pub const SESSION: usize = 2;
+    pub const USER: usize = 3;
+    pub const TYPE: usize = 4;
+    pub const LEVEL: usize = 5;
+    pub const ELEVATION: usize = 6;
+    pub const WRITE_RESTRICTED: usize = 7;
+    pub const USER_DENY_ONLY: usize = 8;
+    pub const OWNER: usize = 9;
+    pub const PRIMARY_GROUP: usize = 10;
+    pub const SCOPE: usize = 11;
+    pub const INTEGRITY: usize = 12;
+    pub const PRESENT: usize = 13;
+    pub const ENABLED: usize = 14;
+    pub const DEFAULT: usize = 15;
+    pub const USED: usize = 16;
+    pub const GROUP_COUNT: usize = 17;
+    pub const RESTRICTING_COUNT: usize = 18;
+    pub const DACL_LENGTH: usize = 19;
+    /// The first group.
+    pub const GROUPS: usize = 20;
+    /// The first restricting SID.
+    pub const RESTRICTING: usize = 84;
+}
+
+/// Words of a station.
+mod station_word {
+    pub const TOKEN: usize = 0;
+    pub const PENDING_COUNT: usize = 1;
+    pub const BROKEN: usize = 2;
+}
 
 /// Primary or impersonation.
 #[derive(Clone, Copy, Debug, PartialEq, Eq)]
@@ -108,35 +138,38 @@ pub struct Token {
 impl Token {
     pub(crate) fn all(memory: &Memory) -> impl Iterator<Item = Token> + '_ {
         let slots = memory.tokens.chunks(TOKEN_WORDS).zip(memory.dacls.chunks(DACL_BYTES));
-        slots.filter(|(words, _)| words[0] != 0).map(|(words, dacl)| Token::new(words, dacl))
+        slots
+            .filter(|(words, _)| words[token_word::NUMBER] != 0)
+            .map(|(words, dacl)| Token::new(words, dacl))
     }
 
     fn new(words: &[u64], dacl: &[u8]) -> Self {
-        let groups = &words[FIRST_GROUP..][..words[17] as usize];
-        let restricting = &words[FIRST_RESTRICTING..][..words[18] as usize];
+        let groups = &words[token_word::GROUPS..][..words[token_word::GROUP_COUNT] as usize];
+        let restricting =
+            &words[token_word::RESTRICTING..][..words[token_word::RESTRICTING_COUNT] as usize];
         Token {
-            number: words[0],
-            modified: words[1],
-            session: words[2],
-            user: words[3] as u32,
-            token_type: token_type(words[4]),
-            level: level(words[5]),
-            elevation: elevation(words[6]),
-            write_restricted: words[7] == 1,
-            user_deny_only: words[8] == 1,
-            owner: words[9] as u16,
-            primary_group: words[10] as u16,
-            scope: words[11] as u32,
-            integrity: words[12] as u32,
+            number: words[token_word::NUMBER],
+            modified: words[token_word::MODIFIED],
+            session: words[token_word::SESSION],
+            user: words[token_word::USER] as u32,
+            token_type: token_type(words[token_word::TYPE]),
+            level: level(words[token_word::LEVEL]),
+            elevation: elevation(words[token_word::ELEVATION]),
+            write_restricted: words[token_word::WRITE_RESTRICTED] == 1,
+            user_deny_only: words[token_word::USER_DENY_ONLY] == 1,
+            owner: words[token_word::OWNER] as u16,
+            primary_group: words[token_word::PRIMARY_GROUP] as u16,
+            scope: words[token_word::SCOPE] as u32,
+            integrity: words[token_word::INTEGRITY] as u32,
             privileges: Privileges {
-                present: words[13],
-                enabled: words[14],
-                default: words[15],
-                used: words[16],
+                present: words[token_word::PRESENT],
+                enabled: words[token_word::ENABLED],
+                default: words[token_word::DEFAULT],
+                used: words[token_word::USED],
             },
             groups: groups.iter().map(|&word| group(word)).collect(),
             restricting: restricting.iter().map(|&word| word as u32).collect(),
-            dacl: dacl[..words[19] as usize].to_vec(),
+            dacl: dacl[..words[token_word::DACL_LENGTH] as usize].to_vec(),
         }
     }
 }
@@ -189,8 +222,8 @@ impl Handle {
     }
 
     pub(crate) fn new(slot: &ffi::Handle) -> Self {
-        let &ffi::Handle { station, number, token, mask } = slot;
-        Handle { station, number, token, mask }
+        let &ffi::Handle { station, mask, number, token } = slot;
+        Handle { station: station.into(), number, token, mask: mask.into() }
     }
 }
 
@@ -211,9 +244,9 @@ impl Station {
             let words = &memory.stations[FIRST_STATION + station * STATION_WORDS..];
             let pending = &memory.pending[station * PENDING_BYTES..];
             Station {
-                token: words[0],
-                pending: pending[..words[1] as usize].to_vec(),
-                broken: words[2] == 1,
+                token: words[station_word::TOKEN],
+                pending: pending[..words[station_word::PENDING_COUNT] as usize].to_vec(),
+                broken: words[station_word::BROKEN] == 1,
             }
         })
     }

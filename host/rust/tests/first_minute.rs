@@ -1,6 +1,6 @@
 //! Document 01's cases A to L, byte by byte, through the crate.
 
-use obriska::{Broker, Refusal, TokenType};
+use obriska::{Broker, Refusal, TokenType, HANDLES, MAX_BODY};
 
 /// Feeds a whole frame and gives its one answer's bytes.
 fn ask(broker: &mut Broker, station: u32, frame: &[u8]) -> Vec<u8> {
@@ -46,7 +46,7 @@ fn c_and_d_query_the_privileges() {
 #[test]
 fn e_takes_length_2048() {
     let mut broker = Broker::start();
-    let frame = [&[0x80, 0x10][..], &[0; 2048]].concat();
+    let frame = [&[0x80, 0x10][..], &[0; MAX_BODY]].concat();
     assert_eq!(ask(&mut broker, 0, &frame), [0x01, 0x01]);
     assert!(!broker.stations()[0].broken);
 }
@@ -89,11 +89,11 @@ fn i_knows_privileges_up_to_36() {
 #[test]
 fn j_refuses_a_33rd_handle() {
     let mut broker = Broker::start();
-    for number in 1..=32 {
+    for number in 1..=HANDLES as u8 {
         assert_eq!(ask(&mut broker, 0, &OPEN), [0x02, 0x00, number]);
     }
     assert_eq!(ask(&mut broker, 0, &OPEN), [0x01, 0x08]);
-    assert_eq!(broker.handles().count(), 32);
+    assert_eq!(broker.handles().count(), HANDLES);
 }
 
 #[test]

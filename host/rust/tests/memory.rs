@@ -2,6 +2,16 @@
 
 use obriska::{number, Broker, Elevation, Group, Level, Refusal, Station, TokenType, MEMORY_BYTES};
 
+/// Where the arrays begin, one after the other: docs/MEMORY.md has their sizes.
+const DACLS: usize = 12_800;
+const HANDLES: usize = DACLS + 4_096;
+const STATIONS: usize = HANDLES + 512;
+const PENDING: usize = STATIONS + 208;
+const END: usize = PENDING + 16_400;
+/// Bytes of a word and of a handle.
+const WORD: usize = 8;
+const HANDLE: usize = 16;
+
 /// Feeds a body of these numbers at station 0, and gives the numbers after status 0.
 fn ask(broker: &mut Broker, numbers: &[u64]) -> Vec<u64> {
     let mut body = Vec::new();
@@ -69,13 +79,38 @@ fn kept_bytes_go_on_where_the_broker_was() {
     assert_eq!(later.feed(5, &[0x08]).unwrap()[0].bytes(), [0x02, 0x00, 0x02]);
 }
 
+/// The words from this byte on.
+fn words(bytes: &[u8], at: usize) -> impl Iterator<Item = u64> + '_ {
+    let words = bytes[at..].chunks_exact(WORD);
+    words.map(|word| u64::from_le_bytes(word.try_into().expect("eight bytes")))
+}
+
 #[test]
 fn bytes_are_laid_out_as_docs_memory_says() {
-    let bytes = Broker::start().to_bytes();
-    let word = |at: usize| u64::from_le_bytes(bytes[at..at + 8].try_into().unwrap());
-    assert_eq!((word(0), word(8), word(16), word(24)), (1, 1, 999, 18));
-    let stations = 12_800 + 4_096 + 768;
-    assert_eq!((word(stations), word(stations + 8), word(stations + 16)), (2, 1, 1));
+    let mut broker = Broker::start();
+    broker.feed(5, &[0x02, 0x01, 0x28]).unwrap();
+    broker.feed(6, &[0x03, 0x01, 0xEF, 0x03]).unwrap();
+    broker.feed(0, &[0x02]).unwrap();
+    let bytes = broker.to_bytes();
+    assert_eq!((bytes.len(), MEMORY_BYTES), (END, 34_016));
+    assert!(words(&bytes, 0).take(4).eq([1, 1, 999, 18]));
+    let (handles, free) = bytes[HANDLES..STATIONS].split_at(2 * HANDLE);
+    let first = [5, 0, 0x28, 0, 1, 0, 0, 0, 1, 0, 0, 0, 0, 0, 0, 0];
+    let second = [6, 0, 0xEF, 1, 2, 0, 0, 0, 1, 0, 0, 0, 0, 0, 0, 0];
+    assert_eq!(handles, [first, second].concat());
+    assert!(bytes[DACLS..HANDLES].iter().chain(free).all(|&byte| byte == 0));
+    assert!(words(&bytes, STATIONS).take(5).eq([2, 3, 1, 1, 0]));
+    assert_eq!(bytes[PENDING..][..2], [0x02, 0x00]);
+}
+
+#[test]
+fn a_free_handle_slot_with_a_byte_that_is_not_zero_is_refused() {
+    let kept = Broker::start().to_bytes();
+    for at in HANDLES..STATIONS {
+        let mut damaged = kept.clone();
+        damaged[at] = 0x80;
+        assert_eq!(Broker::from_bytes(&damaged), Err(Refusal::Memory), "byte {at}");
+    }
 }
 
 #[test]

@@ -4,7 +4,7 @@ pub mod rival;
 pub mod work;
 
 use gen::{Broker, Calls};
-use model::{Fed, Memory};
+use model::{Bytes, Fed, Memory};
 
 /// The rival with its lent memory.
 pub struct Rival(rival::Parts);
@@ -24,7 +24,8 @@ impl Rival {
             chunks | u64::from(rest.iter().fold(0, |all, byte| all | byte))
         };
         let handles = self.0.handles.iter().fold(0, |all, handle| {
-            all | u64::from(handle.station | handle.number | handle.mask) | handle.token
+            let small = u32::from(handle.station | handle.mask) | handle.number;
+            all | u64::from(small) | handle.token
         });
         let (tokens, stations) = (words(&self.0.tokens), words(&self.0.stations));
         tokens | stations | handles | bytes(&self.0.dacls) | bytes(&self.0.pending)
@@ -50,15 +51,9 @@ impl Broker for Rival {
         Rival(rival::Parts { tokens, dacls, handles, stations, pending })
     }
 
-    fn memory(&self) -> Memory {
-        let rival::Parts { tokens, dacls, handles, stations, pending } = &self.0;
-        Memory {
-            tokens: tokens.clone(),
-            dacls: dacls.clone(),
-            handles: handles.clone(),
-            stations: stations.clone(),
-            pending: pending.clone(),
-        }
+    fn bytes(&self) -> Bytes {
+        let rival::Parts { tokens, dacls, handles, stations, pending } = self.0.clone();
+        Memory { tokens, dacls, handles, stations, pending }.bytes()
     }
 
     fn start(&mut self) -> u32 {

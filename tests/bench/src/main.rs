@@ -9,6 +9,7 @@ use bench::work::{all, Work};
 use bench::Rival;
 use compare::Lent;
 use gen::Broker;
+use model::MIN_BUFFER;
 
 /// Calls between two looks at the clock.
 const STRETCH: usize = 100;
@@ -21,7 +22,7 @@ fn feed_all(
     work: &Work,
     mut feed: impl FnMut(u32, &[u8], &mut [u8]) -> (u32, usize, usize),
 ) -> (Times, u64) {
-    let (mut answer, mut sum) = ([0; 1024], 0u64);
+    let (mut answer, mut sum) = ([0; MIN_BUFFER], 0u64);
     let mut times = Vec::new();
     let mut feeds = work.feeds().peekable();
     while feeds.peek().is_some() {
@@ -51,11 +52,11 @@ fn read_all(work: &Work, rival: &Rival) -> Times {
 
 /// One round; both do the same and leave the same.
 fn round(work: &Work) -> [Times; 3] {
-    let (mut lent, mut rival) = (Lent::with_margin(&work.memory, 0), Rival::lend(&work.memory));
+    let (mut lent, mut rival) = (Lent::without_margins(&work.memory), Rival::lend(&work.memory));
     let broker = feed_all(work, |station, chunk, answer| lent.call_feed(station, chunk, answer));
     let other = feed_all(work, |station, chunk, answer| rival.call_feed(station, chunk, answer));
     assert_eq!(broker.1, other.1, "{}: results differ", work.name);
-    assert!(lent.memory() == rival.memory(), "{}: memory differs", work.name);
+    assert!(lent.bytes() == rival.bytes(), "{}: memory differs", work.name);
     [broker.0, other.0, read_all(work, &rival)]
 }
 

@@ -2,7 +2,8 @@
 
 use gen::{fields, flat, Rng};
 use model::{
-    framed, Group, Handle, Memory, Model, Request, Token, ALL_PRIVILEGES, NO_CHANGE, STATIONS,
+    framed, Group, Handle, Mask, Memory, Model, Request, Token, ALL_PRIVILEGES, HANDLES, MAX_BODY,
+    MAX_GROUPS, MAX_RESTRICTING, MIN_BUFFER, NO_CHANGE, STATIONS, TOKENS,
 };
 
 /// A list of feeds.
@@ -70,7 +71,7 @@ impl Recorder {
     /// A request of the station; gives the handle if it makes one.
     fn ask(&mut self, station: u32, request: Request) -> u32 {
         let frame = framed(&flat(&fields(&request)));
-        let fed = self.model.feed(station, &frame, 1024);
+        let fed = self.model.feed(station, &frame, MIN_BUFFER);
         assert_eq!(fed.used, frame.len());
         self.feeds.push((station, frame));
         self.model.next_handle - 1
@@ -92,7 +93,7 @@ fn shift(requests: usize) -> Feeds {
 
 /// One operator at one station, from taking over to leaving.
 fn operator(rng: &mut Rng, desk: &mut Recorder, station: u32) {
-    let own = desk.ask(station, Request::Open { mask: 0x1EF });
+    let own = desk.ask(station, Request::Open { mask: Mask::ALL.0 });
     let user = 100 + rng.below(1000) as u32;
     let groups = (0..6).map(|group| (200 + group, [2, 3, 10, 8, 0, 0xC000_0002][group as usize]));
     let made = desk.ask(
@@ -138,23 +139,24 @@ fn operator(rng: &mut Rng, desk: &mut Recorder, station: u32) {
 /// Every slot taken, every list as long as it may be, bytes pending at every other station.
 pub fn full() -> Model {
     let mut model = Model::start();
-    for (slot, number) in (0..16).zip(1..) {
-        let groups = (0..64).map(|sid| Group { sid: u32::MAX - sid, attributes: 0xC000_000F });
+    for (slot, number) in (0..TOKENS).zip(1..) {
+        let groups = (0..MAX_GROUPS as u32)
+            .map(|sid| Group { sid: u32::MAX - sid, attributes: 0xC000_000F });
         model.tokens[slot] = Some(Token {
             groups: groups.collect(),
-            restricting: (0..16).map(|sid| u32::MAX - sid).collect(),
+            restricting: (0..MAX_RESTRICTING as u32).map(|sid| u32::MAX - sid).collect(),
             dacl: (0..=255).collect(),
             ..Token { number, ..Token::first() }
         });
     }
-    for (slot, number) in (0..32).zip(1..) {
-        let (station, token) = (number % 8, u64::from(number % 16) + 1);
-        model.handles[slot] = Some(Handle { station, number, token, mask: 0x1EF });
+    for (slot, number) in (0..HANDLES).zip(1..) {
+        let (station, token) = (number % STATIONS as u32, u64::from(number % TOKENS as u32) + 1);
+        model.handles[slot] = Some(Handle { station, number, token, mask: Mask::ALL.0 });
     }
     for station in [1, 3, 5, 7] {
-        model.stations[station].pending = [vec![0x80, 0x10], vec![1; 2047]].concat();
+        model.stations[station].pending = [vec![0x80, 0x10], vec![1; MAX_BODY - 1]].concat();
     }
-    (model.next_token, model.next_handle) = (17, 33);
+    (model.next_token, model.next_handle) = (TOKENS as u64 + 1, HANDLES as u32 + 1);
     model
 }
 
@@ -164,21 +166,25 @@ fn on_full_tables(full: &Model, requests: usize) -> Feeds {
     let mut desk = Recorder { model: full.clone(), feeds: vec![] };
     for _ in 0..requests {
         let station = rng.pick(&[0, 2, 4, 6]);
-        let handle = rng.pick(&[0, 8, 16, 24]) + if station == 0 { 8 } else { station };
+        let others = STATIONS * rng.below(HANDLES / STATIONS);
+        let handle = others as u32 + if station == 0 { STATIONS as u32 } else { station };
         let class = 1 + rng.below(13) as u32;
         let request = match rng.below(10) {
             0..=3 => Request::Query { handle, class, capacity: 1000 },
             4 => Request::Privileges { handle, entries: vec![(20, 0), (21, 2)] },
-            5 => Request::Groups { handle, entries: (0..64).map(|group| (group, 1)).collect() },
+            5 => Request::Groups {
+                handle,
+                entries: (0..MAX_GROUPS as u32).map(|group| (group, 1)).collect(),
+            },
             6 => Request::Scope { handle, value: 5 },
             7 => Request::Default {
                 handle,
-                owner: 64,
+                owner: MAX_GROUPS as u16,
                 group: 1,
                 flag: 1,
                 dacl: (0..=255).rev().collect(),
             },
-            8 => Request::Duplicate { handle, kind: 1, level: 0, mask: 0x1EF },
+            8 => Request::Duplicate { handle, kind: 1, level: 0, mask: Mask::ALL.0 },
             _ => Request::Open { mask: 8 },
         };
         desk.ask(station, request);

@@ -1,33 +1,20 @@
 //! The C functions of the proved code, and safe calls of them on memory that a host lends.
 
 use gen::{Broker, Calls};
-use model::{Fed, Handle, Memory};
+use model::{Bytes, Fed, Memory, HANDLE_BYTES, PARTS};
 
 use crate::part::Part;
+use crate::stack::fill_stack;
 
-/// A handle record as C has it, its unused bytes as a field.
-#[repr(C)]
-#[derive(Clone, Copy, Debug, PartialEq, Eq)]
-#[allow(missing_docs)] // the fields are named as in docs/MEMORY.md
-pub struct Record {
-    pub station: u32,
-    pub number: u32,
-    pub token: u64,
-    pub mask: u32,
-    pub unused: u32,
-}
+/// A handle's record to C: so many bytes, aligned as its token. What they hold is
+/// [`model::HandleRecord`]'s to say.
+type Record = [u64; 2];
 
-impl Record {
-    fn new(handle: &Handle) -> Self {
-        let Handle { station, number, token, mask } = *handle;
-        Record { station, number, token, mask, unused: FILLER as u32 }
-    }
+const _: () = assert!(size_of::<Record>() == HANDLE_BYTES);
 
-    fn handle(&self) -> Handle {
-        let Record { station, number, token, mask, .. } = *self;
-        Handle { station, number, token, mask }
-    }
-}
+/// Bytes of an element of each part.
+const WIDTHS: [usize; PARTS.len()] =
+    [size_of::<u64>(), size_of::<u8>(), size_of::<Record>(), size_of::<u64>(), size_of::<u8>()];
 
 /// What a feed returns to C.
 #[repr(C)]
@@ -61,29 +48,25 @@ extern "C" {
     ) -> usize;
 }
 
-/// What stands where nobody has written yet.
-const FILLER: u64 = 0xA5C3_96E1_7B2D_4F88;
+/// What stands where nobody has written yet, if nothing else is asked for.
+const FILLER: u8 = 0xA5;
 /// Elements on each side of a part; odd, so that parts of bytes are not aligned.
 const MARGIN: usize = 61;
 
 /// The five parts that a host lends.
-#[derive(Clone, Debug, PartialEq, Eq)]
+#[derive(Debug)]
 pub struct Lent {
-    tokens: Part<u64>,
-    dacls: Part<u8>,
-    handles: Part<Record>,
-    stations: Part<u64>,
-    pending: Part<u8>,
+    parts: [Part; PARTS.len()],
+    filler: u8,
 }
 
-// SAFETY of each call: a pointer comes with the length of its own slice, exclusive where C may write.
+// SAFETY of each call: a pointer comes with the length of its own part, is aligned for its elements,
+// and is exclusive where C may write.
 #[allow(unsafe_code)]
 impl Lent {
     /// Calls start.
     pub fn call_start(&mut self) -> u32 {
-        let (tokens, dacls) = (self.tokens.items_mut(), self.dacls.items_mut());
-        let handles = self.handles.items_mut();
-        let (stations, pending) = (self.stations.items_mut(), self.pending.items_mut());
+        let [tokens, dacls, handles, stations, pending] = &mut self.parts;
         unsafe {
             obriska_start(
                 tokens.as_mut_ptr(),
@@ -107,9 +90,7 @@ impl Lent {
         data: &[u8],
         answer: &mut [u8],
     ) -> (u32, usize, usize) {
-        let (tokens, dacls) = (self.tokens.items_mut(), self.dacls.items_mut());
-        let handles = self.handles.items_mut();
-        let (stations, pending) = (self.stations.items_mut(), self.pending.items_mut());
+        let [tokens, dacls, handles, stations, pending] = &mut self.parts;
         let turn = unsafe {
             obriska_feed(
                 station,
@@ -134,9 +115,7 @@ impl Lent {
 
     /// Calls reconnect.
     pub fn call_reconnect(&mut self, station: u32) -> u32 {
-        let (tokens, dacls, handles) =
-            (self.tokens.items(), self.dacls.items(), self.handles.items());
-        let (stations, pending) = (self.stations.items_mut(), self.pending.items_mut());
+        let [tokens, dacls, handles, stations, pending] = &mut self.parts;
         unsafe {
             obriska_reconnect(
                 station,
@@ -156,56 +135,56 @@ impl Lent {
 
     /// The slot of the station's live handle of this number, 32 if there is none.
     pub fn find(&self, station: u32, number: u32) -> usize {
-        let handles = self.handles.items();
+        let [_, _, handles, _, _] = &self.parts;
         unsafe { obriska_find(handles.as_ptr(), handles.len(), station, number) }
     }
 }
 
 impl Lent {
-    /// A copy of the memory, each part with margins of so many elements.
-    pub fn with_margin(memory: &Memory, margin: usize) -> Self {
-        let records: Vec<Record> = memory.handles.iter().map(Record::new).collect();
-        let odd = Handle { station: 3, number: 77, token: FILLER, mask: 9 };
-        Lent {
-            tokens: Part::new(&memory.tokens, margin, FILLER),
-            dacls: Part::new(&memory.dacls, margin, FILLER as u8),
-            handles: Part::new(&records, margin, Record::new(&odd)),
-            stations: Part::new(&memory.stations, margin, FILLER),
-            pending: Part::new(&memory.pending, margin, FILLER as u8),
-        }
+    /// A copy of the memory, each part with margins of so many elements. The filler stands in them,
+    /// in the answer buffers and, before each of [`Calls`], on the stack.
+    fn new(memory: &Memory, margin: usize, filler: u8) -> Self {
+        let bytes = memory.bytes();
+        let part = |at: usize| Part::new(&bytes[at], WIDTHS[at], margin, filler);
+        Lent { parts: std::array::from_fn(part), filler }
     }
 
-    fn margins_are_whole(&self) -> bool {
-        self.tokens.margins_are_whole()
-            && self.dacls.margins_are_whole()
-            && self.handles.margins_are_whole()
-            && self.stations.margins_are_whole()
-            && self.pending.margins_are_whole()
+    /// A copy of the memory, with this filler.
+    pub fn with_filler(memory: &Memory, filler: u8) -> Self {
+        Lent::new(memory, MARGIN, filler)
+    }
+
+    /// A copy of the memory without margins.
+    pub fn without_margins(memory: &Memory) -> Self {
+        Lent::new(memory, 0, FILLER)
     }
 
     /// What holds after each call: margins whole, and nothing written by a refused one.
-    fn check(&self, refusal: u32, before: &Lent) {
-        assert!(self.margins_are_whole(), "written outside of the lent parts");
-        assert!(refusal == 0 || self == before, "refusal {refusal} and something written");
+    fn check(&self, refusal: u32, before: &Bytes) {
+        let margins_are_whole = self.parts.iter().all(Part::margins_are_whole);
+        assert!(margins_are_whole, "written outside of the lent parts");
+        assert!(refusal == 0 || self.bytes() == *before, "refusal {refusal} and something written");
     }
 }
 
 impl Calls for Lent {
     fn feed(&mut self, station: u32, chunk: &[u8], buffer_len: usize) -> Fed {
-        let before = self.clone();
-        let mut buffer = Part::new(&vec![FILLER as u8; buffer_len], MARGIN, FILLER as u8);
-        let (refusal, used, answered) = self.call_feed(station, chunk, buffer.items_mut());
+        let before = self.bytes();
+        let mut buffer = Part::new(&vec![self.filler; buffer_len], 1, MARGIN, self.filler);
+        fill_stack(self.filler);
+        let (refusal, used, answered) = self.call_feed(station, chunk, buffer.bytes_mut());
         self.check(refusal, &before);
         assert!(buffer.margins_are_whole(), "written outside of the answer buffer");
         assert!(used <= chunk.len() && answered <= buffer_len, "used {used}, answered {answered}");
-        let (answer, rest) = buffer.items().split_at(answered);
-        let rest_is_whole = rest.iter().all(|&byte| byte == FILLER as u8);
+        let (answer, rest) = buffer.bytes().split_at(answered);
+        let rest_is_whole = rest.iter().all(|&byte| byte == self.filler);
         assert!(rest_is_whole, "written after the answer of {answered} bytes");
         Fed { refusal, used, answer: answer.to_vec() }
     }
 
     fn reconnect(&mut self, station: u32) -> u32 {
-        let before = self.clone();
+        let before = self.bytes();
+        fill_stack(self.filler);
         let refusal = self.call_reconnect(station);
         self.check(refusal, &before);
         refusal
@@ -214,21 +193,16 @@ impl Calls for Lent {
 
 impl Broker for Lent {
     fn lend(memory: &Memory) -> Self {
-        Lent::with_margin(memory, MARGIN)
+        Lent::with_filler(memory, FILLER)
     }
 
-    fn memory(&self) -> Memory {
-        Memory {
-            tokens: self.tokens.items().to_vec(),
-            dacls: self.dacls.items().to_vec(),
-            handles: self.handles.items().iter().map(Record::handle).collect(),
-            stations: self.stations.items().to_vec(),
-            pending: self.pending.items().to_vec(),
-        }
+    fn bytes(&self) -> Bytes {
+        self.parts.each_ref().map(|part| part.bytes().to_vec())
     }
 
     fn start(&mut self) -> u32 {
-        let before = self.clone();
+        let before = self.bytes();
+        fill_stack(self.filler);
         let refusal = self.call_start();
         self.check(refusal, &before);
         refusal

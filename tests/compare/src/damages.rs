@@ -1,9 +1,12 @@
 //! Memory that is not valid, or not of its sizes, on a broker and on the model.
 
 use gen::{each_seed, poke, state, Broker, Call};
-use model::{Handle, Memory, MIN_BUFFER};
+use model::{
+    HandleRecord, Memory, DACL_BYTES, HANDLE_ROWS, MIN_BUFFER, PARTS, PENDING_BYTES, STATION_WORDS,
+    TOKEN_WORDS,
+};
 
-use crate::lists::on_memory;
+use crate::lists::{on_memory, same_bytes};
 
 /// An empty chunk: what comes back says only whether the memory is valid.
 pub fn empty_feed() -> Call {
@@ -48,21 +51,21 @@ pub fn is_refused<B: Broker>(memory: &Memory, place: &str) {
 pub fn starts<B: Broker>(memory: &Memory, place: &str) {
     let (mut broker, mut model) = (B::lend(memory), memory.clone());
     assert_eq!(broker.start(), model.start(), "{place}");
-    assert!(broker.memory() == model, "{place}");
+    same_bytes(&broker.bytes(), &model.bytes(), place);
 }
 
 /// The memory with each part made shorter and longer, and what was done to it.
 pub fn of_other_sizes(memory: &Memory) -> Vec<(String, Memory)> {
-    let resize: [(&str, fn(&mut Memory, usize)); 5] = [
-        ("tokens", |memory, size| memory.tokens.resize(size, 0)),
-        ("dacls", |memory, size| memory.dacls.resize(size, 0)),
-        ("handles", |memory, size| memory.handles.resize(size, Handle::default())),
-        ("stations", |memory, size| memory.stations.resize(size, 0)),
-        ("pending", |memory, size| memory.pending.resize(size, 0)),
+    type Resize = fn(&mut Memory, usize);
+    let resize: [(usize, Resize); PARTS.len()] = [
+        (TOKEN_WORDS, |memory, size| memory.tokens.resize(size, 0)),
+        (DACL_BYTES, |memory, size| memory.dacls.resize(size, 0)),
+        (HANDLE_ROWS, |memory, size| memory.handles.resize(size, HandleRecord::default())),
+        (STATION_WORDS, |memory, size| memory.stations.resize(size, 0)),
+        (PENDING_BYTES, |memory, size| memory.pending.resize(size, 0)),
     ];
-    let sizes = [1600, 4096, 32, 26, 16400];
     let mut memories = Vec::new();
-    for ((part, resize), size) in resize.into_iter().zip(sizes) {
+    for (part, (size, resize)) in PARTS.into_iter().zip(resize) {
         for other in [0, 1, size / 2, size - 1, size + 1, size + 2, 2 * size, 3 * size] {
             let mut memory = memory.clone();
             resize(&mut memory, other);

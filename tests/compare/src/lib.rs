@@ -7,5 +7,6 @@ pub mod program;
 
 mod broker;
 mod part;
+mod stack;
 
-pub use broker::{Lent, Record};
+pub use broker::Lent;

@@ -1,12 +1,13 @@
 //! Lists of calls on a broker and on the model: results, answers and memory are equal at each.
 
+use std::fmt::Debug;
 use std::ops::Range;
 
 use gen::{
     each_seed, garbage, near_the_last_numbers, run, state, Broker, Call, Calls, Counts, Rng, Step,
     DAMAGES,
 };
-use model::{Fed, Memory, Model, MIN_BUFFER};
+use model::{Bytes, Fed, Memory, Model, MIN_BUFFER, PARTS};
 
 /// How many calls each seed makes.
 pub const CALLS: usize = 300;
@@ -35,25 +36,20 @@ pub fn compare<B: Broker>(seeds: Range<u64>, counts: &mut Counts) {
 }
 
 /// Makes the step's call on the broker and compares all that can be seen.
-fn both<B: Broker>(broker: &mut B, step: &Step) {
+pub fn both<B: Broker>(broker: &mut B, step: &Step) {
     let fed = broker.make(step.call);
     assert_eq!(fed, *step.fed, "{:02X?}", step.call);
-    same_memory(&broker.memory(), &step.after.memory(), step.call);
+    same_bytes(&broker.bytes(), &step.after.memory().bytes(), step.call);
 }
 
-fn same_memory(memory: &Memory, expected: &Memory, call: &Call) {
-    same("tokens", &memory.tokens, &expected.tokens, call);
-    same("dacls", &memory.dacls, &expected.dacls, call);
-    same("handles", &memory.handles, &expected.handles, call);
-    same("stations", &memory.stations, &expected.stations, call);
-    same("pending", &memory.pending, &expected.pending, call);
-}
-
-/// Says where two parts first differ.
-fn same<T: PartialEq>(part: &str, items: &[T], expected: &[T], call: &Call) {
-    if items != expected {
-        let at = items.iter().zip(expected).position(|(item, expected)| item != expected);
-        panic!("{part}: first difference {at:?}, after {call:02X?}");
+/// Compares every byte of every part; says where a part first differs.
+pub fn same_bytes(bytes: &Bytes, expected: &Bytes, after: impl Debug) {
+    for ((part, bytes), expected) in PARTS.into_iter().zip(bytes).zip(expected) {
+        if bytes != expected {
+            let mut pairs = bytes.iter().zip(expected).enumerate();
+            let difference = pairs.find(|(_, (byte, expected))| byte != expected);
+            panic!("{part}: (at, (byte, expected)) {difference:02X?}, after {after:02X?}");
+        }
     }
 }
 
@@ -70,7 +66,7 @@ pub fn on_memory<B: Broker>(memory: &Memory, call: &Call) -> Fed {
     let (mut broker, mut model) = (B::lend(memory), memory.clone());
     let fed = broker.make(call);
     assert_eq!(fed, model.make(call), "{call:02X?}");
-    same_memory(&broker.memory(), &model, call);
+    same_bytes(&broker.bytes(), &model.bytes(), call);
     fed
 }
 
@@ -88,7 +84,7 @@ impl<B: Broker> Both<B> {
         let model = Model::start();
         let mut broker = B::lend(&garbage(&mut Rng::new(0)));
         assert_eq!(broker.start(), 0);
-        assert!(broker.memory() == model.memory(), "the start");
+        same_bytes(&broker.bytes(), &model.memory().bytes(), "the start");
         Both { broker, model }
     }
 

@@ -6,7 +6,7 @@ use std::io::Write;
 use compare::lists::{self, Both};
 use compare::Lent;
 use gen::{each_seed, near_the_last_numbers, one_seed, state, Broker, Call, Counts};
-use model::{framed, Model};
+use model::{framed, Model, HANDLES, MAX_BODY, MIN_BUFFER, STATIONS};
 
 /// Prints past the test runner's capture, so that a run that passes shows it too.
 fn print(text: &str) {
@@ -31,7 +31,7 @@ fn every_pair_of_first_bytes() {
     let mut both = Both::<Lent>::start();
     for first in 0..=255 {
         for second in 0..=255 {
-            let station = u32::from(second % 8);
+            let station = u32::from(second) % STATIONS as u32;
             both.feed(station, &[first, second]);
             assert_eq!(both.reconnect(station), 0);
         }
@@ -53,10 +53,10 @@ fn every_body_of_two_bytes() {
 #[test]
 fn bodies_of_every_length() {
     let mut both = Both::<Lent>::start();
-    for length in 1..=2048 {
+    for length in 1..=MAX_BODY {
         let frame = framed(&vec![1; length]);
         let (most, last) = frame.split_at(frame.len() - 1);
-        let station = length as u32 % 8;
+        let station = (length % STATIONS) as u32;
         assert_eq!(both.feed(station, most).answer, []);
         assert_eq!(both.feed(station, last).used, 1);
     }
@@ -76,11 +76,21 @@ fn long_chunks() {
 
 #[test]
 fn answer_buffers_of_every_kind() {
-    for buffer_len in [0, 1, 2, 1022, 1023, 1024, 1025, 2048, 65_536] {
+    for buffer_len in [
+        0,
+        1,
+        2,
+        MIN_BUFFER - 2,
+        MIN_BUFFER - 1,
+        MIN_BUFFER,
+        MIN_BUFFER + 1,
+        2 * MIN_BUFFER,
+        65_536,
+    ] {
         let mut both = Both::<Lent>::start();
         for chunk in [&[2, 1, 8][..], &[], &[0x80], &[0x80], &[1, 2, 3], &[]] {
             let call = Call::Feed { station: 7, chunk: chunk.to_vec(), buffer_len };
-            assert_eq!(both.make(&call).refusal, if buffer_len < 1024 { 12 } else { 0 });
+            assert_eq!(both.make(&call).refusal, if buffer_len < MIN_BUFFER { 12 } else { 0 });
         }
     }
 }
@@ -99,7 +109,7 @@ fn slot(model: &Model, station: u32, number: u32) -> usize {
     let is_it = |handle: &Option<model::Handle>| {
         handle.is_some_and(|handle| handle.station == station && handle.number == number)
     };
-    model.handles.iter().position(is_it).unwrap_or(32)
+    model.handles.iter().position(is_it).unwrap_or(HANDLES)
 }
 
 #[test]
@@ -113,9 +123,10 @@ fn handles_are_found() {
             for station in [0, 1, 2, 3, 4, 5, 6, 7, 8, u32::MAX] {
                 let expected = slot(&model, station, number);
                 assert_eq!(lent.find(station, number), expected, "{station}, {number}");
-                found += usize::from(expected < 32);
+                found += usize::from(expected < HANDLES);
             }
         }
+        assert!(lent.bytes() == model.memory().bytes(), "find wrote something");
     });
     assert!(found > 1000 || one_seed().is_some(), "{found}");
 }

@@ -7,7 +7,7 @@ use std::time::Duration;
 
 use compare::program::{compare, compare_sessions, spawn};
 use gen::{one_seed, write_chunk, Rng};
-use model::write_number;
+use model::{write_number, HANDLES, MAX_CHUNK, PENDING_ROW};
 
 const OPEN: [u8; 3] = [2, 1, 0x28];
 
@@ -70,7 +70,8 @@ fn numbers_of_every_width() {
 
 #[test]
 fn lengths_up_to_4096() {
-    for length in [0usize, 1, 127, 128, 2050, 2051, 4095, 4096, 4097, 4098, 16384] {
+    let around = [MAX_CHUNK - 1, MAX_CHUNK, MAX_CHUNK + 1, MAX_CHUNK + 2, 4 * MAX_CHUNK];
+    for length in [&[0, 1, 127, 128, PENDING_ROW, PENDING_ROW + 1], &around[..]].concat() {
         let many = OPEN.repeat(1 + length / 3);
         compare_between(&session(&[(1, &many[..length])]));
         compare_between(&session(&[(8, &many[..length])]));
@@ -111,7 +112,7 @@ fn empty_chunks_change_nothing() {
 fn blocks(mut output: impl Read + Send + 'static) -> Receiver<Vec<u8>> {
     let (sender, receiver) = channel();
     thread::spawn(move || loop {
-        let mut block = [0; 4096];
+        let mut block = [0; MAX_CHUNK];
         match output.read(&mut block) {
             Ok(count) if count > 0 && sender.send(block[..count].to_vec()).is_ok() => {}
             _ => return,
@@ -127,7 +128,7 @@ fn an_answer_comes_before_the_next_request_is_sent() {
     let output = blocks(child.stdout.take().expect("a pipe"));
     for count in 1..=40 {
         input.write_all(&session(&[(0, &OPEN)])).expect("the program reads");
-        let expected = if count <= 32 { vec![2, 0, count] } else { vec![1, 8] };
+        let expected = if usize::from(count) <= HANDLES { vec![2, 0, count] } else { vec![1, 8] };
         let mut answer = Vec::new();
         while answer.len() < expected.len() {
             let block = output.recv_timeout(Duration::from_secs(20));

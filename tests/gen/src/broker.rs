@@ -1,6 +1,6 @@
 //! What takes the calls, and scripts that make them.
 
-use model::{Fed, Memory, Model};
+use model::{Bytes, Fed, Memory, Model};
 
 use crate::call::{Call, Script};
 
@@ -26,8 +26,8 @@ pub trait Calls {
 pub trait Broker: Calls {
     /// Lends a copy of the memory, whatever is in it.
     fn lend(memory: &Memory) -> Self;
-    /// What the memory holds now.
-    fn memory(&self) -> Memory;
+    /// Every byte of the memory as it is now.
+    fn bytes(&self) -> Bytes;
     /// Starts; gives 0 or the refusal.
     fn start(&mut self) -> u32;
 }
@@ -55,8 +55,8 @@ impl Broker for Memory {
     fn lend(memory: &Memory) -> Self {
         memory.clone()
     }
-    fn memory(&self) -> Memory {
-        self.clone()
+    fn bytes(&self) -> Bytes {
+        self.bytes()
     }
     fn start(&mut self) -> u32 {
         self.start()

@@ -1,6 +1,6 @@
 //! Lists of calls: streams cut anywhere, stations in turns, breaks, reconnects, refused calls.
 
-use model::{framed, Model, STATIONS};
+use model::{framed, Model, MIN_BUFFER, STATIONS};
 
 use crate::body::body;
 use crate::rng::Rng;
@@ -44,9 +44,9 @@ impl Script {
         let size = self.size(self.unsent[station].len());
         let chunk = self.unsent[station][..size].to_vec();
         let (station, buffer_len) = match self.rng.below(60) {
-            0 => (self.rng.pick(&[8, 9, 256, u32::MAX]), self.rng.pick(&[1024, 0])),
-            1 => (station as u32, self.rng.pick(&[0, 1, 1023])),
-            _ => (station as u32, self.rng.pick(&[1024, 1024, 4096])),
+            0 => (self.rng.pick(&[8, 9, 256, u32::MAX]), self.rng.pick(&[MIN_BUFFER, 0])),
+            1 => (station as u32, self.rng.pick(&[0, 1, MIN_BUFFER - 1])),
+            _ => (station as u32, self.rng.pick(&[MIN_BUFFER, MIN_BUFFER, 4 * MIN_BUFFER])),
         };
         Call::Feed { station, chunk, buffer_len }
     }

@@ -1,6 +1,6 @@
 //! Demand 3's last part: two lists alike in reconnects and used bytes end alike.
 
-use model::Model;
+use model::{Model, MIN_BUFFER};
 
 use crate::broker::{run, Broker};
 use crate::call::Call;
@@ -74,7 +74,7 @@ fn replay(
 /// Feeds a chunk until it is used up.
 fn feed_all(broker: &mut impl Broker, station: u32, mut chunk: &[u8], answers: &mut Answers) {
     while !chunk.is_empty() {
-        let fed = broker.feed(station, chunk, 1024);
+        let fed = broker.feed(station, chunk, MIN_BUFFER);
         assert!(fed.refusal == 0 && fed.used > 0, "{fed:?}");
         answers.extend((!fed.answer.is_empty()).then_some((station, fed.answer)));
         chunk = &chunk[fed.used..];
@@ -95,6 +95,6 @@ pub fn check_cuts<B: Broker>(seed: u64, start: &Model, calls: usize) {
     for (name, cut) in cuts {
         let mut broker = B::lend(&start.memory());
         assert_eq!(replay(&record.events, &mut broker, cut), record.answers, "cut {name}");
-        assert!(broker.memory() == record.end.memory(), "memory, cut {name}");
+        assert!(broker.bytes() == record.end.memory().bytes(), "memory, cut {name}");
     }
 }

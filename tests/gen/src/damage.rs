@@ -1,7 +1,7 @@
 //! Damaging a memory at one place, chosen with a view to the state that it holds.
 
 use model::{
-    Handle, Memory, Model, Token, DACL_ROW, GROUP_WORD, PENDING_ROW, RESTRICTING_WORD,
+    station_word, token_word, Handle, Memory, Model, Token, DACL_ROW, PENDING_ROW, STATION_ROW,
     STATION_WORD, TOKEN_ROW,
 };
 
@@ -45,12 +45,12 @@ impl Target<'_> {
 
     /// The word of a group.
     pub fn group(&mut self, slot: usize, index: usize) -> &mut u64 {
-        self.word(slot, GROUP_WORD + index)
+        self.word(slot, token_word::GROUPS + index)
     }
 
     /// The word of a restricting SID.
     pub fn restricting(&mut self, slot: usize, index: usize) -> &mut u64 {
-        self.word(slot, RESTRICTING_WORD + index)
+        self.word(slot, token_word::RESTRICTING + index)
     }
 
     /// A byte of a DACL's row.
@@ -58,9 +58,9 @@ impl Target<'_> {
         &mut self.memory.dacls[slot * DACL_ROW + at]
     }
 
-    /// A word of a station: 0 token, 1 pending bytes, 2 broken mark.
+    /// A word of a station.
     pub fn station(&mut self, station: usize, word: usize) -> &mut u64 {
-        &mut self.memory.stations[STATION_WORD + 3 * station + word]
+        &mut self.memory.stations[STATION_WORD + STATION_ROW * station + word]
     }
 
     /// A byte of a station's pending row.
@@ -74,8 +74,8 @@ impl Target<'_> {
         let row = &mut self.memory.pending[station * PENDING_ROW..][..PENDING_ROW];
         row.fill(0);
         row.get_mut(..bytes.len())?.copy_from_slice(bytes);
-        *self.station(station, 1) = bytes.len() as u64;
-        *self.station(station, 2) = 0;
+        *self.station(station, station_word::PENDING_COUNT) = bytes.len() as u64;
+        *self.station(station, station_word::BROKEN) = 0;
         Some(())
     }
 

@@ -1,7 +1,9 @@
-//! For each rule of valid memory the damages that break this rule and, but for one, no other.
+//! For each rule of valid memory the damages that break this rule and, but for two, no other.
 
 use model::{
-    Group, Handle, Memory, Model, Token, TokenType, ALL_PRIVILEGES, PENDING_ROW, TOKEN_ROW,
+    handle_byte, station_word, token_word, Group, HandleRecord, Memory, Model, Token, TokenType,
+    ALL_PRIVILEGES, DACL_ROW, HANDLE_BYTES, MAX_BODY, MAX_DACL, MAX_GROUPS, MAX_RESTRICTING,
+    NEXT_HANDLE, NEXT_TOKEN, PARTS, PENDING_ROW, TOKEN_ROW,
 };
 
 use crate::damage::{references, Target};
@@ -37,23 +39,23 @@ pub const DAMAGES: &[Damage] = &[
     damage("size", "a part is shorter", |t| resize(t, -1)),
     damage("size", "a part is empty", |t| resize(t, isize::MIN)),
     damage("next numbers", "the next token number is 0", |t| {
-        t.memory.stations[0] = 0;
+        t.memory.stations[NEXT_TOKEN] = 0;
         Some(())
     }),
     damage("next numbers", "the next handle number is 0", |t| {
-        t.memory.stations[1] = 0;
+        t.memory.stations[NEXT_HANDLE] = 0;
         t.model.handles.iter().all(Option::is_none).then_some(())
     }),
     damage("numbers", "two tokens have one number", two_tokens_with_one_number),
     damage("numbers", "two handles have one number", two_handles_with_one_number),
     damage("numbers", "a token number is not below the next", |t| {
         let highest = t.model.tokens.iter().flatten().map(|token| token.number).max()?;
-        t.memory.stations[0] = t.rng.pick(&[highest, 1]);
+        t.memory.stations[NEXT_TOKEN] = t.rng.pick(&[highest, 1]);
         Some(())
     }),
     damage("numbers", "a handle number is not below the next", |t| {
         let highest = t.model.handles.iter().flatten().map(|handle| handle.number).max()?;
-        t.memory.stations[1] = t.rng.pick(&[highest, 1]).into();
+        t.memory.stations[NEXT_HANDLE] = t.rng.pick(&[highest, 1]).into();
         Some(())
     }),
     damage("references", "a handle's token is not live", |t| {
@@ -64,15 +66,16 @@ pub const DAMAGES: &[Damage] = &[
         t.memory.handles[at].token = t.dead_number();
         Some(())
     }),
+    damage("references", "a free handle slot with a number", number_in_a_free_handle_slot),
     damage("references", "a station's token is not live", |t| {
         let at = replaceable_station(t)?;
-        *t.station(at, 0) = t.dead_number();
+        *t.station(at, station_word::TOKEN) = t.dead_number();
         Some(())
     }),
     damage("station tokens", "a station's token is for impersonation", |t| {
         let at = replaceable_station(t)?;
         let slot = t.slot(|token| token.kind == TokenType::Impersonation)?;
-        *t.station(at, 0) = t.token(slot)?.number;
+        *t.station(at, station_word::TOKEN) = t.token(slot)?.number;
         Some(())
     }),
     damage("referred to", "a token lost its handles", |t| {
@@ -81,7 +84,7 @@ pub const DAMAGES: &[Damage] = &[
         let slot = t.slot(|token| !of_station(token.number))?;
         let number = t.token(slot)?.number;
         for handle in t.memory.handles.iter_mut().filter(|handle| handle.token == number) {
-            *handle = Handle::default();
+            *handle = HandleRecord::default();
         }
         Some(())
     }),
@@ -89,9 +92,9 @@ pub const DAMAGES: &[Damage] = &[
         let (slot, other) = (t.free_slot()?, t.slot(|_| true)?);
         let (from, to) = (other * TOKEN_ROW, slot * TOKEN_ROW);
         t.memory.tokens.copy_within(from..from + TOKEN_ROW, to);
-        *t.word(slot, 0) = t.model.next_token;
-        *t.word(slot, 19) = 0;
-        t.memory.stations[0] = t.model.next_token.checked_add(1)?;
+        *t.word(slot, token_word::NUMBER) = t.model.next_token;
+        *t.word(slot, token_word::DACL_LENGTH) = 0;
+        t.memory.stations[NEXT_TOKEN] = t.model.next_token.checked_add(1)?;
         Some(())
     }),
     damage("free", "a word of a free token slot", |t| {
@@ -100,39 +103,37 @@ pub const DAMAGES: &[Damage] = &[
         Some(())
     }),
     damage("free", "a byte of a free DACL row", |t| {
-        let (slot, at) = (t.free_slot()?, t.rng.below(256));
+        let (slot, at) = (t.free_slot()?, t.rng.below(DACL_ROW));
         *t.dacl(slot, at) = 1 << t.rng.below(8);
         Some(())
     }),
     damage("free", "a group past the count", |t| {
-        let slot = t.slot(|token| token.groups.len() < 64)?;
+        let slot = t.slot(|token| token.groups.len() < MAX_GROUPS)?;
         let count = t.token(slot)?.groups.len();
-        let at = t.rng.pick(&[count, 63]);
+        let at = t.rng.pick(&[count, MAX_GROUPS - 1]);
         *t.group(slot, at) = 1 << t.rng.below(64);
         Some(())
     }),
     damage("free", "a restricting SID past the count", |t| {
-        let slot = t.slot(|token| token.restricting.len() < 16)?;
+        let slot = t.slot(|token| token.restricting.len() < MAX_RESTRICTING)?;
         let count = t.token(slot)?.restricting.len();
-        let at = t.rng.pick(&[count, 15]);
+        let at = t.rng.pick(&[count, MAX_RESTRICTING - 1]);
         *t.restricting(slot, at) = 1 << t.rng.below(64);
         Some(())
     }),
     damage("free", "a DACL byte past the length", |t| {
-        let slot = t.slot(|token| token.dacl.len() < 256)?;
+        let slot = t.slot(|token| token.dacl.len() < MAX_DACL)?;
         let length = t.token(slot)?.dacl.len();
-        let at = t.rng.pick(&[length, 255]);
+        let at = t.rng.pick(&[length, MAX_DACL - 1]);
         *t.dacl(slot, at) = 1;
         Some(())
     }),
-    damage("free", "a field of a free handle", |t| {
+    damage("free", "a byte of a free handle slot", |t| {
         let at = t.handle_slot(|handle| handle.is_none())?;
-        let handle = &mut t.memory.handles[at];
-        match t.rng.below(3) {
-            0 => handle.station = 1,
-            1 => handle.token = 1,
-            _ => handle.mask = 8,
-        }
+        let byte = t.rng.pick(&free_slot_bytes());
+        let mut bytes = [0; HANDLE_BYTES];
+        bytes[byte] = 1 << t.rng.below(8);
+        t.memory.handles[at] = HandleRecord::from_bytes(&bytes);
         Some(())
     }),
     damage("free", "a pending byte past the count", |t| {
@@ -142,19 +143,38 @@ pub const DAMAGES: &[Damage] = &[
         *t.pending(at, byte) = 1;
         Some(())
     }),
-    damage("ranges", "user", |t| in_slot(t, any, 3, &[1 << 32, u64::MAX])),
-    damage("ranges", "type", |t| in_slot(t, impersonation, 4, &[0, 3, (1 << 32) + 2])),
-    damage("ranges", "level", |t| in_slot(t, impersonation, 5, &[4, 1 << 32])),
-    damage("ranges", "elevation", |t| in_slot(t, any, 6, &[0, 4, (1 << 32) + 1])),
-    damage("ranges", "write-restricted mark", |t| in_slot(t, any, 7, &[2, 1 << 32])),
-    damage("ranges", "user-deny-only mark", |t| in_slot(t, any, 8, &[2, 1 << 32])),
-    damage("ranges", "scope", |t| in_slot(t, any, 11, &[1 << 32, u64::MAX])),
-    damage("ranges", "integrity", |t| {
-        in_slot(t, any, 12, &[1, 4095, 20480, (1 << 32) + 4096, u64::MAX])
+    damage("ranges", "user", |t| in_slot(t, any, token_word::USER, &[1 << 32, u64::MAX])),
+    damage("ranges", "type", |t| {
+        in_slot(t, impersonation, token_word::TYPE, &[0, 3, (1 << 32) + 2])
     }),
-    damage("ranges", "group count", |t| in_slot(t, any, 17, &[65, 1 << 32, u64::MAX])),
-    damage("ranges", "restricting count", |t| in_slot(t, any, 18, &[17, 1 << 32, u64::MAX])),
-    damage("ranges", "DACL length", |t| in_slot(t, any, 19, &[257, 1 << 32, u64::MAX])),
+    damage("ranges", "level", |t| in_slot(t, impersonation, token_word::LEVEL, &[4, 1 << 32])),
+    damage("ranges", "elevation", |t| {
+        in_slot(t, any, token_word::ELEVATION, &[0, 4, (1 << 32) + 1])
+    }),
+    damage("ranges", "write-restricted mark", |t| {
+        in_slot(t, any, token_word::WRITE_RESTRICTED, &[2, 1 << 32])
+    }),
+    damage("ranges", "user-deny-only mark", |t| {
+        in_slot(t, any, token_word::USER_DENY_ONLY, &[2, 1 << 32])
+    }),
+    damage("ranges", "scope", |t| in_slot(t, any, token_word::SCOPE, &[1 << 32, u64::MAX])),
+    damage("ranges", "integrity", |t| {
+        in_slot(t, any, token_word::INTEGRITY, &[1, 4095, 20480, (1 << 32) + 4096, u64::MAX])
+    }),
+    damage("ranges", "group count", |t| {
+        in_slot(t, any, token_word::GROUP_COUNT, &[MAX_GROUPS as u64 + 1, 1 << 32, u64::MAX])
+    }),
+    damage("ranges", "restricting count", |t| {
+        in_slot(
+            t,
+            any,
+            token_word::RESTRICTING_COUNT,
+            &[MAX_RESTRICTING as u64 + 1, 1 << 32, u64::MAX],
+        )
+    }),
+    damage("ranges", "DACL length", |t| {
+        in_slot(t, any, token_word::DACL_LENGTH, &[MAX_DACL as u64 + 1, 1 << 32, u64::MAX])
+    }),
     damage("ranges", "restricting SID", |t| {
         let slot = t.slot(|token| !token.restricting.is_empty())?;
         let at = t.rng.below(t.token(slot)?.restricting.len());
@@ -163,28 +183,28 @@ pub const DAMAGES: &[Damage] = &[
     }),
     damage("ranges", "a handle's station", |t| {
         let at = t.handle_slot(|handle| handle.is_some())?;
-        t.memory.handles[at].station = t.rng.pick(&[8, 256, u32::MAX]);
+        t.memory.handles[at].station = t.rng.pick(&[8, 256, u16::MAX]);
         Some(())
     }),
     damage("ranges", "a handle's mask", |t| {
         let at = t.handle_slot(|handle| handle.is_some())?;
-        t.memory.handles[at].mask = t.rng.pick(&[0, 0x10, 0x200, 0x1FF, u32::MAX]);
+        t.memory.handles[at].mask = t.rng.pick(&[0, 0x10, 0x200, 0x1FF, u16::MAX]);
         Some(())
     }),
     damage("ranges", "next handle number", |t| {
-        t.memory.stations[1] = t.rng.pick(&[1 << 32, u64::MAX]);
+        t.memory.stations[NEXT_HANDLE] = t.rng.pick(&[1 << 32, u64::MAX]);
         Some(())
     }),
     damage("ranges", "broken mark", |t| {
         let model = t.model;
         let at = t.some_station(|at| model.stations[at].pending.is_empty())?;
-        *t.station(at, 2) = t.rng.pick(&[2, 1 << 32, u64::MAX]);
+        *t.station(at, station_word::BROKEN) = t.rng.pick(&[2, 1 << 32, u64::MAX]);
         Some(())
     }),
-    damage("within present", "enabled but absent", |t| absent_bit(t, 14)),
-    damage("within present", "default but absent", |t| absent_bit(t, 15)),
-    damage("existing privileges", "present", |t| unknown_bit(t, 13)),
-    damage("existing privileges", "used", |t| unknown_bit(t, 16)),
+    damage("within present", "enabled but absent", |t| absent_bit(t, token_word::ENABLED)),
+    damage("within present", "default but absent", |t| absent_bit(t, token_word::DEFAULT)),
+    damage("existing privileges", "present", |t| unknown_bit(t, token_word::PRESENT)),
+    damage("existing privileges", "used", |t| unknown_bit(t, token_word::USED)),
     damage("attributes", "an unknown bit", |t| {
         let (slot, at) = grouped(t, |_| true)?;
         *t.group(slot, at) |= 1 << (32 + 5 + t.rng.below(25));
@@ -196,13 +216,15 @@ pub const DAMAGES: &[Damage] = &[
         Some(())
     }),
     damage("primary level", "a primary token with a level", |t| {
-        in_slot(t, |token| token.kind == TokenType::Primary, 5, &[1, 2, 3])
+        in_slot(t, |token| token.kind == TokenType::Primary, token_word::LEVEL, &[1, 2, 3])
     }),
-    damage("indexes", "owner past the groups", |t| past_groups(t, 9)),
-    damage("indexes", "primary group past the groups", |t| past_groups(t, 10)),
+    damage("indexes", "owner past the groups", |t| past_groups(t, token_word::OWNER)),
+    damage("indexes", "primary group past the groups", |t| {
+        past_groups(t, token_word::PRIMARY_GROUP)
+    }),
     damage("indexes", "owner without the attribute", |t| {
         let (slot, at) = grouped(t, |group| !group.has(Group::OWNER))?;
-        *t.word(slot, 9) = at as u64 + 1;
+        *t.word(slot, token_word::OWNER) = at as u64 + 1;
         Some(())
     }),
     damage("deny-only", "a deny-only group is enabled", |t| {
@@ -218,7 +240,7 @@ pub const DAMAGES: &[Damage] = &[
     damage("pending", "broken with pending bytes", |t| {
         let model = t.model;
         let at = t.some_station(|at| !model.stations[at].pending.is_empty())?;
-        *t.station(at, 2) = 1;
+        *t.station(at, station_word::BROKEN) = 1;
         Some(())
     }),
     damage("pending", "length 0", |t| t.set_pending(&[0])),
@@ -229,15 +251,21 @@ pub const DAMAGES: &[Damage] = &[
     damage("pending", "a whole frame", |t| t.set_pending(&[2, 1, 8])),
     damage("pending", "more than a frame", |t| t.set_pending(&[2, 1, 8, 2])),
     damage("pending", "the longest frame, whole", |t| {
-        t.set_pending(&[vec![0x80, 0x10], vec![7; 2048]].concat())
+        t.set_pending(&[vec![0x80, 0x10], vec![7; MAX_BODY]].concat())
     }),
     damage("pending", "a count past the row", |t| {
         let at = t.some_station(|_| true)?;
-        *t.station(at, 2) = 0;
-        *t.station(at, 1) += t.rng.pick(&[PENDING_ROW as u64 + 1, 1 << 32]);
+        *t.station(at, station_word::BROKEN) = 0;
+        *t.station(at, station_word::PENDING_COUNT) +=
+            t.rng.pick(&[PENDING_ROW as u64 + 1, 1 << 32]);
         Some(())
     }),
 ];
+
+/// The bytes of a handle's record but its number's: a slot with a number is not free.
+fn free_slot_bytes() -> Vec<usize> {
+    (0..HANDLE_BYTES).filter(|at| !handle_byte::NUMBER.contains(at)).collect()
+}
 
 fn any(_: &Token) -> bool {
     true
@@ -250,10 +278,10 @@ fn impersonation(token: &Token) -> bool {
 fn resize(t: &mut Target, by: isize) -> Option<()> {
     let size = |length: usize| length.saturating_add_signed(by);
     let memory = &mut t.memory;
-    match t.rng.below(5) {
+    match t.rng.below(PARTS.len()) {
         0 => memory.tokens.resize(size(memory.tokens.len()), 0),
         1 => memory.dacls.resize(size(memory.dacls.len()), 0),
-        2 => memory.handles.resize(size(memory.handles.len()), Handle::default()),
+        2 => memory.handles.resize(size(memory.handles.len()), HandleRecord::default()),
         3 => memory.stations.resize(size(memory.stations.len()), 0),
         _ => memory.pending.resize(size(memory.pending.len()), 0),
     }
@@ -266,13 +294,13 @@ fn two_tokens_with_one_number(t: &mut Target) -> Option<()> {
     let (kept, kind) = (t.token(first)?.number, t.token(first)?.kind);
     let second = t.slot(|token| token.number != kept && token.kind == kind)?;
     let lost = t.token(second)?.number;
-    *t.word(second, 0) = kept;
+    *t.word(second, token_word::NUMBER) = kept;
     for handle in t.memory.handles.iter_mut().filter(|handle| handle.token == lost) {
         handle.token = kept;
     }
     for station in 0..t.model.stations.len() {
         if t.model.stations[station].token == lost {
-            *t.station(station, 0) = kept;
+            *t.station(station, station_word::TOKEN) = kept;
         }
     }
     Some(())
@@ -283,6 +311,17 @@ fn two_handles_with_one_number(t: &mut Target) -> Option<()> {
     let number = t.memory.handles[first].number;
     let second = t.handle_slot(|handle| handle.is_some_and(|handle| handle.number != number))?;
     t.memory.handles[second].number = number;
+    Some(())
+}
+
+/// A number that was given and is not live, so that it is the other fields that are wrong.
+fn number_in_a_free_handle_slot(t: &mut Target) -> Option<()> {
+    let at = t.handle_slot(|handle| handle.is_none())?;
+    let live: Vec<u32> = t.model.handles.iter().flatten().map(|handle| handle.number).collect();
+    let given = 1..t.model.next_handle;
+    let numbers = [1, given.end / 2, given.end - 1].into_iter();
+    let unused: Vec<u32> = numbers.filter(|n| given.contains(n) && !live.contains(n)).collect();
+    t.memory.handles[at].number = t.rng.pick_any(&unused)?;
     Some(())
 }
 

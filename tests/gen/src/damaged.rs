@@ -1,6 +1,9 @@
 //! Memories damaged in every way, for tests to look at.
 
-use model::{Handle, Memory, Model, DACL_ROW, PENDING_ROW, STATIONS, TOKEN_ROW};
+use model::{
+    token_word, HandleRecord, Memory, Model, DACL_ROW, HANDLE_BYTES, MAX_BODY, MAX_DACL,
+    MAX_GROUPS, PENDING_ROW, STATIONS, TOKEN_ROW,
+};
 
 use crate::damage_list::{Damage, DAMAGES};
 use crate::rng::Rng;
@@ -28,42 +31,61 @@ pub fn each_damage(seeds: u64, mut check: impl FnMut(&Damage, &Model, Memory)) {
 /// Writes a random or a telling value somewhere into memory of the right sizes.
 pub fn poke(rng: &mut Rng, memory: &mut Memory) {
     let odd = rng.bits();
-    let telling = [0, 1, 2, 3, 4, 8, 64, 65, 256, 257, 2049, 2050, 1 << 32, u64::MAX];
+    let sizes = [MAX_GROUPS, MAX_DACL, MAX_BODY].map(|size| size as u64);
+    let past = sizes.map(|size| size + 1);
+    let telling =
+        [&[0, 1, 2, 3, 4, 8, PENDING_ROW as u64, 1 << 32, u64::MAX], &sizes[..], &past].concat();
     let value = if rng.percent(10) { odd } else { rng.pick(&telling) };
-    let live = memory.tokens.chunks(TOKEN_ROW).position(|row| row[0] != 0).unwrap_or(0);
+    let live =
+        memory.tokens.chunks(TOKEN_ROW).position(|row| row[token_word::NUMBER] != 0).unwrap_or(0);
     match rng.below(9) {
         0 => *any(rng, &mut memory.tokens) = value,
         1 => memory.tokens[TOKEN_ROW * live + rng.below(TOKEN_ROW)] ^= 1 << rng.below(64),
-        2 => memory.tokens[TOKEN_ROW * live + rng.below(20)] = value,
+        2 => memory.tokens[TOKEN_ROW * live + rng.below(token_word::GROUPS)] = value,
         3 => *any(rng, &mut memory.dacls) = value as u8,
         4 => memory.dacls[DACL_ROW * live + rng.below(DACL_ROW)] = value as u8,
-        5 => {
-            let field = rng.below(4);
-            let handle = any(rng, &mut memory.handles);
-            match field {
-                0 => handle.station = value as u32,
-                1 => handle.number = value as u32,
-                2 => handle.token = value,
-                _ => handle.mask = value as u32,
-            }
-        }
+        5 => poke_handle(rng, &mut memory.handles, value),
         6 => *any(rng, &mut memory.stations) = value,
         7 => *any(rng, &mut memory.pending) = value as u8,
         _ => memory.pending[PENDING_ROW * rng.below(STATIONS) + rng.below(4)] = value as u8,
     }
 }
 
+fn poke_handle(rng: &mut Rng, handles: &mut [HandleRecord], value: u64) {
+    let (field, byte) = (rng.below(5), rng.below(HANDLE_BYTES));
+    let handle = any(rng, handles);
+    match field {
+        0 => handle.station = value as u16,
+        1 => handle.mask = value as u16,
+        2 => handle.number = value as u32,
+        3 => handle.token = value,
+        _ => {
+            let mut bytes = handle.bytes();
+            bytes[byte] = value as u8;
+            *handle = HandleRecord::from_bytes(&bytes);
+        }
+    }
+}
+
 /// Memory of the right sizes with anything in it.
 pub fn garbage(rng: &mut Rng) -> Memory {
+    filled_by(|| rng.word() as u8)
+}
+
+/// Memory of the right sizes with this byte everywhere.
+pub fn filled(pattern: u8) -> Memory {
+    filled_by(|| pattern)
+}
+
+fn filled_by(mut byte: impl FnMut() -> u8) -> Memory {
     let mut memory = Model::start().memory();
-    memory.tokens.fill_with(|| rng.word());
-    memory.stations.fill_with(|| rng.word());
-    memory.dacls.fill_with(|| rng.word() as u8);
-    memory.pending.fill_with(|| rng.word() as u8);
-    memory.handles.fill_with(|| {
-        let (number, token) = (rng.word() as u32, rng.word());
-        Handle { station: rng.word() as u32, number, token, mask: rng.word() as u32 }
-    });
+    for word in memory.tokens.iter_mut().chain(&mut memory.stations) {
+        *word = u64::from_ne_bytes(std::array::from_fn(|_| byte()));
+    }
+    for place in memory.dacls.iter_mut().chain(&mut memory.pending) {
+        *place = byte();
+    }
+    memory.handles.fill_with(|| HandleRecord::from_bytes(&std::array::from_fn(|_| byte())));
     memory
 }
 

@@ -22,7 +22,7 @@ pub use call::{Call, Script};
 pub use counts::Counts;
 pub use cuts::{check_cuts, record, Event};
 pub use damage_list::{Damage, DAMAGES};
-pub use damaged::{each_damage, garbage, poke};
+pub use damaged::{each_damage, filled, garbage, poke};
 pub use fields::{fields, flat, Field};
 pub use rng::Rng;
 pub use seeds::{each_seed, one_seed};

@@ -2,7 +2,8 @@
 
 use model::{
     framed, Elevation, Group, Handle, Level, Mask, Model, Privileges, Station, Token, TokenType,
-    ALL_PRIVILEGES, HANDLES, INTEGRITY_LEVELS, STATIONS, TOKENS,
+    ALL_PRIVILEGES, HANDLES, INTEGRITY_LEVELS, MAX_BODY, MAX_DACL, MAX_GROUPS, MAX_RESTRICTING,
+    STATIONS, TOKENS,
 };
 
 use crate::rng::Rng;
@@ -113,15 +114,15 @@ fn random_token(rng: &mut Rng, number: u64) -> Token {
             default: rng.bits() & present,
             used: rng.bits() & ALL_PRIVILEGES,
         },
-        restricting: small_list(rng, 16).iter().map(|_| rng.word() as u32).collect(),
+        restricting: small_list(rng, MAX_RESTRICTING).iter().map(|_| rng.word() as u32).collect(),
         write_restricted: rng.percent(30),
         user_deny_only: rng.percent(30),
-        dacl: small_list(rng, 256).iter().map(|_| rng.word() as u8).collect(),
+        dacl: small_list(rng, MAX_DACL).iter().map(|_| rng.word() as u8).collect(),
         scope: rng.pick(&[0, 1, u32::MAX]),
         integrity: rng.pick(&INTEGRITY_LEVELS),
         ..Token::bare(number, rng.pick(&[18, 50, 60, u32::MAX]), rng.pick(&[999, 9, u64::MAX]))
     };
-    token.groups = small_list(rng, 64).iter().map(|_| random_group(rng)).collect();
+    token.groups = small_list(rng, MAX_GROUPS).iter().map(|_| random_group(rng)).collect();
     place_indexes(rng, &mut token);
     token
 }
@@ -157,7 +158,7 @@ fn random_station(rng: &mut Rng, token: u64) -> Station {
     let broken = rng.percent(15);
     let mut pending = Vec::new();
     if !broken && rng.percent(40) {
-        let length = rng.pick(&[1, 5, 127, 128, 300, 2048]);
+        let length = rng.pick(&[1, 5, 127, 128, 300, MAX_BODY]);
         let frame = framed(&(0..length).map(|_| rng.word() as u8).collect::<Vec<_>>());
         let cut = rng.pick(&[1, 2, frame.len() / 2, frame.len() - 1]).min(frame.len() - 1);
         pending = frame[..cut].to_vec();

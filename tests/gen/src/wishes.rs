@@ -2,7 +2,7 @@
 
 use model::{
     Group, Handle, Mask, Model, Reader, Request, Token, TokenType, ALL_PRIVILEGES,
-    INTEGRITY_LEVELS, NO_CHANGE, RESET_GROUPS, RESET_PRIVILEGES,
+    INTEGRITY_LEVELS, MAX_DACL, MAX_GROUPS, NO_CHANGE, RESET_GROUPS, RESET_PRIVILEGES,
 };
 
 use crate::fields::{fields, flat};
@@ -144,7 +144,7 @@ impl Wish<'_> {
             0 => integrity = self.rng.pick(&[1, 4095, 16385, 20480, u32::MAX]),
             1 => present |= self.rng.pick(&[1, 2, 1 << 37, 1 << 63]),
             2 => default = self.rng.word(),
-            3 => groups.extend([(60, 2); 65]),
+            3 => groups.extend([(60, 2); MAX_GROUPS + 1]),
             _ => {}
         }
         Request::Create { user, session, integrity, present, default, groups }
@@ -154,7 +154,7 @@ impl Wish<'_> {
         let count = match self.rng.below(12) {
             0 => 0,
             1 => 63 + self.rng.below(2),
-            2 => self.rng.below(64),
+            2 => self.rng.below(MAX_GROUPS),
             _ => 1 + self.rng.below(6),
         };
         let bad = self.rng.percent(6);
@@ -240,7 +240,7 @@ impl Wish<'_> {
         }
         let user = self.token(handle).map_or(0, |token| token.user);
         let indexes: Vec<usize> = (0..groups.len()).collect();
-        let most = if self.rng.percent(10) { 64 } else { 4 };
+        let most = if self.rng.percent(10) { MAX_GROUPS } else { 4 };
         let mut entries: Vec<_> = self
             .rng
             .some(&indexes, most)
@@ -294,12 +294,12 @@ impl Wish<'_> {
     fn dacl(&mut self) -> (u32, Vec<u8>) {
         let length = match self.rng.below(6) {
             0 => 0,
-            1 => self.rng.pick(&[127, 128, 255, 256]),
+            1 => self.rng.pick(&[127, 128, MAX_DACL - 1, MAX_DACL]),
             _ => self.rng.below(40),
         };
         let bytes = (0..length).map(|_| self.rng.word() as u8).collect();
         match self.rng.below(20) {
-            0 => (1, vec![7; 257 + self.rng.below(3)]),
+            0 => (1, vec![7; MAX_DACL + 1 + self.rng.below(3)]),
             1 => (self.rng.pick(&[0, 2, u32::MAX]), bytes),
             2..=7 => (0, vec![]),
             _ => (1, bytes),
@@ -327,7 +327,7 @@ impl Wish<'_> {
     fn restrict(&mut self, handle: Handle) -> Request {
         let groups = self.token(handle).map_or(0, |token| token.groups.len());
         let indexes: Vec<u32> = (0..groups as u32).collect();
-        let most = if self.rng.percent(10) { 64 } else { 3 };
+        let most = if self.rng.percent(10) { MAX_GROUPS } else { 3 };
         let mut deny = self.rng.some(&indexes, most);
         let count = if self.rng.percent(12) { self.rng.below(18) } else { self.rng.below(3) };
         let sids = (0..count).map(|_| self.rng.pick(&SIDS)).collect();

@@ -1,17 +1,17 @@
 //! Every request gets every status that it can get, and the memory always holds the state.
 
 use gen::{body, near_the_last_numbers, state, Counts, Rng};
-use model::{framed, Model};
+use model::{framed, Model, MIN_BUFFER, STATIONS};
 
 /// Feeds so many requests as whole frames and counts their statuses.
 fn run(seed: u64, mut model: Model, requests: usize, counts: &mut Counts) {
     let mut rng = Rng::new(seed);
     for step in 0..requests {
-        let station = rng.below(8);
+        let station = rng.below(STATIONS);
         model.reconnect(station as u32);
         let body = body(&mut rng, &model, station);
         let before = model.clone();
-        let fed = model.feed(station as u32, &framed(&body), 1024);
+        let fed = model.feed(station as u32, &framed(&body), MIN_BUFFER);
         let place = format!("seed {seed}, step {step}, station {station}, body {body:02X?}");
         assert_eq!((fed.refusal, fed.used), (0, framed(&body).len()), "{place}");
         let is_success = gen::status(&fed.answer) == Some(0);

@@ -1,7 +1,7 @@
 //! The model itself meets demand 3's last part, and scripts break streams often enough to show it.
 
 use gen::{check_cuts, each_seed, record, state, Event};
-use model::{Memory, Model};
+use model::{Memory, Model, STATIONS};
 
 #[test]
 fn cutting_changes_nothing() {
@@ -18,7 +18,7 @@ fn scripts_break_streams_and_answer_10_once() {
         let record = record(seed, &Model::start(), 400);
         let broken = record.answers.iter().filter(|(_, answer)| *answer == [1, 10]).count();
         let mended = record.events.iter().filter(|(_, event)| *event == Event::Reconnect).count();
-        assert!(broken <= mended + 8, "seed {seed}");
+        assert!(broken <= mended + STATIONS, "seed {seed}");
         breaks += broken;
     }
     println!("{breaks} breaks in 8,000 calls");

@@ -13,12 +13,12 @@ fn undamaged_memories_are_valid() {
     }
 }
 
-/// The rules that a damage breaks: its own alone, with one exception that cannot be helped.
+/// The rules that a damage breaks: its own alone, with two exceptions that cannot be helped.
 fn breaks(rule: &'static str, what: &str) -> Vec<&'static str> {
-    if what == "the next token number is 0" {
-        vec![rule, "numbers"]
-    } else {
-        vec![rule]
+    match what {
+        "the next token number is 0" => vec![rule, "numbers"],
+        "a free handle slot with a number" => vec![rule, "ranges"],
+        _ => vec![rule],
     }
 }
 

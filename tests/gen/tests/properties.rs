@@ -1,7 +1,7 @@
 //! Demand 3 on the model itself: what never grows, what stays, and that cuts change nothing.
 
 use gen::{each_seed, run, state, Call, Step};
-use model::{Group, Model, Request, Token};
+use model::{Group, Model, Request, Token, STATIONS};
 
 /// Many scripts, from the start and from random states.
 fn run_all(check: impl Fn(&Step) + Copy) {
@@ -21,8 +21,8 @@ fn pairs<'a>(before: &'a Model, after: &'a Model) -> Vec<(&'a Token, &'a Token)>
 /// The state without the streams' places.
 fn without_streams(model: &Model) -> Model {
     let mut model = model.clone();
-    for station in 0..8 {
-        model.reconnect(station);
+    for station in 0..STATIONS {
+        model.reconnect(station as u32);
     }
     model
 }
@@ -122,7 +122,7 @@ fn refusals_alter_only_the_stream() {
 fn other_stations_streams_are_left_alone() {
     run_all(|Step { call, before, after, .. }| {
         let (Call::Feed { station, .. } | Call::Reconnect { station }) = call;
-        for other in (0..8).filter(|&other| other != *station as usize) {
+        for other in (0..STATIONS).filter(|&other| other != *station as usize) {
             assert_eq!(before.stations[other], after.stations[other], "{call:?}");
         }
     });

@@ -1,7 +1,7 @@
 //! What the generator writes is what the model reads.
 
 use gen::{body, fields, flat, state, Rng};
-use model::Request;
+use model::{Request, MAX_BODY, STATIONS};
 
 #[test]
 fn a_request_read_and_written_again_is_the_same() {
@@ -9,9 +9,9 @@ fn a_request_read_and_written_again_is_the_same() {
     for seed in 0..20_000 {
         let mut rng = Rng::new(seed);
         let model = state(&mut rng);
-        let station = rng.below(8);
+        let station = rng.below(STATIONS);
         let body = body(&mut rng, &model, station);
-        assert!((1..=2048).contains(&body.len()), "seed {seed}");
+        assert!((1..=MAX_BODY).contains(&body.len()), "seed {seed}");
         if let Some(request) = Request::read(&body) {
             assert_eq!(flat(&fields(&request)), body, "seed {seed}");
             whole += 1;

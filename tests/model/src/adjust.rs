@@ -13,6 +13,11 @@ const DISABLE: u32 = 0;
 const ENABLE: u32 = 2;
 const REMOVE: u32 = 4;
 
+/// Words in the report of request 6.
+const ENABLED_WORDS: usize = 16;
+/// Bits of a word.
+const WORD_BITS: usize = u64::BITS as usize;
+
 impl Model {
     /// 5: the answer is the previous enabled word at the named bits, or all of it for a reset.
     pub(crate) fn adjust_privileges(
@@ -116,7 +121,7 @@ impl Model {
 fn entries_are_good(before: Privileges, entries: &[(u32, u32)]) -> bool {
     let named: Vec<u32> = entries.iter().map(|&(privilege, _)| privilege).collect();
     let is_good = |&(privilege, attributes): &(u32, u32)| {
-        let exists = privilege < 64 && ALL_PRIVILEGES >> privilege & 1 == 1;
+        let exists = privilege < u64::BITS && ALL_PRIVILEGES >> privilege & 1 == 1;
         let may = match attributes {
             DISABLE | REMOVE => true,
             ENABLE => exists && before.present >> privilege & 1 == 1,
@@ -159,10 +164,10 @@ fn may_set_enabled(group: Group, enable: bool, user: u32) -> bool {
 
 /// Group i at bit i % 64 of word i / 64.
 fn enabled_report(groups: &[Group]) -> Vec<u8> {
-    let mut words = [0u64; 16];
+    let mut words = [0u64; ENABLED_WORDS];
     for (index, group) in groups.iter().enumerate() {
         if group.has(Group::ENABLED) {
-            words[index / 64] |= 1 << (index % 64);
+            words[index / WORD_BITS] |= 1 << (index % WORD_BITS);
         }
     }
     let mut report = Vec::new();

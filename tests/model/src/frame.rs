@@ -4,6 +4,8 @@ use crate::number::write_number;
 
 /// The longest body of a frame.
 pub const MAX_BODY: usize = 2048;
+/// Most bytes of a body's length.
+pub const MAX_LENGTH_BYTES: usize = 2;
 
 /// What the first bytes of a stream, from a frame's begin on, amount to.
 #[derive(Debug, PartialEq, Eq)]
@@ -43,7 +45,7 @@ pub(crate) fn may_be_pending(bytes: &[u8]) -> bool {
 
 /// The body with its length before it.
 pub fn framed(body: &[u8]) -> Vec<u8> {
-    let mut frame = Vec::with_capacity(body.len() + 2);
+    let mut frame = Vec::with_capacity(MAX_LENGTH_BYTES + body.len());
     write_number(body.len() as u64, &mut frame);
     frame.extend_from_slice(body);
     frame

@@ -7,12 +7,14 @@
 mod adjust;
 mod feed;
 mod frame;
+mod layout;
 mod lent;
 mod memory;
 mod number;
 mod privileges;
 mod program;
 mod query;
+mod record;
 mod refusal;
 mod request;
 mod rights;
@@ -25,14 +27,17 @@ mod tokens;
 mod valid;
 
 pub use feed::{Fed, MIN_BUFFER};
-pub use frame::{framed, MAX_BODY};
-pub use memory::{
-    Memory, DACL_BYTES, DACL_ROW, GROUP_WORD, HANDLE_ROWS, PENDING_BYTES, PENDING_ROW,
-    RESTRICTING_WORD, STATION_WORD, STATION_WORDS, TOKEN_ROW, TOKEN_WORDS,
+pub use frame::{framed, MAX_BODY, MAX_LENGTH_BYTES};
+pub use layout::{
+    handle_byte, station_word, token_word, DACL_BYTES, DACL_ROW, HANDLE_BYTES, HANDLE_ROWS,
+    NEXT_HANDLE, NEXT_TOKEN, PENDING_BYTES, PENDING_ROW, STATION_ROW, STATION_WORD, STATION_WORDS,
+    TOKEN_ROW, TOKEN_WORDS,
 };
+pub use memory::{Bytes, Memory, PARTS};
 pub use number::{write_number, Reader};
 pub use privileges::{Privileges, ALL_PRIVILEGES, ASSIGN_PRIMARY, CREATE_TOKEN, IMPERSONATE, TCB};
 pub use program::{program, MAX_CHUNK};
+pub use record::HandleRecord;
 pub use refusal::Refusal;
 pub use request::{Request, NO_CHANGE, RESET_GROUPS, RESET_PRIVILEGES};
 pub use rights::Mask;

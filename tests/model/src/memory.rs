@@ -1,45 +1,32 @@
 //! The lent memory: the state written into five parts of fixed size.
 
+use crate::layout::{
+    station_word, token_word, DACL_ROW, NEXT_HANDLE, NEXT_TOKEN, PENDING_ROW, STATION_ROW,
+    STATION_WORD, TOKEN_ROW,
+};
 use crate::privileges::Privileges;
-use crate::state::{Handle, Model, Station, HANDLES, STATIONS, TOKENS};
-use crate::token::{Elevation, Group, Level, Token, TokenType, MAX_DACL};
+use crate::record::HandleRecord;
+use crate::state::{Model, Station};
+use crate::token::{Elevation, Group, Level, Token, TokenType};
 
-/// Words of a token's row.
-pub const TOKEN_ROW: usize = 100;
-/// The first group's word in a token's row.
-pub const GROUP_WORD: usize = 20;
-/// The first restricting SID's word in a token's row.
-pub const RESTRICTING_WORD: usize = 84;
-/// Bytes of a DACL's row.
-pub const DACL_ROW: usize = MAX_DACL;
-/// Bytes of a station's row of pending bytes.
-pub const PENDING_ROW: usize = 2050;
-/// The first station's word.
-pub const STATION_WORD: usize = 2;
+/// The names of the parts, in the order in which they are lent.
+pub const PARTS: [&str; 5] = ["tokens", "dacls", "handles", "stations", "pending"];
 
-/// Size of the tokens part.
-pub const TOKEN_WORDS: usize = TOKENS * TOKEN_ROW;
-/// Size of the DACLs part.
-pub const DACL_BYTES: usize = TOKENS * DACL_ROW;
-/// Size of the handles part.
-pub const HANDLE_ROWS: usize = HANDLES;
-/// Size of the stations part.
-pub const STATION_WORDS: usize = STATION_WORD + 3 * STATIONS;
-/// Size of the pending part.
-pub const PENDING_BYTES: usize = STATIONS * PENDING_ROW;
+/// Every byte of every part, in that order.
+pub type Bytes = [Vec<u8>; PARTS.len()];
 
 /// The five parts.
 #[derive(Clone, Debug, PartialEq, Eq)]
 pub struct Memory {
-    /// 16 rows of 100 words.
+    /// A row of words for each token slot.
     pub tokens: Vec<u64>,
-    /// 16 rows of 256 bytes.
+    /// A row of bytes for each token slot.
     pub dacls: Vec<u8>,
-    /// 32 records.
-    pub handles: Vec<Handle>,
+    /// A record for each handle slot.
+    pub handles: Vec<HandleRecord>,
     /// The two next numbers; for each station its token, pending bytes and broken mark.
     pub stations: Vec<u64>,
-    /// 8 rows of 2,050 bytes.
+    /// A row of bytes for each station.
     pub pending: Vec<u8>,
 }
 
@@ -47,26 +34,28 @@ impl Model {
     /// The memory that holds this state.
     pub fn memory(&self) -> Memory {
         let dacl = |token: &Option<Token>| match token {
-            Some(token) => padded(token.dacl.clone(), DACL_ROW),
+            Some(token) => padded(&token.dacl, DACL_ROW),
             None => vec![0; DACL_ROW],
         };
-        let pending = |station: &Station| padded(station.pending.clone(), PENDING_ROW);
-        let next = vec![self.next_token, self.next_handle.into()];
-        let words = self.stations.iter().flat_map(|station| {
-            [station.token, station.pending.len() as u64, station.broken.into()]
-        });
+        let pending = |station: &Station| padded(&station.pending, PENDING_ROW);
+        let mut next = vec![0; STATION_WORD];
+        next[NEXT_TOKEN] = self.next_token;
+        next[NEXT_HANDLE] = self.next_handle.into();
+        let stations = self.stations.each_ref().map(station_row);
         Memory {
             tokens: self.tokens.each_ref().map(token_row).concat(),
             dacls: self.tokens.each_ref().map(dacl).concat(),
-            handles: self.handles.iter().map(|handle| handle.unwrap_or_default()).collect(),
-            stations: next.into_iter().chain(words).collect(),
+            handles: self.handles.iter().map(HandleRecord::of).collect(),
+            stations: [&next, stations.as_flattened()].concat(),
             pending: self.stations.each_ref().map(pending).concat(),
         }
     }
 }
 
-fn padded<T: Copy + Default>(mut row: Vec<T>, width: usize) -> Vec<T> {
-    row.resize(width, T::default());
+/// The bytes, then zeros.
+fn padded(bytes: &[u8], width: usize) -> Vec<u8> {
+    let mut row = bytes.to_vec();
+    row.resize(width, 0);
     row
 }
 
@@ -75,32 +64,43 @@ fn token_row(slot: &Option<Token>) -> Vec<u64> {
         return vec![0; TOKEN_ROW];
     };
     let privileges = token.privileges;
-    let mut row = vec![
-        token.number,
-        token.modified,
-        token.session,
-        token.user.into(),
-        token.kind as u64,
-        token.level as u64,
-        token.elevation as u64,
-        token.write_restricted.into(),
-        token.user_deny_only.into(),
-        token.owner.into(),
-        token.primary_group.into(),
-        token.scope.into(),
-        token.integrity.into(),
-        privileges.present,
-        privileges.enabled,
-        privileges.default,
-        privileges.used,
-        token.groups.len() as u64,
-        token.restricting.len() as u64,
-        token.dacl.len() as u64,
+    let fields = [
+        (token_word::NUMBER, token.number),
+        (token_word::MODIFIED, token.modified),
+        (token_word::SESSION, token.session),
+        (token_word::USER, token.user.into()),
+        (token_word::TYPE, token.kind as u64),
+        (token_word::LEVEL, token.level as u64),
+        (token_word::ELEVATION, token.elevation as u64),
+        (token_word::WRITE_RESTRICTED, token.write_restricted.into()),
+        (token_word::USER_DENY_ONLY, token.user_deny_only.into()),
+        (token_word::OWNER, token.owner.into()),
+        (token_word::PRIMARY_GROUP, token.primary_group.into()),
+        (token_word::SCOPE, token.scope.into()),
+        (token_word::INTEGRITY, token.integrity.into()),
+        (token_word::PRESENT, privileges.present),
+        (token_word::ENABLED, privileges.enabled),
+        (token_word::DEFAULT, privileges.default),
+        (token_word::USED, privileges.used),
+        (token_word::GROUP_COUNT, token.groups.len() as u64),
+        (token_word::RESTRICTING_COUNT, token.restricting.len() as u64),
+        (token_word::DACL_LENGTH, token.dacl.len() as u64),
     ];
-    row.extend(token.groups.iter().map(group_word));
-    let mut row = padded(row, RESTRICTING_WORD);
-    row.extend(token.restricting.iter().map(|&sid| u64::from(sid)));
-    padded(row, TOKEN_ROW)
+    let groups = (token_word::GROUPS..).zip(token.groups.iter().map(group_word));
+    let sids = (token_word::RESTRICTING..).zip(token.restricting.iter().map(|&sid| sid.into()));
+    let mut row = vec![0; TOKEN_ROW];
+    for (word, value) in fields.into_iter().chain(groups).chain(sids) {
+        row[word] = value;
+    }
+    row
+}
+
+fn station_row(station: &Station) -> [u64; STATION_ROW] {
+    let mut row = [0; STATION_ROW];
+    row[station_word::TOKEN] = station.token;
+    row[station_word::PENDING_COUNT] = station.pending.len() as u64;
+    row[station_word::BROKEN] = station.broken.into();
+    row
 }
 
 fn group_word(group: &Group) -> u64 {
@@ -119,8 +119,7 @@ impl Memory {
             return None;
         }
         let tokens = self.token_rows().map(|row| row.token()).collect::<Option<Vec<_>>>()?;
-        let handles: Vec<_> =
-            self.handles.iter().map(|&handle| (handle.number != 0).then_some(handle)).collect();
+        let handles: Vec<_> = self.handles.iter().map(HandleRecord::slot).collect();
         let stations: Vec<_> = self
             .station_rows()
             .map(|row| Station {
@@ -133,8 +132,8 @@ impl Memory {
             tokens: tokens.try_into().ok()?,
             handles: handles.try_into().ok()?,
             stations: stations.try_into().ok()?,
-            next_token: self.stations[0],
-            next_handle: self.stations[1].try_into().ok()?,
+            next_token: self.stations[NEXT_TOKEN],
+            next_handle: self.stations[NEXT_HANDLE].try_into().ok()?,
         })
     }
 
@@ -147,12 +146,24 @@ impl Memory {
     /// The stations, each with its row of pending bytes.
     pub(crate) fn station_rows(&self) -> impl Iterator<Item = StationRow<'_>> {
         let rows = self.pending.chunks(PENDING_ROW);
-        self.stations[STATION_WORD..].chunks(3).zip(rows).map(|(words, row)| StationRow {
-            token: words[0],
-            count: words[1],
-            broken: words[2],
+        let stations = self.stations[STATION_WORD..].chunks(STATION_ROW);
+        stations.zip(rows).map(|(words, row)| StationRow {
+            token: words[station_word::TOKEN],
+            count: words[station_word::PENDING_COUNT],
+            broken: words[station_word::BROKEN],
             row,
         })
+    }
+
+    /// Every byte of every part, as a host has them.
+    pub fn bytes(&self) -> Bytes {
+        let words = |words: &[u64]| {
+            let words: Vec<_> = words.iter().map(|word| word.to_ne_bytes()).collect();
+            words.into_flattened()
+        };
+        let records: Vec<_> = self.handles.iter().map(HandleRecord::bytes).collect();
+        let (tokens, stations) = (words(&self.tokens), words(&self.stations));
+        [tokens, self.dacls.clone(), records.into_flattened(), stations, self.pending.clone()]
     }
 }
 
@@ -188,52 +199,54 @@ pub(crate) struct TokenRow<'a> {
 #[allow(missing_docs)]
 impl TokenRow<'_> {
     pub fn number(&self) -> u64 {
-        self.words[0]
+        self.words[token_word::NUMBER]
     }
     pub fn user(&self) -> u64 {
-        self.words[3]
+        self.words[token_word::USER]
     }
     pub fn kind(&self) -> u64 {
-        self.words[4]
+        self.words[token_word::TYPE]
     }
     pub fn level(&self) -> u64 {
-        self.words[5]
+        self.words[token_word::LEVEL]
     }
     pub fn elevation(&self) -> u64 {
-        self.words[6]
+        self.words[token_word::ELEVATION]
     }
     pub fn marks(&self) -> [u64; 2] {
-        [self.words[7], self.words[8]]
+        [self.words[token_word::WRITE_RESTRICTED], self.words[token_word::USER_DENY_ONLY]]
     }
     pub fn owner(&self) -> u64 {
-        self.words[9]
+        self.words[token_word::OWNER]
     }
     pub fn primary_group(&self) -> u64 {
-        self.words[10]
+        self.words[token_word::PRIMARY_GROUP]
     }
     pub fn scope(&self) -> u64 {
-        self.words[11]
+        self.words[token_word::SCOPE]
     }
     pub fn integrity(&self) -> u64 {
-        self.words[12]
+        self.words[token_word::INTEGRITY]
     }
     pub fn privileges(&self) -> Privileges {
-        let [present, enabled, default, used] = [13, 14, 15, 16].map(|word| self.words[word]);
+        use token_word::{DEFAULT, ENABLED, PRESENT, USED};
+        let words = [PRESENT, ENABLED, DEFAULT, USED];
+        let [present, enabled, default, used] = words.map(|word| self.words[word]);
         Privileges { present, enabled, default, used }
     }
     pub fn group_count(&self) -> u64 {
-        self.words[17]
+        self.words[token_word::GROUP_COUNT]
     }
     pub fn restricting_count(&self) -> u64 {
-        self.words[18]
+        self.words[token_word::RESTRICTING_COUNT]
     }
     pub fn dacl_length(&self) -> u64 {
-        self.words[19]
+        self.words[token_word::DACL_LENGTH]
     }
 
     /// The words of the groups in use, and those after them.
     pub fn group_words(&self) -> (&[u64], &[u64]) {
-        let words = &self.words[GROUP_WORD..RESTRICTING_WORD];
+        let words = &self.words[token_word::GROUPS..token_word::RESTRICTING];
         words.split_at(used(words, self.group_count()))
     }
 
@@ -244,7 +257,7 @@ impl TokenRow<'_> {
 
     /// The words of the restricting SIDs in use, and those after them.
     pub fn restricting_words(&self) -> (&[u64], &[u64]) {
-        let words = &self.words[RESTRICTING_WORD..];
+        let words = &self.words[token_word::RESTRICTING..];
         words.split_at(used(words, self.restricting_count()))
     }
 
@@ -261,8 +274,8 @@ impl TokenRow<'_> {
         let sids = self.restricting_words().0.iter();
         Some(Some(Token {
             number: self.number(),
-            modified: self.words[1],
-            session: self.words[2],
+            modified: self.words[token_word::MODIFIED],
+            session: self.words[token_word::SESSION],
             user: self.user().try_into().ok()?,
             kind: TokenType::from_number(self.kind())?,
             level: Level::from_number(self.level())?,

@@ -11,12 +11,12 @@ pub const TOKENS: usize = 16;
 /// How many slots for handles.
 pub const HANDLES: usize = 32;
 
-/// A handle record; a free one is all zero.
-#[derive(Clone, Copy, Debug, Default, PartialEq, Eq)]
+/// A handle.
+#[derive(Clone, Copy, Debug, PartialEq, Eq)]
 pub struct Handle {
     /// Whose handle it is.
     pub station: u32,
-    /// Its own number, never 0 on a live one.
+    /// Its own number, never 0.
     pub number: u32,
     /// The number of its token.
     pub token: u64,

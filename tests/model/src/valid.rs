@@ -3,12 +3,14 @@
 use std::collections::HashSet;
 
 use crate::frame::may_be_pending;
-use crate::memory::{
-    Memory, TokenRow, DACL_BYTES, HANDLE_ROWS, PENDING_BYTES, STATION_WORDS, TOKEN_WORDS,
+use crate::layout::{
+    DACL_BYTES, HANDLE_ROWS, NEXT_HANDLE, NEXT_TOKEN, PENDING_BYTES, STATION_WORDS, TOKEN_WORDS,
 };
+use crate::memory::{Memory, TokenRow};
 use crate::privileges::ALL_PRIVILEGES;
+use crate::record::HandleRecord;
 use crate::rights::Mask;
-use crate::state::{Handle, STATIONS};
+use crate::state::STATIONS;
 use crate::token::{
     Elevation, Group, Level, TokenType, INTEGRITY_LEVELS, MAX_DACL, MAX_GROUPS, MAX_RESTRICTING,
 };
@@ -58,7 +60,7 @@ impl Memory {
         self.token_rows().filter(|row| row.number() != 0)
     }
 
-    fn live_handles(&self) -> impl Iterator<Item = &Handle> {
+    fn live_handles(&self) -> impl Iterator<Item = &HandleRecord> {
         self.handles.iter().filter(|handle| handle.number != 0)
     }
 
@@ -78,7 +80,7 @@ fn size_is_right(memory: &Memory) -> bool {
 }
 
 fn next_numbers_are_not_0(memory: &Memory) -> bool {
-    memory.stations[0] != 0 && memory.stations[1] != 0
+    memory.stations[NEXT_TOKEN] != 0 && memory.stations[NEXT_HANDLE] != 0
 }
 
 fn numbers_are_distinct_and_below_next(memory: &Memory) -> bool {
@@ -87,8 +89,8 @@ fn numbers_are_distinct_and_below_next(memory: &Memory) -> bool {
     let all_below = |numbers: &[u64], next| numbers.iter().all(|&number| number < next);
     are_distinct(&tokens)
         && are_distinct(&handles)
-        && all_below(&tokens, memory.stations[0])
-        && all_below(&handles, memory.stations[1])
+        && all_below(&tokens, memory.stations[NEXT_TOKEN])
+        && all_below(&handles, memory.stations[NEXT_HANDLE])
 }
 
 fn are_distinct(numbers: &[u64]) -> bool {
@@ -124,7 +126,7 @@ fn free_slots_are_zero(memory: &Memory) -> bool {
         }
     };
     memory.token_rows().all(token_is_clean)
-        && memory.handles.iter().all(|handle| handle.number != 0 || *handle == Handle::default())
+        && memory.handles.iter().all(|handle| handle.number != 0 || all_zero(&handle.bytes()))
         && memory.station_rows().all(|row| all_zero(row.past_pending()))
 }
 
@@ -134,11 +136,11 @@ fn all_zero<T: Default + PartialEq>(items: &[T]) -> bool {
 
 fn values_are_in_range(memory: &Memory) -> bool {
     memory.live_tokens().all(|row| token_is_in_range(&row))
-        && memory
-            .live_handles()
-            .all(|handle| (handle.station as usize) < STATIONS && Mask(handle.mask).is_valid())
+        && memory.live_handles().all(|handle| {
+            usize::from(handle.station) < STATIONS && Mask(handle.mask.into()).is_valid()
+        })
         && memory.station_rows().all(|row| row.broken <= 1)
-        && memory.stations[1] <= u32::MAX.into()
+        && memory.stations[NEXT_HANDLE] <= u32::MAX.into()
 }
 
 fn token_is_in_range(row: &TokenRow) -> bool {

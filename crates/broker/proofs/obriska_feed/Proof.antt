@@ -221,7 +221,7 @@ module _ {M : Type 1} (𝓤 : URA M) (H : Heap 𝓤) (A : Atoms 𝓤) (W : Given
       changes az ts ds ss ps hs r is-loaded g la lt ld ls lp e =
           let parts = LL.owed B.the-type B′.the-laws r (out r ∷ []) g in
           let change = LL.owed X.the-type X′.the-laws (r .change) (mach X.the-type X′.the-laws (r .change) ∷ []) (parts .1 .0) in
-          sets ! (bin ! (load ! (from ! (fld ! refl (fld ! refl (fld ! refl (stop !))))) (look-in ! 22 (sub ! 1 refl (sub ! 1 refl (sub ! 1 refl (whole !)))))) (lit ! tt) tt) (init ! 48 refl (tt, tt)) $
+          sets ! (bin ! (load ! (from ! (fld ! refl (fld ! refl (fld ! refl (stop !))))) (look-in ! 22 (sub ! 2 refl (sub ! 1 refl (sub ! 1 refl (whole !)))))) (lit ! tt) tt) (init ! 48 refl (tt, tt)) $
           first ! $ branches ! (var ! 48 refl)
           (λ frees.
           relends ! 12 52 54 refl refl refl (tt, tt) refl refl refl (tt, (tt, (record { fits = gh .0 }, tt))) $

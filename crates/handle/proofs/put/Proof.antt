@@ -1,6 +1,6 @@
 -- handle::put meets its contract. Assumes nothing.
 use borrow.Author.Needs.{needs}
-use Rattle.handle.proofs.Words.{slot-put, within}
+use Rattle.handle.proofs.Words.{slot-stored, within}
 use Rattle.handle.proofs.put.Statement.{statement}
 use Rattle.handle.proofs.put.Tie as tie
 
@@ -9,18 +9,11 @@ put-spec =
     tie.close
     (tie.spec
     (λ c. search needs)
-    (λ c. search needs)
-    (λ c. search needs)
-    (λ c. search needs)
-    (λ c. search needs)
-    (λ c. search needs)
-    (λ c. search needs)
-    (λ c. search needs)
+    (λ c κs. search needs)
     (λ c. search needs)
     (λ c. search (needs, within))
     (λ c. search needs)
     (λ c. search needs)
-    (λ c. search needs)
     (λ c. search (needs, within))
     (λ c. search needs)
-    (λ c. search (needs, slot-put)))
+    (λ c. search (needs, slot-stored)))

@@ -10,6 +10,8 @@ mod requests;
 mod stream;
 mod valid;
 
+use model::{MIN_BUFFER, STATIONS};
+
 pub use memory::Parts;
 
 /// What a feed returns: refusal, bytes used, length of the answer.
@@ -28,10 +30,10 @@ pub fn start(parts: &mut Parts) -> u32 {
 
 /// Feeds bytes up to the end of the first request or break, or of the chunk.
 pub fn feed(station: u32, chunk: &[u8], answer: &mut [u8], parts: &mut Parts) -> Fed {
-    if station > 7 {
+    if station as usize >= STATIONS {
         return (11, 0, 0);
     }
-    if answer.len() < 1024 {
+    if answer.len() < MIN_BUFFER {
         return (12, 0, 0);
     }
     match parts.view() {
@@ -45,7 +47,7 @@ pub fn feed(station: u32, chunk: &[u8], answer: &mut [u8], parts: &mut Parts) ->
 
 /// Drops the station's pending bytes and its break; gives 0 or the refusal.
 pub fn reconnect(station: u32, parts: &mut Parts) -> u32 {
-    if station > 7 {
+    if station as usize >= STATIONS {
         return 11;
     }
     match parts.view() {

@@ -103,15 +103,18 @@ pub fn refuse(status: u8, passes: bool) -> Result<(), Refused> {
     }
 }
 
-/// The answer's body; the longest has 642 bytes.
+/// Bytes that any answer's body fits in; the longest has 642.
+const BODY_BYTES: usize = 656;
+
+/// The answer's body.
 pub struct Body {
-    bytes: [u8; 656],
+    bytes: [u8; BODY_BYTES],
     length: usize,
 }
 
 impl Body {
     pub fn new() -> Self {
-        Body { bytes: [0; 656], length: 0 }
+        Body { bytes: [0; BODY_BYTES], length: 0 }
     }
 
     pub fn clear(&mut self) {

@@ -1,14 +1,20 @@
 //! The eleven requests on lent memory: reading, refusals in order, effect in place.
 
-use model::{Handle, NO_CHANGE, RESET_GROUPS, RESET_PRIVILEGES};
+use model::{
+    station_word, token_word as word, HandleRecord, Mask, ALL_PRIVILEGES, ASSIGN_PRIMARY, MAX_DACL,
+    MAX_GROUPS, NO_CHANGE, RESET_GROUPS, RESET_PRIVILEGES, TCB,
+};
 
-use super::memory::Memory;
+use super::memory::{Memory, PRIMARY};
 use super::reader::{refuse, Body, Reader, Refused};
-use super::records::{attribute, is_fixed, DENY_ONLY, ENABLED, ENABLED_BY_DEFAULT, OWNER};
+use super::records::{attribute, is_fixed, is_mask, DENY_ONLY, ENABLED, ENABLED_BY_DEFAULT, OWNER};
 
 pub type Served = Result<(), Refused>;
 
 const ENABLED_WORD: u64 = (ENABLED as u64) << 32;
+
+/// Words in the report of request 6; groups fill the first.
+const ENABLED_WORDS: usize = 16;
 
 impl Memory<'_> {
     /// Serves a body; writes the answer and gives its length.
@@ -47,9 +53,10 @@ impl Memory<'_> {
     fn open(&mut self, station: usize, reader: &mut Reader, out: &mut Body) -> Served {
         let mask = reader.u32();
         reader.end()?;
-        refuse(5, mask != 0 && mask & !0x1EF == 0)?;
+        refuse(5, is_mask(mask))?;
         let slot = self.free_handle()?;
-        out.number(self.place_handle(slot, station, self.stations[station][0], mask));
+        let token = self.stations[station][station_word::TOKEN];
+        out.number(self.place_handle(slot, station, token, mask));
         Ok(())
     }
 
@@ -58,7 +65,7 @@ impl Memory<'_> {
         reader.end()?;
         let slot = self.find(station, handle)?;
         let token = self.handles[slot].token;
-        self.handles[slot] = Handle::default();
+        self.handles[slot] = HandleRecord::default();
         self.free_if_last(token);
         Ok(())
     }
@@ -70,7 +77,7 @@ impl Memory<'_> {
         reader.each(count, |reader| {
             let entry = (reader.u32(), reader.u32());
             reset = count == 1 && entry == RESET_PRIVILEGES;
-            let bit = if (2..37).contains(&entry.0) { 1 << entry.0 } else { 0 };
+            let bit = 1u64.checked_shl(entry.0).unwrap_or(0) & ALL_PRIVILEGES;
             bad |= bit == 0 || named & bit != 0;
             named |= bit;
             match entry.1 {
@@ -81,17 +88,18 @@ impl Memory<'_> {
             }
         });
         reader.end()?;
-        let (_, slot) = self.granted(station, handle, 0x20)?;
-        let [present, enabled, default] = [13, 14, 15].map(|word| self.tokens[slot][word]);
+        let (_, slot) = self.granted(station, handle, Mask::ADJUST_PRIVILEGES)?;
+        let words = [word::PRESENT, word::ENABLED, word::DEFAULT];
+        let [present, enabled, default] = words.map(|word| self.tokens[slot][word]);
         if reset {
-            self.tokens[slot][14] = default;
+            self.tokens[slot][word::ENABLED] = default;
             out.number(enabled);
         } else {
             refuse(5, !bad && enable & !present == 0)?;
             let row = &mut self.tokens[slot];
-            row[13] = present & !remove;
-            row[14] = (enabled | enable) & !(disable | remove);
-            row[15] = default & !remove;
+            row[word::PRESENT] = present & !remove;
+            row[word::ENABLED] = (enabled | enable) & !(disable | remove);
+            row[word::DEFAULT] = default & !remove;
             out.number(enabled & named);
         }
         self.step_modified(slot);
@@ -105,17 +113,17 @@ impl Memory<'_> {
         reader.each(count, |reader| {
             let entry = (reader.u32(), reader.u32());
             reset = count == 1 && entry == RESET_GROUPS;
-            let bit = if entry.0 < 64 { 1 << entry.0 } else { 0 };
+            let bit = 1u64.checked_shl(entry.0).unwrap_or(0);
             bad |= bit == 0 || (on | off) & bit != 0 || entry.1 > 1;
             *(if entry.1 == 1 { &mut on } else { &mut off }) |= bit;
         });
         reader.end()?;
-        let (_, slot) = self.granted(station, handle, 0x40)?;
+        let (_, slot) = self.granted(station, handle, Mask::ADJUST_GROUPS)?;
         let row = &mut self.tokens[slot];
-        let (user, count) = (row[3], row[17] as usize);
-        let groups = &mut row[20..20 + count];
+        let (user, count) = (row[word::USER], row[word::GROUP_COUNT] as usize);
+        let groups = &mut row[word::GROUPS..][..count];
         if !reset {
-            let range = if count == 64 { u64::MAX } else { (1 << count) - 1 };
+            let range = if count == MAX_GROUPS { u64::MAX } else { (1 << count) - 1 };
             refuse(5, !bad && (on | off) & !range == 0)?;
             let is_protected = |at: usize, group: u64| match attribute(group, DENY_ONLY) {
                 true => on >> at & 1 == 1,
@@ -126,7 +134,7 @@ impl Memory<'_> {
         }
         let mut before = 0;
         for (at, group) in groups.iter_mut().enumerate() {
-            before |= (*group >> 34 & 1) << at;
+            before |= u64::from(attribute(*group, ENABLED)) << at;
             let (set, clear) = match reset {
                 true if attribute(*group, DENY_ONLY) => (false, false),
                 true => (attribute(*group, ENABLED_BY_DEFAULT), true),
@@ -137,18 +145,18 @@ impl Memory<'_> {
         }
         self.step_modified(slot);
         out.number(before);
-        out.extend(&[0; 15]);
+        out.extend(&[0; ENABLED_WORDS - 1]);
         Ok(())
     }
 
     fn adjust_scope(&mut self, station: usize, reader: &mut Reader) -> Served {
         let (handle, value) = (reader.u32(), reader.u32());
         reader.end()?;
-        let (_, slot) = self.granted(station, handle, 0x100)?;
-        let own = self.held(station, 7)?;
-        self.tokens[slot][11] = value.into();
+        let (_, slot) = self.granted(station, handle, Mask::ADJUST_SCOPE)?;
+        let own = self.held(station, TCB)?;
+        self.tokens[slot][word::SCOPE] = value.into();
         self.step_modified(slot);
-        self.tokens[own][16] |= 1 << 7;
+        self.tokens[own][word::USED] |= 1 << TCB;
         Ok(())
     }
 
@@ -158,27 +166,27 @@ impl Memory<'_> {
         let (flag, length) = (reader.u32(), reader.u32());
         let dacl = reader.take(length);
         reader.end()?;
-        let (_, slot) = self.granted(station, handle, 0x80)?;
+        let (_, slot) = self.granted(station, handle, Mask::ADJUST_DEFAULT)?;
         let row = &mut self.tokens[slot];
-        let count = row[17] as usize;
+        let count = row[word::GROUP_COUNT] as usize;
         let may_own = match usize::from(owner) {
             0 => true,
-            at => at <= count && attribute(row[19 + at], OWNER),
+            at => at <= count && attribute(row[word::GROUPS + at - 1], OWNER),
         };
         refuse(
             5,
-            (flag == 0 && length == 0 || flag == 1 && length <= 256)
+            (flag == 0 && length == 0 || flag == 1 && length as usize <= MAX_DACL)
                 && (owner == NO_CHANGE || may_own)
                 && (group == NO_CHANGE || usize::from(group) <= count),
         )?;
         if owner != NO_CHANGE {
-            row[9] = owner.into();
+            row[word::OWNER] = owner.into();
         }
         if group != NO_CHANGE {
-            row[10] = group.into();
+            row[word::PRIMARY_GROUP] = group.into();
         }
         if flag == 1 {
-            row[19] = length.into();
+            row[word::DACL_LENGTH] = length.into();
             let (kept, free) = self.dacls[slot].split_at_mut(dacl.len());
             kept.copy_from_slice(dacl);
             free.fill(0);
@@ -190,14 +198,16 @@ impl Memory<'_> {
     fn install(&mut self, station: usize, reader: &mut Reader) -> Served {
         let handle = reader.u32();
         reader.end()?;
-        let (handle, slot) = self.granted(station, handle, 1)?;
-        let own = self.held(station, 3)?;
+        let (handle, slot) = self.granted(station, handle, Mask::ASSIGN_PRIMARY)?;
+        let own = self.held(station, ASSIGN_PRIMARY)?;
         let (old, new) = (&self.tokens[own], &self.tokens[slot]);
-        refuse(5, new[4] == 1)?;
-        let differs = old[2] != new[2] || old[3] != new[3];
-        refuse(7, !differs || old[14] >> 7 & 1 == 1)?;
-        self.tokens[own][16] |= 1 << 3 | u64::from(differs) << 7;
-        let number = std::mem::replace(&mut self.stations[station][0], handle.token);
+        refuse(5, new[word::TYPE] == PRIMARY)?;
+        let differs =
+            old[word::SESSION] != new[word::SESSION] || old[word::USER] != new[word::USER];
+        refuse(7, !differs || old[word::ENABLED] >> TCB & 1 == 1)?;
+        self.tokens[own][word::USED] |= 1 << ASSIGN_PRIMARY | u64::from(differs) << TCB;
+        let token = &mut self.stations[station][station_word::TOKEN];
+        let number = std::mem::replace(token, handle.token);
         self.free_if_last(number);
         Ok(())
     }

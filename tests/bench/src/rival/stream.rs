@@ -1,5 +1,7 @@
 //! Pending bytes: a frame that lies whole in the chunk is served from there.
 
+use model::{station_word, MAX_BODY, PENDING_ROW};
+
 use super::memory::Memory;
 
 /// What the first bytes say of a frame.
@@ -21,7 +23,7 @@ fn head(first: Option<u8>, second: Option<u8>) -> Head {
         (Some(_), Some(0 | 0x80..)) => Head::Broken(2),
         (Some(first), Some(second)) => {
             match usize::from(first & 0x7F) + 128 * usize::from(second) {
-                length @ ..=2048 => Head::Known(2, length),
+                length @ ..=MAX_BODY => Head::Known(2, length),
                 _ => Head::Broken(2),
             }
         }
@@ -48,7 +50,7 @@ impl Memory<'_> {
             Head::Partial => self.keep(station, count, chunk),
             Head::Broken(at) => {
                 self.drop_pending(station, count);
-                self.stations[station][2] = 1;
+                self.stations[station][station_word::BROKEN] = 1;
                 answer[..2].copy_from_slice(&[1, 10]);
                 (at - count, 2)
             }
@@ -65,7 +67,7 @@ impl Memory<'_> {
 
     fn keep(&mut self, station: usize, count: usize, chunk: &[u8]) -> (usize, usize) {
         self.pending[station][count..][..chunk.len()].copy_from_slice(chunk);
-        self.stations[station][1] = (count + chunk.len()) as u64;
+        self.stations[station][station_word::PENDING_COUNT] = (count + chunk.len()) as u64;
         (chunk.len(), 0)
     }
 
@@ -81,7 +83,7 @@ impl Memory<'_> {
         if count == 0 {
             return self.serve(station, &last[head..], answer);
         }
-        let mut frame = [0; 2050];
+        let mut frame = [0; PENDING_ROW];
         let (frame, length) = (&mut frame[..], count + last.len());
         frame[..count].copy_from_slice(&self.pending[station][..count]);
         frame[count..length].copy_from_slice(last);
@@ -91,11 +93,11 @@ impl Memory<'_> {
 
     fn drop_pending(&mut self, station: usize, count: usize) {
         self.pending[station][..count].fill(0);
-        self.stations[station][1] = 0;
+        self.stations[station][station_word::PENDING_COUNT] = 0;
     }
 
     pub fn reconnect(&mut self, station: usize) {
         self.drop_pending(station, self.station(station).count as usize);
-        self.stations[station][2] = 0;
+        self.stations[station][station_word::BROKEN] = 0;
     }
 }

@@ -1,13 +1,20 @@
 //! The test of all lent memory. Loops over bytes gather by OR, so that they run many at a time.
 
-use model::{Handle, ALL_PRIVILEGES};
+use model::{
+    token_word as word, Elevation, Group, HandleRecord, ALL_PRIVILEGES, DACL_ROW, HANDLES,
+    MAX_BODY, MAX_DACL, MAX_GROUPS, MAX_LENGTH_BYTES, MAX_RESTRICTING, NEXT_HANDLE, NEXT_TOKEN,
+    STATIONS, TOKENS,
+};
 
-use super::memory::{Memory, Row};
-use super::records::{attribute, DENY_ONLY, ENABLED, LOGON_ID, OWNER};
+use super::memory::{
+    Memory, Row, Station, ANONYMOUS, DELEGATION, GROUPS, IMPERSONATION, INTEGRITY_STEP,
+    MAX_INTEGRITY, PRIMARY,
+};
+use super::records::{attribute, is_mask, DENY_ONLY, ENABLED, LOGON_ID, OWNER};
 
 impl Memory<'_> {
     pub fn is_valid(&self) -> bool {
-        let numbers: [u64; 16] = std::array::from_fn(|slot| self.tokens[slot][0]);
+        let numbers: [u64; TOKENS] = std::array::from_fn(|slot| self.tokens[slot][word::NUMBER]);
         self.numbers_are_valid(&numbers)
             && self
                 .tokens
@@ -18,9 +25,9 @@ impl Memory<'_> {
             && self.references_are_valid(&numbers)
     }
 
-    fn numbers_are_valid(&self, numbers: &[u64; 16]) -> bool {
-        let [next_token, next_handle] = *self.next;
-        let handles: [u32; 32] = std::array::from_fn(|slot| self.handles[slot].number);
+    fn numbers_are_valid(&self, numbers: &[u64; TOKENS]) -> bool {
+        let (next_token, next_handle) = (self.next[NEXT_TOKEN], self.next[NEXT_HANDLE]);
+        let handles: [u32; HANDLES] = std::array::from_fn(|slot| self.handles[slot].number);
         let below = |bad: bool, number: u64, next: u64| bad | (number >= next);
         next_token != 0
             && next_handle != 0
@@ -32,34 +39,36 @@ impl Memory<'_> {
     }
 
     /// Every handle and station refers to a live token, and every live token is referred to.
-    fn references_are_valid(&self, numbers: &[u64; 16]) -> bool {
+    fn references_are_valid(&self, numbers: &[u64; TOKENS]) -> bool {
         let mut referred = 0;
         for handle in self.handles.iter() {
             if handle.number == 0 {
-                if *handle != Handle::default() {
+                if *handle != HandleRecord::default() {
                     return false;
                 }
                 continue;
             }
             let slots = slots_of(numbers, handle.token);
-            if slots == 0 || handle.station > 7 || handle.mask == 0 || handle.mask & !0x1EF != 0 {
+            let in_range = usize::from(handle.station) < STATIONS && is_mask(handle.mask.into());
+            if slots == 0 || !in_range {
                 return false;
             }
             referred |= slots;
         }
-        for &[token, _, _] in self.stations.iter() {
-            let slots = slots_of(numbers, token);
-            if slots == 0 || self.tokens[slots.trailing_zeros() as usize][4] != 1 {
+        for words in self.stations.iter() {
+            let slots = slots_of(numbers, Station::new(words).token);
+            if slots == 0 || self.tokens[slots.trailing_zeros() as usize][word::TYPE] != PRIMARY {
                 return false;
             }
             referred |= slots;
         }
-        let live = (0..16).fold(0, |live, slot| live | u32::from(numbers[slot] != 0) << slot);
+        let live = (0..TOKENS).fold(0, |live, slot| live | u32::from(numbers[slot] != 0) << slot);
         live == referred
     }
 
     fn streams_are_valid(&self) -> bool {
-        self.stations.iter().zip(self.pending.iter()).all(|(&[_, count, broken], row)| {
+        self.stations.iter().zip(self.pending.iter()).all(|(words, row)| {
+            let Station { count, broken, .. } = Station::new(words);
             let Some(rest) = usize::try_from(count).ok().and_then(|count| row.get(count..)) else {
                 return false;
             };
@@ -72,7 +81,7 @@ impl Memory<'_> {
                 (_, _, 0 | 0x80..) => false,
                 (count, first, second) => {
                     let length = usize::from(first & 0x7F) + 128 * usize::from(second);
-                    length <= 2048 && count < length + 2
+                    length <= MAX_BODY && count < MAX_LENGTH_BYTES + length
                 }
             };
             begins && (count == 0 || broken == 0) && bytes_are_zero(rest)
@@ -81,8 +90,9 @@ impl Memory<'_> {
 }
 
 /// The slots with this number, as bits; none for 0.
-fn slots_of(numbers: &[u64; 16], number: u64) -> u32 {
-    let found = (0..16).fold(0, |slots, slot| slots | u32::from(numbers[slot] == number) << slot);
+fn slots_of(numbers: &[u64; TOKENS], number: u64) -> u32 {
+    let found =
+        (0..TOKENS).fold(0, |slots, slot| slots | u32::from(numbers[slot] == number) << slot);
     if number == 0 {
         0
     } else {
@@ -110,31 +120,31 @@ fn bytes_are_zero(bytes: &[u8]) -> bool {
     bytes.iter().fold(0, |all, byte| all | byte) == 0
 }
 
-fn token_is_valid(row: &Row, dacl: &[u8; 256]) -> bool {
-    if row[0] == 0 {
+fn token_is_valid(row: &Row, dacl: &[u8; DACL_ROW]) -> bool {
+    if row[word::NUMBER] == 0 {
         return words_are_zero(row) && bytes_are_zero(dacl);
     }
-    let [_, _, _, user, kind, level, elevation, write, deny, _, _, scope, integrity, ..] = *row;
-    let [present, enabled, default, used] = [row[13], row[14], row[15], row[16]];
-    let (groups, restricting, length) = (row[17], row[18], row[19]);
-    (user | scope) >> 32 == 0
-        && (kind == 1 && level == 0 || kind == 2 && level <= 3)
-        && elevation.wrapping_sub(1) < 3
-        && (write | deny) <= 1
-        && integrity % 4096 == 0
-        && integrity <= 16384
-        && (enabled | default) & !present == 0
-        && (present | used) & !ALL_PRIVILEGES == 0
-        && groups <= 64
-        && restricting <= 16
-        && length <= 256
-        && lists_are_valid(row, groups as usize, restricting as usize)
-        && bytes_are_zero(&dacl[length as usize..])
+    let (kind, level, integrity) = (row[word::TYPE], row[word::LEVEL], row[word::INTEGRITY]);
+    let counts = [word::GROUP_COUNT, word::RESTRICTING_COUNT, word::DACL_LENGTH];
+    let [groups, restricting, length] = counts.map(|word| row[word] as usize);
+    (row[word::USER] | row[word::SCOPE]) >> 32 == 0
+        && (kind == PRIMARY && level == ANONYMOUS || kind == IMPERSONATION && level <= DELEGATION)
+        && row[word::ELEVATION].wrapping_sub(1) < Elevation::Limited as u64
+        && (row[word::WRITE_RESTRICTED] | row[word::USER_DENY_ONLY]) <= 1
+        && integrity % INTEGRITY_STEP == 0
+        && integrity <= MAX_INTEGRITY
+        && (row[word::ENABLED] | row[word::DEFAULT]) & !row[word::PRESENT] == 0
+        && (row[word::PRESENT] | row[word::USED]) & !ALL_PRIVILEGES == 0
+        && groups <= MAX_GROUPS
+        && restricting <= MAX_RESTRICTING
+        && length <= MAX_DACL
+        && lists_are_valid(row, groups, restricting)
+        && bytes_are_zero(&dacl[length..])
 }
 
 fn lists_are_valid(row: &Row, groups: usize, restricting: usize) -> bool {
-    let (groups, rest) = row[20..84].split_at(groups);
-    let (sids, free) = row[84..].split_at(restricting);
+    let (groups, rest) = row[GROUPS].split_at(groups);
+    let (sids, free) = row[GROUPS.end..].split_at(restricting);
     let (mut all, mut both, mut halves) = (0, 0, 0);
     for group in groups {
         let attributes = (group >> 32) as u32;
@@ -143,9 +153,9 @@ fn lists_are_valid(row: &Row, groups: usize, restricting: usize) -> bool {
         halves |= attributes ^ (attributes << 1);
     }
     const { assert!(DENY_ONLY == ENABLED << 2 && LOGON_ID == 3 << 30) };
-    let bad = all & !(0x1F | LOGON_ID) | both & ENABLED | halves & 1 << 31;
+    let bad = all & !(Group::GIVEN | ENABLED) | both & ENABLED | halves & 1 << 31;
     let wide = sids.iter().fold(0, |all, sid| all | sid) >> 32;
-    let owns = match row[9] {
+    let owns = match row[word::OWNER] {
         0 => true,
         owner => {
             let group = groups.get((owner - 1) as usize);
@@ -155,7 +165,7 @@ fn lists_are_valid(row: &Row, groups: usize, restricting: usize) -> bool {
     bad == 0
         && wide == 0
         && owns
-        && row[10] <= groups.len() as u64
+        && row[word::PRIMARY_GROUP] <= groups.len() as u64
         && words_are_zero(rest)
         && words_are_zero(free)
 }

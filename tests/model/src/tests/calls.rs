@@ -1,7 +1,7 @@
 //! Refusals of whole calls, 11 and 12, and the start.
 
 use super::open;
-use crate::{Fed, Level, Model, TokenType};
+use crate::{Fed, Level, Model, TokenType, MIN_BUFFER};
 
 fn refused(refusal: u32) -> Fed {
     Fed { refusal, ..Fed::default() }
@@ -27,18 +27,18 @@ fn the_start_is_document_01s() {
 fn refusal_11_is_for_stations_above_7() {
     let mut model = Model::start();
     for station in [8, 9, 255, 256, u32::MAX] {
-        assert_eq!(model.feed(station, &[2, 1, 0x28], 1024), refused(11));
+        assert_eq!(model.feed(station, &[2, 1, 0x28], MIN_BUFFER), refused(11));
         assert_eq!(model.feed(station, &[], 0), refused(11));
         assert_eq!(model.reconnect(station), 11);
     }
     assert_eq!(model, Model::start());
-    assert_eq!(model.feed(7, &[2, 1, 0x28], 1024).answer, [2, 0, 1]);
+    assert_eq!(model.feed(7, &[2, 1, 0x28], MIN_BUFFER).answer, [2, 0, 1]);
 }
 
 #[test]
 fn refusal_12_is_for_short_buffers() {
     let mut model = Model::start();
-    model.feed(1, &[0], 1024);
+    model.feed(1, &[0], MIN_BUFFER);
     let before = model.clone();
     for buffer in [0, 1, 1023] {
         assert_eq!(model.feed(0, &[2, 1, 0x28], buffer), refused(12));
@@ -54,8 +54,8 @@ fn refusal_12_is_for_short_buffers() {
 fn an_empty_chunk_uses_nothing() {
     let mut model = Model::start();
     open(&mut model, 0, 8);
-    model.feed(0, &[5, 1], 1024);
+    model.feed(0, &[5, 1], MIN_BUFFER);
     let before = model.clone();
-    assert_eq!(model.feed(0, &[], 1024), Fed::default());
+    assert_eq!(model.feed(0, &[], MIN_BUFFER), Fed::default());
     assert_eq!(model, before);
 }

@@ -1,10 +1,10 @@
 //! Cases A to L of document 01, byte by byte, and after them all in one run.
 
 use super::{ask, body, open, send, status};
-use crate::{framed, Fed, Model};
+use crate::{framed, Fed, Model, MIN_BUFFER};
 
 fn fed(model: &mut Model, station: u32, frame: &[u8]) -> Vec<u8> {
-    let fed = model.feed(station, frame, 1024);
+    let fed = model.feed(station, frame, MIN_BUFFER);
     assert_eq!((fed.refusal, fed.used), (0, frame.len()));
     fed.answer
 }
@@ -61,7 +61,7 @@ fn e_takes_length_2048() {
 fn f_breaks_at_length_2049() {
     let mut model = Model::start();
     let answer = vec![0x01, 0x0A];
-    assert_eq!(model.feed(0, &[0x81, 0x10, 1], 1024), Fed { refusal: 0, used: 2, answer });
+    assert_eq!(model.feed(0, &[0x81, 0x10, 1], MIN_BUFFER), Fed { refusal: 0, used: 2, answer });
     assert!(model.stations[0].broken);
 }
 
@@ -131,7 +131,7 @@ fn feed_in_chunks(model: &mut Model, stream: &[u8], size: usize) -> Vec<u8> {
     let mut answers = Vec::new();
     for mut chunk in stream.chunks(size) {
         while !chunk.is_empty() {
-            let fed = model.feed(0, chunk, 1024);
+            let fed = model.feed(0, chunk, MIN_BUFFER);
             answers.extend(fed.answer);
             chunk = &chunk[fed.used..];
         }

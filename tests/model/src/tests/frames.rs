@@ -1,7 +1,7 @@
 //! Frames: lengths that are whole, part or broken.
 
 use crate::frame::{progress, Progress};
-use crate::framed;
+use crate::{framed, MAX_BODY, MAX_LENGTH_BYTES};
 
 #[test]
 fn one_length_byte() {
@@ -21,7 +21,7 @@ fn every_pair_of_length_bytes() {
         assert_eq!(progress(&[first]), Progress::Partial);
         for second in 0..=0xFFu8 {
             let length = usize::from(first & 0x7F) + 128 * usize::from(second);
-            let good = second != 0 && second < 0x80 && length <= 2048;
+            let good = second != 0 && second < 0x80 && length <= MAX_BODY;
             let expected = if good { Progress::Partial } else { Progress::Broken };
             assert_eq!(progress(&[first, second]), expected, "{first:02X} {second:02X}");
         }
@@ -30,8 +30,8 @@ fn every_pair_of_length_bytes() {
 
 #[test]
 fn the_longest_frame() {
-    let frame = framed(&[7; 2048]);
-    assert_eq!(frame.len(), 2050);
-    assert_eq!(progress(&frame[..2049]), Progress::Partial);
-    assert_eq!(progress(&frame), Progress::Whole(&[7; 2048]));
+    let frame = framed(&[7; MAX_BODY]);
+    assert_eq!(frame.len(), MAX_LENGTH_BYTES + MAX_BODY);
+    assert_eq!(progress(&frame[..frame.len() - 1]), Progress::Partial);
+    assert_eq!(progress(&frame), Progress::Whole(&[7; MAX_BODY]));
 }

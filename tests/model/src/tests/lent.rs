@@ -1,10 +1,10 @@
 //! The three calls over lent memory.
 
-use crate::{Fed, Memory, Model};
+use crate::{Fed, Memory, Model, MIN_BUFFER, NEXT_HANDLE};
 
 fn damaged() -> Memory {
     let mut memory = Model::start().memory();
-    memory.stations[1] = 0;
+    memory.stations[NEXT_HANDLE] = 0;
     memory
 }
 
@@ -13,9 +13,9 @@ fn refusal_13_comes_last_and_changes_nothing() {
     let mut memory = damaged();
     let refused = |refusal| Fed { refusal, ..Fed::default() };
     assert_eq!(memory.feed(8, &[2, 1, 8], 0), refused(11));
-    assert_eq!(memory.feed(0, &[2, 1, 8], 1023), refused(12));
-    assert_eq!(memory.feed(0, &[2, 1, 8], 1024), refused(13));
-    assert_eq!(memory.feed(0, &[], 1024), refused(13));
+    assert_eq!(memory.feed(0, &[2, 1, 8], MIN_BUFFER - 1), refused(12));
+    assert_eq!(memory.feed(0, &[2, 1, 8], MIN_BUFFER), refused(13));
+    assert_eq!(memory.feed(0, &[], MIN_BUFFER), refused(13));
     assert_eq!((memory.reconnect(8), memory.reconnect(7)), (11, 13));
     assert_eq!(memory, damaged());
 }
@@ -24,7 +24,7 @@ fn refusal_13_comes_last_and_changes_nothing() {
 fn valid_memory_is_served() {
     let (mut memory, mut model) = (Model::start().memory(), Model::start());
     for chunk in [&[2, 1][..], &[8, 2, 1, 8], &[0], &[1, 1]] {
-        assert_eq!(memory.feed(3, chunk, 1024), model.feed(3, chunk, 1024));
+        assert_eq!(memory.feed(3, chunk, MIN_BUFFER), model.feed(3, chunk, MIN_BUFFER));
         assert_eq!(memory, model.memory());
     }
     assert_eq!((memory.reconnect(3), model.reconnect(3)), (0, 0));

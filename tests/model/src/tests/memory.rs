@@ -1,27 +1,32 @@
 //! The layout of the lent memory.
 
 use super::{handle, open, send};
-use crate::{Handle, Memory, Model};
+use crate::layout::{
+    station_word, token_word, DACL_ROW, HANDLE_BYTES, NEXT_HANDLE, NEXT_TOKEN, PENDING_ROW,
+    STATION_ROW, STATION_WORD, TOKEN_ROW,
+};
+use crate::{HandleRecord, Memory, Model, ALL_PRIVILEGES, HANDLES, MIN_BUFFER, PARTS, STATIONS};
+
+/// The bytes of each part, as docs/MEMORY.md's first table has them.
+const SIZES: [usize; PARTS.len()] = [12_800, 4_096, 512, 208, 16_400];
 
 #[test]
 fn sizes() {
-    let memory = Model::start().memory();
-    assert_eq!(memory.tokens.len(), 1600);
-    assert_eq!(memory.dacls.len(), 4096);
-    assert_eq!(memory.handles.len(), 32);
-    assert_eq!(memory.stations.len(), 26);
-    assert_eq!(memory.pending.len(), 16400);
+    let sizes = Model::start().memory().bytes().map(|part| part.len());
+    assert_eq!(sizes, SIZES);
+    assert_eq!(sizes.iter().sum::<usize>(), 34_016);
 }
 
 #[test]
 fn the_start_in_memory() {
     let memory = Model::start().memory();
-    let all = (1u64 << 37) - 4;
+    let all = ALL_PRIVILEGES;
     let row = [1, 1, 999, 18, 1, 0, 1, 0, 0, 0, 0, 0, 16384, all, all, all, 0, 0, 0, 0];
-    assert_eq!(memory.tokens[..20], row);
-    assert!(memory.tokens[20..].iter().all(|&word| word == 0));
-    assert_eq!(memory.handles, [Handle::default(); 32]);
-    let stations = [vec![2, 1], [1, 0, 0].repeat(8)].concat();
+    let (fields, rest) = memory.tokens.split_at(token_word::GROUPS);
+    assert_eq!(fields, row);
+    assert!(rest.iter().all(|&word| word == 0));
+    assert_eq!(memory.handles, [HandleRecord::default(); HANDLES]);
+    let stations = [vec![2, 1], [1, 0, 0].repeat(STATIONS)].concat();
     assert_eq!(memory.stations, stations);
     assert!(memory.dacls.iter().chain(&memory.pending).all(|&byte| byte == 0));
     assert_eq!(memory.model(), Some(Model::start()));
@@ -37,25 +42,59 @@ fn busy() -> Model {
     assert_eq!(send(&mut model, 2, &[8, copy, 2, 1, 1, 3, 7, 8, 9]), [0]);
     assert_eq!(send(&mut model, 2, &[7, copy, 99]), [0]);
     open(&mut model, 5, 0x1EF);
-    model.feed(3, &[5, 1, 2], 1024);
-    model.feed(4, &[0x80, 0x80], 1024);
+    model.feed(3, &[5, 1, 2], MIN_BUFFER);
+    model.feed(4, &[0x80, 0x80], MIN_BUFFER);
     model
+}
+
+/// Where a field of a token slot stands.
+fn token(slot: usize, word: usize) -> usize {
+    slot * TOKEN_ROW + word
+}
+
+/// Where a field of a station stands.
+fn station(station: usize, word: usize) -> usize {
+    STATION_WORD + station * STATION_ROW + word
 }
 
 #[test]
 fn every_field_has_its_word() {
     let memory = busy().memory();
-    let row = &memory.tokens[200..300];
+    let row = &memory.tokens[token(2, 0)..];
     let head = [3, 5, 9, 50, 1, 0, 1, 1, 1, 2, 1, 99, 4096, 4, 4, 4, 0, 2, 3, 3];
-    assert_eq!(row[..20], head);
-    assert_eq!(row[20..23], [60 | 0x12 << 32, 61 | 0xC000_000E << 32, 0]);
-    assert_eq!(row[84..88], [70, 71, 72, 0]);
-    assert_eq!(memory.dacls[512..516], [7, 8, 9, 0]);
-    let last = Handle { station: 5, number: 3, token: 1, mask: 0x1EF };
+    assert_eq!(row[..token_word::GROUPS], head);
+    assert_eq!(row[token_word::GROUPS..][..3], [60 | 0x12 << 32, 61 | 0xC000_000E << 32, 0]);
+    assert_eq!(row[token_word::RESTRICTING..][..4], [70, 71, 72, 0]);
+    assert_eq!(memory.dacls[2 * DACL_ROW..][..4], [7, 8, 9, 0]);
+    let last = HandleRecord { station: 5, mask: 0x1EF, number: 3, token: 1 };
     assert_eq!(memory.handles[2], last);
-    assert_eq!(memory.stations[..2], [4, 4]);
-    assert_eq!(memory.stations[2 + 3 * 3..2 + 3 * 5], [1, 3, 0, 1, 0, 1]);
-    assert_eq!(memory.pending[3 * 2050..3 * 2050 + 4], [5, 1, 2, 0]);
+    assert_eq!(memory.stations[..STATION_WORD], [4, 4]);
+    assert_eq!(memory.stations[station(3, 0)..station(5, 0)], [1, 3, 0, 1, 0, 1]);
+    assert_eq!(memory.pending[3 * PENDING_ROW..][..4], [5, 1, 2, 0]);
+}
+
+#[test]
+fn every_byte_of_a_record_is_of_a_field() {
+    let bytes: [u8; HANDLE_BYTES] = std::array::from_fn(|at| at as u8 + 1);
+    let record = HandleRecord::from_bytes(&bytes);
+    assert_eq!(record.bytes(), bytes);
+    assert_eq!(record.station, u16::from_ne_bytes([1, 2]));
+    assert_eq!(record.mask, u16::from_ne_bytes([3, 4]));
+    assert_eq!(record.number, u32::from_ne_bytes([5, 6, 7, 8]));
+    assert_eq!(record.token, u64::from_ne_bytes([9, 10, 11, 12, 13, 14, 15, 16]));
+}
+
+#[test]
+fn parts_are_the_bytes_of_their_elements() {
+    let memory = busy().memory();
+    let [tokens, dacls, handles, stations, pending] = memory.bytes();
+    let word =
+        |bytes: &[u8], at: usize| u64::from_ne_bytes(*bytes.as_chunks().0[at..].first().unwrap());
+    assert!((0..memory.tokens.len()).all(|at| word(&tokens, at) == memory.tokens[at]));
+    assert!((0..memory.stations.len()).all(|at| word(&stations, at) == memory.stations[at]));
+    assert_eq!((dacls, pending), (memory.dacls, memory.pending));
+    let records = handles.as_chunks().0.iter().map(HandleRecord::from_bytes);
+    assert!(records.eq(memory.handles));
 }
 
 #[test]
@@ -76,27 +115,43 @@ fn valid_after(change: impl FnOnce(&mut Memory)) -> bool {
     model.is_some()
 }
 
+/// Whether it stays valid with this value in a token's field.
+fn valid_with(slot: usize, word: usize, value: u64) -> bool {
+    valid_after(|memory| memory.tokens[token(slot, word)] = value)
+}
+
 #[test]
 fn what_valid_memory_does_not_ask() {
-    assert!(valid_after(|memory| memory.tokens[1] = u64::MAX), "any modified number");
-    assert!(valid_after(|memory| memory.tokens[6] = 3), "any elevation");
-    assert!(valid_after(|memory| memory.tokens[8] = 1), "one mark of the two");
-    assert!(valid_after(|memory| memory.tokens[16] = (1 << 37) - 4), "any used");
-    assert!(valid_after(|memory| memory.tokens[120] = 60 | 1 << 32), "no value 2");
-    assert!(valid_after(|memory| memory.stations[0] = u64::MAX), "the last next number");
-    assert!(valid_after(|memory| memory.stations[1] = u32::MAX.into()), "the same");
-    assert!(valid_after(|memory| memory.tokens[204..206].copy_from_slice(&[2, 0])), "level 0");
+    assert!(valid_with(0, token_word::MODIFIED, u64::MAX), "any modified number");
+    assert!(valid_with(0, token_word::ELEVATION, 3), "any elevation");
+    assert!(valid_with(0, token_word::USER_DENY_ONLY, 1), "one mark of the two");
+    assert!(valid_with(0, token_word::USED, ALL_PRIVILEGES), "any used");
+    assert!(valid_with(1, token_word::GROUPS, 60 | 1 << 32), "no value 2");
+    assert!(valid_with(2, token_word::TYPE, 2), "an impersonation token of level 0");
+    assert!(valid_after(|memory| memory.stations[NEXT_TOKEN] = u64::MAX), "the last next number");
+    assert!(valid_after(|memory| memory.stations[NEXT_HANDLE] = u32::MAX.into()), "the same");
 }
 
 #[test]
 fn what_it_does_ask() {
-    assert!(!valid_after(|memory| memory.tokens[205] = 1), "a primary token's level");
-    assert!(!valid_after(|memory| memory.tokens[104] = 3), "type");
-    assert!(!valid_after(|memory| memory.tokens[204] = 0), "type");
-    assert!(!valid_after(|memory| memory.tokens[4] = 2), "a station's token");
-    assert!(!valid_after(|memory| memory.tokens[209] = 1), "owner without the attribute");
-    assert!(!valid_after(|memory| memory.tokens[220] |= 4 << 32), "deny-only and enabled");
-    assert!(!valid_after(|memory| memory.stations[2 + 3 * 4 + 1] = 1), "broken with pending");
-    assert!(!valid_after(|memory| memory.stations[1] = 1 << 32), "next handle number");
+    assert!(!valid_with(2, token_word::LEVEL, 1), "a primary token's level");
+    assert!(!valid_with(1, token_word::TYPE, 3), "type");
+    assert!(!valid_with(2, token_word::TYPE, 0), "type");
+    assert!(!valid_with(0, token_word::TYPE, 2), "a station's token");
+    assert!(!valid_with(2, token_word::OWNER, 1), "owner without the attribute");
+    assert!(!valid_with(2, token_word::GROUPS, 60 | 0x16 << 32), "deny-only and enabled");
+    let count = station(4, station_word::PENDING_COUNT);
+    assert!(!valid_after(|memory| memory.stations[count] = 1), "broken with pending");
+    assert!(!valid_after(|memory| memory.stations[NEXT_HANDLE] = 1 << 32), "next handle number");
     assert!(!valid_after(|memory| memory.tokens.push(0)), "size");
+}
+
+#[test]
+fn any_byte_of_a_free_handle_slot_is_zero() {
+    for at in 0..HANDLE_BYTES {
+        let mut bytes = [0; HANDLE_BYTES];
+        bytes[at] = 1;
+        let record = HandleRecord::from_bytes(&bytes);
+        assert!(!valid_after(|memory| memory.handles[3] = record), "byte {at}");
+    }
 }

@@ -18,7 +18,7 @@ mod query;
 mod slips;
 mod streams;
 
-use crate::{framed, write_number, Model, Token};
+use crate::{framed, write_number, Model, Token, MIN_BUFFER};
 
 /// The body that the numbers make.
 fn body(numbers: &[u64]) -> Vec<u8> {
@@ -33,7 +33,7 @@ fn body(numbers: &[u64]) -> Vec<u8> {
 fn send(model: &mut Model, station: u32, body: &[u8]) -> Vec<u8> {
     let frame = framed(body);
     let before = model.clone();
-    let fed = model.feed(station, &frame, 1024);
+    let fed = model.feed(station, &frame, MIN_BUFFER);
     assert_eq!((fed.refusal, fed.used), (0, frame.len()));
     let answer = unframed(&fed.answer);
     if answer[0] != 0 {
@@ -45,7 +45,7 @@ fn send(model: &mut Model, station: u32, body: &[u8]) -> Vec<u8> {
 
 /// The answer's body without its length.
 fn unframed(answer: &[u8]) -> Vec<u8> {
-    assert!(answer.len() <= 1024);
+    assert!(answer.len() <= MIN_BUFFER);
     let length_bytes = if answer[0] < 0x80 { 1 } else { 2 };
     let body = answer[length_bytes..].to_vec();
     assert_eq!(framed(&body), answer);

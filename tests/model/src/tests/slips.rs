@@ -1,7 +1,7 @@
 //! The slips that document 01 has already seen.
 
 use super::{ask, body, create, handle, open, status, token_of};
-use crate::{framed, Model};
+use crate::{framed, Model, MIN_BUFFER};
 
 #[test]
 fn a_primary_duplicate_at_level_0_is_not_stripped() {
@@ -47,10 +47,10 @@ fn a_request_is_bound_to_the_token_at_its_last_byte() {
     let made = handle(&mut model, 0, &[3, 50, 9, 0, 0, 0, 0]);
     let other = handle(&mut model, 1, &[3, 60, 8, 0, 0, 0, 0]);
     let begun = framed(&body(&[1, 8]));
-    assert_eq!(model.feed(0, &begun[..2], 1024).answer, []);
+    assert_eq!(model.feed(0, &begun[..2], MIN_BUFFER).answer, []);
     assert_eq!(ask(&mut model, 1, &[11, other]), [0]);
     assert_eq!(model.stations[0].pending, begun[..2]);
-    assert_eq!(model.feed(0, &begun[2..], 1024).answer, [2, 0, 3]);
+    assert_eq!(model.feed(0, &begun[2..], MIN_BUFFER).answer, [2, 0, 3]);
     assert_eq!(token_of(&model, 3).number, 1);
 
     assert_eq!(ask(&mut model, 0, &[11, made]), [0]);
@@ -64,9 +64,9 @@ fn a_privilege_lost_before_the_last_byte_is_not_held() {
     let own = open(&mut model, 1, 0x20);
     let begun = framed(&body(&create(&[])));
     let (last, first) = begun.split_last().unwrap();
-    assert_eq!(model.feed(0, first, 1024).answer, []);
+    assert_eq!(model.feed(0, first, MIN_BUFFER).answer, []);
     assert_eq!(status(&mut model, 1, &[5, own, 1, 2, 4]), 0);
-    assert_eq!(model.feed(0, &[*last], 1024).answer, [1, 4]);
+    assert_eq!(model.feed(0, &[*last], MIN_BUFFER).answer, [1, 4]);
 }
 
 #[test]

@@ -1,6 +1,4 @@
--- The row is cleared, the words are set, and the two bytes are the frame 01 0A. Assumes nothing.
-use native.Mathlib.Omega.{arith}
-use lib.ListN.{length-set}
+-- The row is cleared, the words are set, and the refusal is written as every answer is. Assumes nothing.
 use borrow.Author.Needs.{needs}
 use Rattle.broker.proofs.Accepting.{broken-off}
 use Rattle.broker.proofs.accept.break_off.Statement.{statement}
@@ -12,8 +10,7 @@ break-off-spec =
     (tie.spec
     (λ c κs. search needs)
     (λ c κs. search needs)
-    (λ c. search needs)
-    (λ c. simp length-set (omega arith))
+    (λ c κs. search needs)
     (λ c. search needs)
     (λ c. search needs)
     (λ c. search needs)

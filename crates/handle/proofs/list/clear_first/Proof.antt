@@ -16,7 +16,7 @@ use denote.Struct.Laws as LL
 use Rattle.handle.specs.declared.Handle.{Handle}
 use Rattle.handle.specs.Meaning.{none}
 use Rattle.handle.proofs.Lent.{Clears, clears-more}
-use Rattle.handle.proofs.Records.{R, word, mut-slice, one, none-is}
+use Rattle.handle.proofs.Records.{R, slotBytes, word, mut-slice, one, none-is}
 use Rattle.handle.proofs.Walk.Steps.{next, full, room, var, pointer, sets, sets-last}
 use Rattle.handle.proofs.Walk.Chains.{chain, items, unchain, rechain}
 use Rattle.handle.proofs.Walk.Loops.{Nearer, nearer-wf}
@@ -103,7 +103,7 @@ module _ {M : Type 1} (𝓤 : URA M) (H : Heap 𝓤) (A : Atoms 𝓤) (W : Given
         sets ! (agg ! (and-then ! (lit ! tt) (and-then ! (lit ! tt) (and-then ! (lit ! tt) (and-then ! (lit ! tt) (no-more !)))))) (init ! 11 refl (typed T.the-type T′.the-laws W none none-is)) $
         sets ! (bin ! (var ! 7 refl) (lit ! tt) (record { fits = wide less })) (init ! 13 refl (tt, record { fits = wide less })) $
         sets ! (bin ! (pointer ! 3 refl refl) (var ! 13 refl) tt) (init ! 15 refl (tt, tt)) $
-        rewrite ! 15 (λ (p : ℕ). ‵ (fat fullShare tyPtr l₇ 0 (vptr b p))) (sym (place-is 24 o i)) refl $
+        rewrite ! 15 (λ (p : ℕ). ‵ (fat fullShare tyPtr l₇ 0 (vptr b p))) (sym (place-is slotBytes o i)) refl $
         elem-out ! R (Is R) (shows 𝓤 H A R) (LL.vals T.the-type T′.the-laws) (LL.tells T.the-type T′.the-laws) fullShare zs i none b o (below less) (λ _.
         assigns ! (of-opd ! (var ! 13 refl)) (from ! (hop ! (look ! 17 refl) (stop !))) (store-raw ! 0 refl (typed T.the-type T′.the-laws W none none-is)) $
         move ! (1 ∷ []) $ drop ! $ had W ! T.the-type T′.the-laws T′.the-plain none none-is $ move ! (1 ∷ 0 ∷ []) $ elem-put ! R fullShare zs i none (one none ∷ []) b o (below less) $
@@ -135,7 +135,7 @@ module _ {M : Type 1} (𝓤 : URA M) (H : Heap 𝓤) (A : Atoms 𝓤) (W : Given
         below : Holds (ltb i m) → i < length zs
         below less = omega (arith, same, among less)
 
-        wide : Holds (ltb i m) → i * 24 < 2 ^ 64
+        wide : Holds (ltb i m) → i * slotBytes < 2 ^ 64
         wide less = omega (arith, gn .1, among less)
 
         up : Holds (ltb i m) → i + 1 < 2 ^ 64
@@ -147,7 +147,7 @@ module _ {M : Type 1} (𝓤 : URA M) (H : Heap 𝓤) (A : Atoms 𝓤) (W : Given
         move ! (16 ∷ []) $ fsplit ! $ drop ! $ fsplit ! $ move ! (0 ∷ 1 ∷ 19 ∷ []) $ opens-slice ! tt R ys b o $
         -- [row; the open borrow; obs; auth; _0; …; the number's]
         keep ! (0 ∷ 4 ∷ 5 ∷ 6 ∷ 7 ∷ 8 ∷ 9 ∷ 10 ∷ 11 ∷ 12 ∷ 13 ∷ 14 ∷ 15 ∷ 16 ∷ 17 ∷ 18 ∷ 19 ∷ 1 ∷ 2 ∷ 3 ∷ []) $ first ! $ blocks ! $
-        loops ! 𝓣 (Nearer left) (nearer-wf left) At turns (0, (ys, (omega arith, (refl, refl))))
+        loops ! 𝓣 (Nearer left) (nearer-wf left) At turns (_, (ys, (omega arith, (refl, refl))))
 
   module _ (𝓣 : Tables 𝓤 H) where
     walk : ent 𝓤 (onEntry 𝓤 H A clear.signature (κ, tt) (q, tt) (x ys, (m, tt)) at) (WpFn 𝓤 H (𝓣 .C) (𝓣 .Λ) code.function (sliceVal (b, o) n ∷ vint w64 m ∷ []) Post)

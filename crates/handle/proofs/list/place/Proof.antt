@@ -14,7 +14,7 @@ use Rattle.handle.proofs.Walk.{place-is, elem-out, elem-put, opens-slic
 use denote.Struct.Laws as LL
 use Rattle.handle.specs.declared.Handle.{Handle}
 use Rattle.handle.specs.Meaning.{none}
-use Rattle.handle.proofs.Records.{R, word, mut-slice, one, One}
+use Rattle.handle.proofs.Records.{R, slotBytes, word, mut-slice, one, One}
 use Rattle.handle.proofs.Walk.Steps.{full, room, var, pointer, count, sets}
 use Rattle.handle.proofs.Walk.Chains.{chain, items, unchain, rechain}
 use Rattle.handle.proofs.Walk.Owned.{reowned}
@@ -93,7 +93,7 @@ module _ {M : Type 1} (𝓤 : URA M) (H : Heap 𝓤) (A : Atoms 𝓤) (W : Given
         (λ less.
         sets ! (bin ! (var ! 4 refl) (lit ! tt) (record { fits = wide less })) (init ! 12 refl (tt, record { fits = wide less })) $
         sets ! (bin ! (pointer ! 2 refl refl) (var ! 12 refl) tt) (init ! 14 refl (tt, tt)) $
-        rewrite ! 14 (λ (p : ℕ). ‵ (fat fullShare tyPtr l₇ 0 (vptr b p))) (sym (place-is 24 o i)) refl $
+        rewrite ! 14 (λ (p : ℕ). ‵ (fat fullShare tyPtr l₇ 0 (vptr b p))) (sym (place-is slotBytes o i)) refl $
         move ! (16 ∷ 17 ∷ 18 ∷ []) $ opens-slice ! tt R ys b o $ elem-out ! R (Is R) (shows 𝓤 H A R) (LL.vals T.the-type T′.the-laws) (LL.tells T.the-type T′.the-laws) fullShare ys i none b o (ltb→lt i n less) (λ _.
         -- [list[i]; what it owns; the others; the open borrow; obs; auth; _0; …]: local k stands at 2 k + 6
         assigns-last ! (of-opd ! (var ! 12 refl)) (from ! (hop ! (look ! 20 refl) (stop !))) (store-raw ! 0 refl (typed T.the-type T′.the-laws W h gh)) $ exec ! (𝓣 .C) (𝓣 .Λ) En mir.t-4 (atRet En Post) $
@@ -103,7 +103,7 @@ module _ {M : Type 1} (𝓤 : URA M) (H : Heap 𝓤) (A : Atoms 𝓤) (W : Given
         leaves (set ys i h) (length-set ys i h) refl))
         (λ out. skips ! $ exec ! (𝓣 .C) (𝓣 .Λ) En mir.t-4 (atRet En Post) $ forget ! 8 refl $ forget ! 10 refl $ leaves ys refl (sym (set-out ys i h (nltb→le i n out))))
       where
-        wide : Holds (ltb i n) → i * 24 < 2 ^ 64
+        wide : Holds (ltb i n) → i * slotBytes < 2 ^ 64
         wide less = omega (arith, gn .1, ltb→lt i n less)
 
   module _ (𝓣 : Tables 𝓤 H) where

@@ -1,6 +1,7 @@
 -- By the handle, in the rows of its token. Assumes nothing.
 use borrow.Author.Needs.{needs}
 use Rattle.request.proofs.AdjustsDefaults.{no-handle, adjusts}
+use Rattle.request.proofs.Locating.{located}
 use Rattle.request.proofs.adjust_defaults.adjust_defaults.Statement.{statement}
 use Rattle.request.proofs.adjust_defaults.adjust_defaults.Tie as tie
 
@@ -10,8 +11,11 @@ adjust-defaults-spec =
     (tie.spec
     (λ c κs. search needs)
     (λ c κs. search needs)
+    (λ c κs. search needs)
+    (λ c κs. search needs)
+    (λ c κs. search needs)
     (λ c. search needs)
-    (λ c. search (needs, no-handle))
+    (λ c. let x = c .before .before .before in search (needs, located _ (x .before .before .before .before .find-handle .ensures) (x .before .before .before .mask-of .ensures) (x .before .before .may-adjust-default .ensures) (x .locate .ensures), no-handle))
     (λ c. search needs)
     (λ c. search needs)
     (λ c. search needs)
@@ -27,4 +31,4 @@ adjust-defaults-spec =
     (λ c κs. search needs)
     (λ c. search needs)
     (λ c. search needs)
-    (λ c. search (needs, adjusts)))
+    (λ c. let x = c .before .before .before .before .before .before .before .before .before .before in search (needs, located _ (x .before .before .before .before .find-handle .ensures) (x .before .before .before .mask-of .ensures) (x .before .before .may-adjust-default .ensures) (x .locate .ensures), adjusts)))

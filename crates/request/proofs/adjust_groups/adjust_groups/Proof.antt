@@ -1,6 +1,7 @@
 -- A law for each end. Assumes nothing.
 use borrow.Author.Needs.{needs}
 use Rattle.request.proofs.AdjustsGroups.{no-handle, adjusts}
+use Rattle.request.proofs.Locating.{located}
 use Rattle.request.proofs.adjust_groups.adjust_groups.Statement.{statement}
 use Rattle.request.proofs.adjust_groups.adjust_groups.Tie as tie
 
@@ -10,8 +11,11 @@ adjust-groups-spec =
     (tie.spec
     (λ c κs. search needs)
     (λ c κs. search needs)
+    (λ c κs. search needs)
+    (λ c κs. search needs)
+    (λ c κs. search needs)
     (λ c. search needs)
-    (λ c. search (needs, no-handle))
+    (λ c. let x = c .before .before .before in search (needs, located _ (x .before .before .before .before .find-handle .ensures) (x .before .before .before .mask-of .ensures) (x .before .before .may-adjust-groups .ensures) (x .locate .ensures), no-handle))
     (λ c. search needs)
     (λ c. search needs)
     (λ c. search needs)
@@ -22,4 +26,4 @@ adjust-groups-spec =
     (λ c κs. search needs)
     (λ c κs. search needs)
     (λ c. search needs)
-    (λ c. search (needs, adjusts)))
+    (λ c. let x = c .before .before .before .before .before .before .before .before .before in search (needs, located _ (x .before .before .before .before .find-handle .ensures) (x .before .before .before .mask-of .ensures) (x .before .before .may-adjust-groups .ensures) (x .locate .ensures), adjusts)))

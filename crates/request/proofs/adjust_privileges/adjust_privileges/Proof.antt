@@ -1,6 +1,7 @@
 -- By the handle, in the row of its token. Assumes nothing.
 use borrow.Author.Needs.{needs}
 use Rattle.request.proofs.AdjustsPrivileges.{no-handle, row-adjusted}
+use Rattle.request.proofs.Locating.{located}
 use Rattle.request.proofs.adjust_privileges.adjust_privileges.Statement.{statement}
 use Rattle.request.proofs.adjust_privileges.adjust_privileges.Tie as tie
 
@@ -10,8 +11,11 @@ adjust-privileges-spec =
     (tie.spec
     (λ c κs. search needs)
     (λ c κs. search needs)
+    (λ c κs. search needs)
+    (λ c κs. search needs)
+    (λ c κs. search needs)
     (λ c. search needs)
-    (λ c. search (needs, no-handle))
+    (λ c. let x = c .before .before .before in search (needs, located _ (x .before .before .before .before .find-handle .ensures) (x .before .before .before .mask-of .ensures) (x .before .before .may-adjust-privileges .ensures) (x .locate .ensures), no-handle))
     (λ c. search needs)
     (λ c. search needs)
     (λ c. search needs)
@@ -22,4 +26,4 @@ adjust-privileges-spec =
     (λ c κs. search needs)
     (λ c κs. search needs)
     (λ c. search needs)
-    (λ c. search (needs, row-adjusted)))
+    (λ c. let x = c .before .before .before .before .before .before .before .before .before in search (needs, located _ (x .before .before .before .before .find-handle .ensures) (x .before .before .before .mask-of .ensures) (x .before .before .may-adjust-privileges .ensures) (x .locate .ensures), row-adjusted)))

@@ -1,6 +1,6 @@
 -- The bytes, then the zeros. Assumes nothing.
 use borrow.Author.Needs.{needs}
-use Rattle.request.proofs.Bytes.{two-parts}
+use Rattle.request.proofs.Bytes.{stored}
 use Rattle.request.proofs.dacl.store.Statement.{statement}
 use Rattle.request.proofs.dacl.store.Tie as tie
 
@@ -18,4 +18,4 @@ store-spec =
     (λ c. search needs)
     (λ c κs. search needs)
     (λ c. search needs)
-    (λ c. search (needs, two-parts)))
+    (λ c. search (needs, stored)))

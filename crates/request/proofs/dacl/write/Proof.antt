@@ -9,11 +9,7 @@ write-spec =
     tie.close
     (tie.spec
     (λ c. search needs)
-    (λ c. search needs)
-    (λ c. search needs)
-    (λ c. search needs)
-    (λ c. search (needs, bytes-there))
-    (λ c κs. search needs)
+    (λ c κs. search (needs, bytes-there))
     (λ c. search needs)
     (λ c. search needs)
     (λ c. search (needs, bytes-written)))

@@ -1,6 +1,7 @@
 -- By the handle, the checks and the effect. Assumes nothing.
 use borrow.Author.Needs.{needs}
 use Rattle.request.proofs.InstallLaws.{no-handle, not-allowed, installed}
+use Rattle.request.proofs.LookupLaws.{looks-up}
 use Rattle.request.proofs.install.install.Statement.{statement}
 use Rattle.request.proofs.install.install.Tie as tie
 
@@ -10,13 +11,16 @@ install-spec =
     (tie.spec
     (λ c κs. search needs)
     (λ c κs. search needs)
-    (λ c. search (needs, no-handle, c .before .before .before .lookup .ensures))
+    (λ c κs. search needs)
+    (λ c κs. search needs)
+    (λ c κs. search needs)
+    (λ c. let f = c .before .before in no-handle (looks-up _ (f .before .before .before .find-handle .ensures) (f .before .before .mask-of .ensures) (f .before .may-assign-primary .ensures) (f .handle-refusal .ensures)) (search needs) _ (search needs))
     (λ c κs. search needs)
     (λ c κs. search needs)
     (λ c κs. search needs)
     (λ c. search needs)
     (λ c. search needs)
-    (λ c. search (needs, not-allowed, c .before .before .before .before .before .before .before .before .before .before .lookup .ensures))
+    (λ c. let f = c .before .before .before .before .before .before .before .before .before in search (needs, not-allowed, looks-up _ (f .before .before .before .find-handle .ensures) (f .before .before .mask-of .ensures) (f .before .may-assign-primary .ensures) (f .handle-refusal .ensures)))
     (λ c κs. search needs)
     (λ c κs. search needs)
     (λ c. search needs)
@@ -24,5 +28,6 @@ install-spec =
     (λ c. search needs)
     (λ c. let checked = c .before .before .before .before .before .before .before .before .before .before .before in
     let found = checked .before .before .before .before .before .before .before in
-    installed (found .before .before .lookup .ensures) (found .if1 .left) (checked .before .before .before .before .matching .ensures) (checked .before .refusal-of .ensures)
+    let f = found .before in
+    installed (looks-up _ (f .before .before .before .find-handle .ensures) (f .before .before .mask-of .ensures) (f .before .may-assign-primary .ensures) (f .handle-refusal .ensures)) (found .if1 .left) (checked .before .before .before .before .matching .ensures) (checked .before .refusal-of .ensures)
     (checked .if2 .left) (c .before .before .before .before .before .before .before .place .ensures) _ (c .ends .ensures)))

@@ -9,6 +9,6 @@ locate-spec =
     tie.close
     (tie.spec
     (λ c κs. search needs)
-    (λ c κs. search needs)
     (λ c. search (needs, token-lost))
+    (λ c κs. search needs)
     (λ c. search (needs, token-there)))

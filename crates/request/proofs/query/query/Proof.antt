@@ -1,6 +1,7 @@
 -- The handle's refusal, or the class of its token. Assumes nothing.
 use borrow.Author.Needs.{needs}
 use Rattle.request.proofs.Querying.{query-refused, query-answered}
+use Rattle.request.proofs.LookupLaws.{looks-up}
 use Rattle.request.proofs.query.query.Statement.{statement}
 use Rattle.request.proofs.query.query.Tie as tie
 
@@ -10,9 +11,12 @@ query-spec =
     (tie.spec
     (λ c κs. search needs)
     (λ c κs. search needs)
-    (λ c. query-refused _ _ (c .before .before .before .lookup .ensures) (search needs) (search needs))
+    (λ c κs. search needs)
+    (λ c κs. search needs)
+    (λ c κs. search needs)
+    (λ c. let f = c .before .before in query-refused _ _ (looks-up _ (f .before .before .before .find-handle .ensures) (f .before .before .mask-of .ensures) (f .before .may-query .ensures) (f .handle-refusal .ensures)) (search needs) (search needs))
     (λ c. search needs)
     (λ c. search needs)
     (λ c κs. search needs)
     (λ c κs. search needs)
-    (λ c. query-answered _ _ (c .before .before .before .before .before .before .lookup .ensures) (search needs) (c .before .class-of .ensures) (search needs)))
+    (λ c. let f = c .before .before .before .before .before in query-answered _ _ (looks-up _ (f .before .before .before .find-handle .ensures) (f .before .before .mask-of .ensures) (f .before .may-query .ensures) (f .handle-refusal .ensures)) (search needs) (c .before .class-of .ensures) (search needs)))

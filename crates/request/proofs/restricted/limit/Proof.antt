@@ -1,4 +1,4 @@
--- Eight words. Assumes nothing.
+-- The privileges, and five words. Assumes nothing.
 use borrow.Author.Needs.{needs}
 use Rattle.request.proofs.RestrictedRows.{limits}
 use Rattle.request.proofs.restricted.limit.Statement.{statement}
@@ -12,18 +12,12 @@ limit-spec =
     (λ c κs. search needs)
     (λ c. search needs)
     (λ c κs. search needs)
-    (λ c. search needs)
     (λ c κs. search needs)
-    (λ c. search needs)
     (λ c κs. search needs)
-    (λ c. search needs)
     (λ c κs. search needs)
     (λ c. search needs)
     (λ c. search needs)
     (λ c. search needs)
     (λ c. search needs)
     (λ c. search needs)
-    (λ c. search needs)
-    (λ c. search needs)
-    (λ c. search needs)
-    (λ c. search (needs, limits)))
+    (λ c. search (needs, limits, c .set-privileges .kept .0)))

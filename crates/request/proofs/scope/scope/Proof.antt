@@ -1,6 +1,7 @@
 -- A law for each end. Assumes nothing.
 use borrow.Author.Needs.{needs}
 use Rattle.request.proofs.Scoping.{scope-handle-refused, scope-not-held, scope-changes}
+use Rattle.request.proofs.LookupLaws.{looks-up}
 use Rattle.request.proofs.scope.scope.Statement.{statement}
 use Rattle.request.proofs.scope.scope.Tie as tie
 
@@ -10,12 +11,15 @@ scope-spec =
     (tie.spec
     (λ c κs. search needs)
     (λ c κs. search needs)
-    (λ c. scope-handle-refused _ (c .before .before .before .lookup .ensures) (search needs) (search needs))
+    (λ c κs. search needs)
+    (λ c κs. search needs)
+    (λ c κs. search needs)
+    (λ c. let f = c .before .before in scope-handle-refused _ (looks-up _ (f .before .before .before .find-handle .ensures) (f .before .before .mask-of .ensures) (f .before .may-adjust-scope .ensures) (f .handle-refusal .ensures)) (search needs) (search needs))
     (λ c κs. search needs)
     (λ c κs. search needs)
     (λ c. search needs)
-    (λ c. scope-not-held _ (c .before .before .before .before .before .before .lookup .ensures) (search needs) (c .before .before .held .ensures) (search needs) (search needs))
+    (λ c. let f = c .before .before .before .before .before in scope-not-held _ (looks-up _ (f .before .before .before .find-handle .ensures) (f .before .before .mask-of .ensures) (f .before .may-adjust-scope .ensures) (f .handle-refusal .ensures)) (search needs) (c .before .before .held .ensures) (search needs) (search needs))
     (λ c κs. search needs)
     (λ c κs. search needs)
     (λ c. search needs)
-    (λ c. scope-changes _ (c .before .before .before .before .before .before .before .before .before .before .lookup .ensures) (search needs) (c .before .before .before .before .before .before .held .ensures) (search needs) (search needs) (search needs)))
+    (λ c. let f = c .before .before .before .before .before .before .before .before .before in scope-changes _ (looks-up _ (f .before .before .before .find-handle .ensures) (f .before .before .mask-of .ensures) (f .before .may-adjust-scope .ensures) (f .handle-refusal .ensures)) (search needs) (c .before .before .before .before .before .before .held .ensures) (search needs) (search needs) (search needs)))

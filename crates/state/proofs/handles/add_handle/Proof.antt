@@ -14,4 +14,5 @@ add-handle-spec =
     (λ c. search needs)
     (λ c. search needs)
     (λ c. search needs)
+    (λ c. search needs)
     (λ c. search (needs, handle-added)))
