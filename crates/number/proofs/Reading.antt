@@ -31,21 +31,21 @@ module _ (limit b : ℕ) where
       (below-or n 1)
 
 module _ (s : List ℕ) (at limit : ℕ) where
-  pub read-none : length s ≤ at → bad ≡ readNumber limit (drop at s)
+  pub read-none : length s ≤ at → NumberAt s at limit number.Bad
   unfolding readNumber
-  read-none h = rw (drop-of-length-le s h)
+  read-none h = record { means = rw (drop-of-length-le s h); bounds = tt }
 
   module _ (b : ℕ) (here : at < length s) (e : b ≡ getD s at 0) where
     head : drop at s ≡ b ∷ drop (at + 1) s
     head = drop-cons s at 0 here ∙ ap (λ (n : ℕ). getD s at 0 ∷ drop n s) (sym (add-one at)) ∙ ap (λ (x : ℕ). x ∷ drop (at + 1) s) (sym e)
 
-    pub read-large : b < 128 → limit < b → bad ≡ readNumber limit (drop at s)
+    pub read-large : b < 128 → limit < b → NumberAt s at limit number.Bad
     unfolding readNumber
-    read-large l k = rw head (simp (lt-ltb b 128 l, lt-leb b limit k))
+    read-large l k = record { means = rw head (simp (lt-ltb b 128 l, lt-leb b limit k)); bounds = tt }
 
-    pub read-one : b < 128 → b ≤ limit → got b (drop (at + 1) s) ≡ readNumber limit (drop at s)
+    pub read-one : b < 128 → b ≤ limit → NumberAt s at limit (number.Value b (at + 1))
     unfolding readNumber
-    read-one l k = rw head (simp (lt-ltb b 128 l, le-leb b limit k))
+    read-one l k = record { means = rw head (simp (lt-ltb b 128 l, le-leb b limit k)); bounds = (omega arith, omega arith, k) }
 
     -- b stands before what the bytes after it read as
     read-more : 128 ≤ b → longer limit b (readNumber (limit / 128) (drop (at + 1) s)) ≡ readNumber limit (drop at s)

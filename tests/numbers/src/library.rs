@@ -84,14 +84,8 @@ impl Side {
         }
     }
 
-    /// Feeds a chunk; gives refusal, bytes used and the answer's length.
-    pub fn feed(
-        self,
-        station: u32,
-        data: &[u8],
-        answer: &mut [u8],
-        lent: &mut Lent,
-    ) -> (u32, usize, usize) {
+    /// Feeds a chunk; gives a mixture of refusal, bytes used, the answer's length and its last byte.
+    pub fn feed(self, station: u32, data: &[u8], answer: &mut [u8], lent: &mut Lent) -> u64 {
         let call = if self == Side::Now { obriska_feed } else { before_obriska_feed };
         let [tokens, dacls, handles, stations, pending] = &mut lent.parts;
         let turn = unsafe {
@@ -113,7 +107,9 @@ impl Side {
                 pending.len,
             )
         };
-        (turn.refusal, turn.used, turn.answered)
+        let last = answer[..turn.answered].last().copied().unwrap_or(0);
+        let seen = u64::from(turn.refusal) << 40 | (turn.used as u64) << 20;
+        seen | (turn.answered as u64) << 8 | u64::from(last)
     }
 }
 

@@ -12,7 +12,7 @@ use Rattle.rules.specs.Number.{max64, longer, readNumber}
 use Rattle.rules.proofs.Numbers.{below-or}
 use Rattle.number.specs.declared.Number.{Number}
 use Rattle.number.specs.declared.Number.the-variants as number
-use Rattle.number.specs.Meaning.{LongerAt, Joined}
+use Rattle.number.specs.Meaning.{NumberAt, LongerAt, Joined}
 use Rattle.number.proofs.Reading.{longer-large, longer-narrow, read-none, read-large, read-one, read-longer, is-bad, is-value, bounds}
 use Rattle.number.proofs.longer.Reads as longer-reads
 use Rattle.number.proofs.longer.Kinds as longer-kinds
@@ -38,7 +38,7 @@ module _ (s : List ℕ) (at limit b : ℕ) where
 
   at-end : length s ≤ at → LongerAt s at limit b number.Bad
   unfolding longer
-  at-end h = record { means = ap (longer limit b) (read-none s at (limit / 128) h); bounds = tt }
+  at-end h = record { means = ap (longer limit b) (read-none s at (limit / 128) h .means); bounds = tt }
 
   -- the byte at the place is d
   module _ (d : ℕ) (here : at < length s) (e : d ≡ getD s at 0) where
@@ -47,28 +47,31 @@ module _ (s : List ℕ) (at limit b : ℕ) where
     unfolding longer
     last r l j = record {
       means = j .means s ∙ ⊎-elim
-          (λ k. ap (longer limit b) (read-one s at (limit / 128) d here e l (omega arith)))
-          (λ k. sym (longer-large limit b d (drop (at + 1) s) (omega arith)) ∙ ap (longer limit b) (read-large s at (limit / 128) d here e l (omega arith)))
+          (λ k. ap (longer limit b) (read-one s at (limit / 128) d here e l (omega arith) .means))
+          (λ k. sym (longer-large limit b d (drop (at + 1) s) (omega arith)) ∙ ap (longer limit b) (read-large s at (limit / 128) d here e l (omega arith) .means))
           (below-or d (limit / 128 + 1));
       bounds = j .bounds (omega arith) (omega arith);
     }
 
     -- before what the call read
     module _ (r : Number) (l : 128 ≤ d) (f : LongerAt s (at + 1) (limit / 128) d r) where
+      rest : NumberAt s at (limit / 128) r
+      rest = read-longer s at (limit / 128) d here e r l f
+
       after-bad : r ≡ number.Bad → LongerAt s at limit b number.Bad
       unfolding longer
-      after-bad g = record { means = ap (longer limit b) (is-bad s at (limit / 128) r (read-longer s at (limit / 128) d here e r l f) g); bounds = tt }
+      after-bad g = record { means = ap (longer limit b) (is-bad s at (limit / 128) r rest g); bounds = tt }
 
       module _ (v q : ℕ) (g : r ≡ number.Value v q) where
         known : (at < q) × (q ≤ length s) × (v ≤ limit / 128)
-        known = bounds s at (limit / 128) r (read-longer s at (limit / 128) d here e r l f) v q g
+        known = bounds s at (limit / 128) r rest v q g
 
         fits : limit < 2 ^ 64 → v ≤ max64 / 128
         fits h = omega (arith, known)
 
         after-more : (x : Number) → Joined b v q limit x → LongerAt s at limit b x
         after-more x j = record {
-          means = j .means s ∙ ap (longer limit b) (is-value s at (limit / 128) r (read-longer s at (limit / 128) d here e r l f) v q g);
+          means = j .means s ∙ ap (longer limit b) (is-value s at (limit / 128) r rest v q g);
           bounds = j .bounds (known .0) (known .1);
         }
 

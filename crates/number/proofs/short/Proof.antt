@@ -1,23 +1,21 @@
 -- `short` meets its contract. Assumes nothing.
 use Prim.Native.Nat.{ℕ, _+_, _-_, _^_, _≤_, _<_, max}
 use native.Mathlib.Omega.{arith}
-use mathlib.Core.Path.{_≡_, sym, ap, _∙_}
-use mathlib.Core.Bool.{true, false}
+use mathlib.Core.Path.{_≡_, refl, sym, ap, _∙_}
+use mathlib.Core.Bool.{true}
 use mathlib.Core.List.{List}
 use lib.Dec.{ltb}
 use lib.ListN.{length, drop, getD, length-drop}
 use lib.Seq.{drop-drop, getD-drop}
 use borrow.Author.Needs.{needs}
 use borrow.Author.Tests.{ltb-true}
+use Rattle.rules.proofs.Logic.{not-both}
 use Rattle.number.specs.declared.Skipped.the-variants as skipped
 use Rattle.number.specs.Rest.{rest}
 use Rattle.number.specs.Meaning.{Passed}
 use Rattle.number.proofs.Reading.{short-numbers}
 use Rattle.number.proofs.short.Statement.{statement}
 use Rattle.number.proofs.short.Tie as tie
-
-never : {A : Type 0} → false ≡ true → A
-never h = let z : _≡_ {A = ℕ} 0 1 = cc in absurd (omega arith)
 
 module _ (s : List ℕ) (from count limit left : ℕ) (e : left ≡ length s - from) (enough : count ≤ left) where
   fits : from < 2 ^ 64 → length s < 2 ^ 64 → from + count < 2 ^ 64
@@ -39,9 +37,9 @@ pub short-spec : {M : Type 1} → statement M
 short-spec =
     tie.close
     (tie.spec
-    (λ c. never)
+    (λ c h. absurd (not-both h refl))
     (λ c κs. search needs)
-    (λ c. never)
+    (λ c h. absurd (not-both h refl))
     (λ c. search (needs, fits))
     (λ c κs. search (needs, inside))
     (λ c. search (needs, all)))
