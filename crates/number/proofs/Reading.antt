@@ -16,19 +16,18 @@ use Rattle.number.specs.declared.Number.the-variants as number
 use Rattle.number.specs.Meaning.{numberOf, Bounds, NumberAt, LongerAt}
 use Rattle.rules.proofs.Numbers.{below-or}
 
--- a rest that is no number of its own limit is none before b, and before b none is in a narrow field
-module _ (limit b : ℕ) where
-  pub longer-large : (n : ℕ) (later : List ℕ) → limit / 128 < n → bad ≡ longer limit b (got n later)
-  unfolding longer
-  longer-large n later k = simp (ne-eqb n 0 (omega arith), lt-ltb limit (b - 128 + 128 * n) (omega arith))
+-- a rest above its own limit is too large behind b
+pub longer-large : (limit b n : ℕ) (later : List ℕ) → limit / 128 < n → longer limit b (got n later) ≡ bad
+unfolding longer
+longer-large limit b n later k = simp (ne-eqb n 0 (omega arith), lt-ltb limit (b - 128 + 128 * n) (omega arith))
 
-  pub longer-narrow : (r : Read ℕ) → limit < 128 → bad ≡ longer limit b r
-  unfolding longer
-  longer-narrow bad k = refl
-  longer-narrow (got n later) k = ⊎-elim
-      (λ z. simp (eq-eqb n 0 (omega arith)))
-      (λ z. longer-large n later (omega arith))
-      (below-or n 1)
+pub longer-narrow : (limit b : ℕ) (r : Read ℕ) → limit < 128 → longer limit b r ≡ bad
+unfolding longer
+longer-narrow limit b bad k = refl
+longer-narrow limit b (got n later) k = ⊎-elim
+    (λ z. simp (eq-eqb n 0 (omega arith)))
+    (λ z. longer-large limit b n later (omega arith))
+    (below-or n 1)
 
 module _ (s : List ℕ) (at limit : ℕ) where
   pub read-none : length s ≤ at → NumberAt s at limit number.Bad

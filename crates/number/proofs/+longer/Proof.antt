@@ -34,7 +34,7 @@ longer-below t = and 1 longer-kinds.ps (falls 1 longer-kinds.ps _<_ μ-longer t)
 
 module _ (s : List ℕ) (at limit b : ℕ) where
   narrow : limit < 128 → LongerAt s at limit b number.Bad
-  narrow k = record { means = longer-narrow limit b (readNumber (limit / 128) (drop at s)) k; bounds = tt }
+  narrow k = record { means = sym (longer-narrow limit b (readNumber (limit / 128) (drop at s)) k); bounds = tt }
 
   at-end : length s ≤ at → LongerAt s at limit b number.Bad
   unfolding longer
@@ -48,7 +48,7 @@ module _ (s : List ℕ) (at limit b : ℕ) where
     last r l j = record {
       means = j .means s ∙ ⊎-elim
           (λ k. ap (longer limit b) (read-one s at (limit / 128) d here e l (omega arith) .means))
-          (λ k. sym (longer-large limit b d (drop (at + 1) s) (omega arith)) ∙ ap (longer limit b) (read-large s at (limit / 128) d here e l (omega arith) .means))
+          (λ k. longer-large limit b d (drop (at + 1) s) (omega arith) ∙ ap (longer limit b) (read-large s at (limit / 128) d here e l (omega arith) .means))
           (below-or d (limit / 128 + 1));
       bounds = j .bounds (omega arith) (omega arith);
     }
