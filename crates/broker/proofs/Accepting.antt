@@ -35,10 +35,10 @@ use Rattle.stream.specs.Meaning.{framedOf, Starts, stopOf, Joined}
 use Rattle.stream.specs.declared.Framed.the-variants as code
 use Rattle.stream.specs.declared.Stopped.{Stopped}
 use Rattle.stream.proofs.Feeding.{stopAt, stream-eaten, fed-part, fed-broken, fed-whole}
-use Rattle.request.specs.Answer.{WroteFrame}
 use Rattle.valid.specs.Meaning.{memoryOf}
 use Rattle.serve.specs.Served.{Held, BodyServed}
 use Rattle.serve.specs.declared.Reply.{Reply}
+use Rattle.answer.specs.Answer.{WroteFrame}
 use Rattle.broker.specs.Streams.{withStream, StreamGiven, StreamSet}
 use Rattle.broker.specs.Accepted.{quiet, zeroed, body, PartKept, BrokenOff, FrameServed, RowHeld, RowFed, Accepted}
 use Rattle.broker.specs.declared.station.Stream.{Stream}

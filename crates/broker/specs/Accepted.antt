@@ -17,8 +17,8 @@ use Rattle.handle.specs.Meaning.{none}
 use Rattle.handle.specs.declared.Handle.{Handle}
 use Rattle.state.specs.HandleFacts.{changed}
 use Rattle.state.specs.ReleaseFacts.{PartsIn}
-use Rattle.request.specs.Answer.{WroteFrame}
 use Rattle.valid.specs.Meaning.{memoryOf}
+use Rattle.answer.specs.Answer.{WroteFrame}
 use Rattle.broker.specs.Promise.{Feeds}
 use Rattle.broker.specs.Streams.{StreamSet}
 use Rattle.broker.specs.declared.Fed.{Fed}

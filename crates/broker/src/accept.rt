@@ -17,11 +17,10 @@ ghost use Rattle.broker.specs.Accepted.{quiet, PartKept, BrokenOff, Fram
 use crate::Fed;
 use crate::by_value::Turn;
 use crate::station;
+use answer::Answer;
 use handle::HANDLE_WORDS;
 use handle::NONE;
 use handle::SLOTS;
-use request::answer;
-use request::answer::Answer;
 use state::handles::Change;
 use stream::Framed;
 use valid::layout::PENDING_BYTES;

@@ -7,12 +7,12 @@ ghost use Rattle.rules.specs.Request.{numberLayout, createLayout, queryLayout, 
 ghost use Rattle.handle.specs.Words.{recordsIn};
 ghost use Rattle.state.specs.Parts.{Lent};
 ghost use Rattle.serve.specs.Served.{LayoutCarried};
+use answer::refusal;
+use body::layout;
+use decide::outcome;
+use decide::outcome::Outcome;
 use handle::HANDLE_WORDS;
 use number::Cursor;
-use request::layout;
-use request::outcome;
-use request::outcome::Outcome;
-use request::refusal;
 
 pub fn open_own(
     station: u32,
@@ -30,7 +30,7 @@ pub fn open_own(
     if !f.ok {
         return outcome::refused(refusal::MALFORMED);
     }
-    request::open::open_own(station, f.value, handles, tokens, dacls, stations)
+    open::open_own(station, f.value, handles, tokens, dacls, stations)
 }
 
 pub fn close(
@@ -49,7 +49,7 @@ pub fn close(
     if !f.ok {
         return outcome::refused(refusal::MALFORMED);
     }
-    request::close::close(station, f.value, handles, tokens, dacls, stations)
+    open::close(station, f.value, handles, tokens, dacls, stations)
 }
 
 pub fn create(
@@ -68,7 +68,7 @@ pub fn create(
     if !f.ok {
         return outcome::refused(refusal::MALFORMED);
     }
-    request::create_token::create_token(station, f, s, handles, tokens, dacls, stations)
+    create::create(station, f, s, handles, tokens, dacls, stations)
 }
 
 pub fn query(
@@ -87,7 +87,7 @@ pub fn query(
     if !f.ok {
         return outcome::refused(refusal::MALFORMED);
     }
-    request::query::query(station, f, handles, tokens, dacls, stations)
+    query::query(station, f, handles, tokens, dacls, stations)
 }
 
 pub fn privileges(
@@ -106,7 +106,7 @@ pub fn privileges(
     if !f.ok {
         return outcome::refused(refusal::MALFORMED);
     }
-    request::adjust_privileges::adjust_privileges(station, f, s, handles, tokens, dacls, stations)
+    adjust::privileges::adjust_privileges(station, f, s, handles, tokens, dacls, stations)
 }
 
 pub fn groups(
@@ -125,7 +125,7 @@ pub fn groups(
     if !f.ok {
         return outcome::refused(refusal::MALFORMED);
     }
-    request::adjust_groups::adjust_groups(station, f, s, handles, tokens, dacls, stations)
+    adjust::groups::adjust_groups(station, f, s, handles, tokens, dacls, stations)
 }
 
 pub fn scope(
@@ -144,7 +144,7 @@ pub fn scope(
     if !f.ok {
         return outcome::refused(refusal::MALFORMED);
     }
-    request::scope::scope(station, f, handles, tokens, dacls, stations)
+    adjust::scope::scope(station, f, handles, tokens, dacls, stations)
 }
 
 pub fn defaults(
@@ -163,7 +163,7 @@ pub fn defaults(
     if !f.ok {
         return outcome::refused(refusal::MALFORMED);
     }
-    request::adjust_defaults::adjust_defaults(station, f, s, handles, tokens, dacls, stations)
+    adjust::defaults::adjust_defaults(station, f, s, handles, tokens, dacls, stations)
 }
 
 pub fn duplicate(
@@ -182,7 +182,7 @@ pub fn duplicate(
     if !f.ok {
         return outcome::refused(refusal::MALFORMED);
     }
-    request::duplicate::duplicate(station, f, handles, tokens, dacls, stations)
+    copy::duplicate::duplicate(station, f, handles, tokens, dacls, stations)
 }
 
 pub fn restrict(
@@ -201,7 +201,7 @@ pub fn restrict(
     if !f.ok {
         return outcome::refused(refusal::MALFORMED);
     }
-    request::restrict_token::restrict_token(station, f, s, handles, tokens, dacls, stations)
+    copy::restrict::restrict(station, f, s, handles, tokens, dacls, stations)
 }
 
 pub fn install(
@@ -220,5 +220,5 @@ pub fn install(
     if !f.ok {
         return outcome::refused(refusal::MALFORMED);
     }
-    request::install::install(station, f.value, handles, tokens, dacls, stations)
+    install::install(station, f.value, handles, tokens, dacls, stations)
 }

@@ -6,12 +6,11 @@ ghost use Rattle.rules.specs.Frame.{maxAnswer};
 ghost use Rattle.handle.specs.Words.{recordsIn};
 ghost use Rattle.state.specs.Parts.{Lent};
 ghost use Rattle.serve.specs.Served.{Held, BodyCarried, BodyServed};
+use answer::refusal;
+use body::layout;
+use decide::outcome;
+use decide::outcome::Outcome;
 use handle::HANDLE_WORDS;
-use request::answer;
-use request::layout;
-use request::outcome;
-use request::outcome::Outcome;
-use request::refusal;
 use state::handles::Change;
 
 mod by_number;
