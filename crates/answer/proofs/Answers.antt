@@ -77,21 +77,23 @@ module _ (n : ℕ) (xs ns o : List ℕ) (e : take n xs ≡ ns) where
   pub start-wrote : {o′ : List ℕ} {r : ℕ} → WroteFrame (encodeAll (take (n - 0) (drop 0 xs))) o o′ r → WroteFrame (encodeAll ns) o o′ r
   start-wrote w = wrote-same same w
 
--- ---- a status and a value
+-- ---- a status and up to two values
 
-short : (count a b : ℕ) → count ≤ 2 → a < 2 ^ 64 → b < 2 ^ 64 → length (frame (encodeAll (take count (a ∷ b ∷ [])))) ≤ maxAnswer
+short : (count a b c : ℕ) → count ≤ 3 → a < 2 ^ 64 → b < 2 ^ 64 → c < 2 ^ 64 → length (frame (encodeAll (take count (a ∷ b ∷ c ∷ [])))) ≤ maxAnswer
 unfolding encodeAll
-short zero a b h ha hb = frame-fits [] (omega arith)
-short (suc zero) a b h ha hb = frame-fits (encode a ++ []) (simp length-append (omega (arith, word a ha)))
-short (suc (suc zero)) a b h ha hb = frame-fits (encode a ++ (encode b ++ [])) (simp length-append (omega (arith, word a ha, word b hb)))
-short (suc (suc (suc k))) a b h ha hb = absurd (omega arith)
+short zero a b c h ha hb hc = frame-fits [] (omega arith)
+short (suc zero) a b c h ha hb hc = frame-fits (encode a ++ []) (simp length-append (omega (arith, word a ha)))
+short (suc (suc zero)) a b c h ha hb hc = frame-fits (encode a ++ (encode b ++ [])) (simp length-append (omega (arith, word a ha, word b hb)))
+short (suc (suc (suc zero))) a b c h ha hb hc =
+    frame-fits (encode a ++ (encode b ++ (encode c ++ []))) (simp length-append (omega (arith, word a ha, word b hb, word c hc)))
+short (suc (suc (suc (suc k)))) a b c h ha hb hc = absurd (omega arith)
 
-module _ (count a b : ℕ) (o : List ℕ) (few : count ≤ 2) (ha : a < 2 ^ 64) (hb : b < 2 ^ 64) (room : maxAnswer ≤ length o) where
-  fits-two : length (frame (encodeAll (take count (a ∷ b ∷ [])))) ≤ length o
-  fits-two = let l = short count a b few ha hb in omega arith
+module _ (count a b c : ℕ) (o : List ℕ) (few : count ≤ 3) (ha : a < 2 ^ 64) (hb : b < 2 ^ 64) (hc : c < 2 ^ 64) (room : maxAnswer ≤ length o) where
+  fits : length (frame (encodeAll (take count (a ∷ b ∷ c ∷ [])))) ≤ length o
+  fits = let l = short count a b c few ha hb hc in omega arith
 
-  pub put-room : Room (encodeAll (take (count - 0) (a ∷ b ∷ []))) o
-  put-room = start-room count (a ∷ b ∷ []) (take count (a ∷ b ∷ [])) o refl fits-two
+  pub put-room : Room (encodeAll (take (count - 0) (a ∷ b ∷ c ∷ []))) o
+  put-room = start-room count (a ∷ b ∷ c ∷ []) (take count (a ∷ b ∷ c ∷ [])) o refl fits
 
 -- ---- the report
 
@@ -183,6 +185,9 @@ module _ (ws bs : List ℕ) (a : Answer) (o o′ : List ℕ) (r : ℕ) where
 
   pub value : (v : ℕ) → a ≡ answer.Value v → WroteFrame (encodeAll (0 ∷ v ∷ [])) o o′ r → WroteFrame (answerOf ws bs a) o o′ r
   value v e w = meant (answer.Value v) (encodeAll (0 ∷ v ∷ [])) e w (with-value 0 v (omega arith))
+
+  pub values : (v u : ℕ) → a ≡ answer.Values v u → WroteFrame (encodeAll (0 ∷ v ∷ u ∷ [])) o o′ r → WroteFrame (answerOf ws bs a) o o′ r
+  values v u e w = meant (answer.Values v u) (encodeAll (0 ∷ v ∷ u ∷ [])) e w (first-byte 0 (v ∷ u ∷ []) (omega arith))
 
   pub report : (w : ℕ) → a ≡ answer.Report w → WroteFrame (encodeAll (0 ∷ w ∷ replicate (reportWords - 1) 0)) o o′ r → WroteFrame (answerOf ws bs a) o o′ r
   report v e w = meant (answer.Report v) (encodeAll (0 ∷ v ∷ replicate (reportWords - 1) 0)) e w (first-byte 0 (v ∷ replicate (reportWords - 1) 0) (omega arith))

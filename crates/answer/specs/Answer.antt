@@ -25,6 +25,7 @@ answerOf words dacls (answer.Refused n) = n ∷ []
 answerOf words dacls (answer.TooSmall size) = 9 ∷ encode size
 answerOf words dacls answer.Done = 0 ∷ []
 answerOf words dacls (answer.Value v) = 0 ∷ encode v
+answerOf words dacls (answer.Values v w) = 0 ∷ encodeAll (v ∷ w ∷ [])
 answerOf words dacls (answer.Report w) = 0 ∷ encodeAll (w ∷ replicate (reportWords - 1) 0)
 answerOf words dacls (answer.Class slot class) = 0 ∷ classBytes (tokenIn words dacls slot) class
 
@@ -34,6 +35,7 @@ Fit words dacls (answer.Refused n) = n < 128
 Fit words dacls (answer.TooSmall size) = Unit {0}
 Fit words dacls answer.Done = Unit {0}
 Fit words dacls (answer.Value v) = Unit {0}
+Fit words dacls (answer.Values v w) = Unit {0}
 Fit words dacls (answer.Report w) = Unit {0}
 Fit words dacls (answer.Class slot class) = (slot < tokenSlots) × (tokenValid (tokenIn words dacls slot) ≡ true)
 

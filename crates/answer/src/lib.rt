@@ -39,6 +39,8 @@ pub enum Answer {
     Done,
     // Success, with a new handle or the report of request 5.
     Value(u64),
+    // Success, with two numbers.
+    Values(u64, u64),
     // Success, with the first of request 6's sixteen words; the others are 0, as no token has more than 64 groups.
     Report(u64),
     // Success, with a class of the token in a slot.
@@ -54,12 +56,12 @@ fn put_all(fields: &[u64], out: &mut [u8]) -> usize
     number::answer(fields, &none[0..0], out)
 }
 
-// The frame of a status and a value, or of a status alone.
-fn put(count: usize, status: u64, value: u64, out: &mut [u8]) -> usize
-    requires { ⌜ (count ≤ 2) × (maxAnswer ≤ length (now out)) ⌝ }
-    ensures { λ r. ⌜ WroteFrame (encodeAll (take count (status ∷ value ∷ []))) (now (out .entry)) (now (out .exit)) r ⌝ }
+// The frame of a status alone, with one number, or with two.
+fn put(count: usize, status: u64, first: u64, second: u64, out: &mut [u8]) -> usize
+    requires { ⌜ (count ≤ 3) × (maxAnswer ≤ length (now out)) ⌝ }
+    ensures { λ r. ⌜ WroteFrame (encodeAll (take count (status ∷ first ∷ second ∷ []))) (now (out .entry)) (now (out .exit)) r ⌝ }
 {
-    let fields = [status, value];
+    let fields = [status, first, second];
     put_all(&fields[0..count], out)
 }
 
@@ -151,7 +153,7 @@ fn put_class(words: &[u64], dacl: &[u8], class: u64, out: &mut [u8]) -> usize
 {
     let known = (1 <= class) & (class <= 13);
     if !known {
-        return put(1, 0, 0, out);
+        return put(1, 0, 0, 0, out);
     }
     match class {
         2 => put_groups(words, out),
@@ -159,7 +161,7 @@ fn put_class(words: &[u64], dacl: &[u8], class: u64, out: &mut [u8]) -> usize
         6 => put_dacl(words, dacl, out),
         9 => put_statistics(words, out),
         10 => put_sids(words, out),
-        _ => put(2, 0, class::one(words, class), out),
+        _ => put(2, 0, class::one(words, class), 0, out),
     }
 }
 
@@ -180,10 +182,11 @@ pub fn write(a: Answer, tokens: &[u64], dacls: &[u8], out: &mut [u8]) -> usize
     ensures { λ r. ⌜ WroteFrame (answerOf (now (tokens .entry)) (now (dacls .entry)) a) (now (out .entry)) (now (out .exit)) r ⌝ }
 {
     match a {
-        Answer::Refused(n) => put(1, n, 0, out),
-        Answer::TooSmall(size) => put(2, refusal::CAPACITY_BELOW, size, out),
-        Answer::Done => put(1, 0, 0, out),
-        Answer::Value(v) => put(2, 0, v, out),
+        Answer::Refused(n) => put(1, n, 0, 0, out),
+        Answer::TooSmall(size) => put(2, refusal::CAPACITY_BELOW, size, 0, out),
+        Answer::Done => put(1, 0, 0, 0, out),
+        Answer::Value(v) => put(2, 0, v, 0, out),
+        Answer::Values(v, w) => put(3, 0, v, w, out),
         Answer::Report(w) => put_report(w, out),
         Answer::Class { slot, class } => put_class_at(slot, class, tokens, dacls, out),
     }

@@ -1,4 +1,4 @@
--- The status, and the value if it is asked for. Assumes nothing.
+-- The status, and as many numbers as are asked for. Assumes nothing.
 use borrow.Author.Needs.{needs}
 use Rattle.answer.proofs.Answers.{put-room, start-wrote}
 use Rattle.answer.proofs.put.Statement.{statement}
