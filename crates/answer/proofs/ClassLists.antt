@@ -13,7 +13,8 @@ use Rattle.rules.specs.Number.{encode, encodeAll}
 use Rattle.rules.specs.Token.{maxGroups, maxRestricting}
 use Rattle.rules.specs.Query.{pairs}
 use Rattle.rules.specs.Memory.{word32, low32, headWords, tokenWords, unpack, limitsAt}
-use Rattle.answer.specs.Classes.{maxNumbers, maxSids, groupNumbers, sidNumbers}
+use Rattle.number.specs.Answer.{maxFields}
+use Rattle.answer.specs.Classes.{maxSids, groupNumbers, sidNumbers}
 use Rattle.answer.proofs.Classes.{groups-cut, groups-counted}
 
 -- ---- a word's numbers
@@ -76,12 +77,12 @@ encoded-both (x ∷ xs) ys = ap (λ (l : List ℕ). encode x ++ l) (encoded-both
 pub record Counted (f : ℕ → List ℕ) (b n : ℕ) (ws : List ℕ) (sum i : ℕ) : Type 0 where
   pub within : i ≤ n
   pub room : b + n ≤ length ws
-  pub few : n ≤ 64
+  pub few : n ≤ maxGroups
   pub below : sum ≤ 20 * i + 10
   bytes : sum ≡ length (encodeAll (n ∷ flat f (take i (drop b ws))))
 
 module _ {f : ℕ → List ℕ} {b n : ℕ} {ws : List ℕ} where
-  counted-none : {sum : ℕ} → b + n ≤ length ws → n ≤ 64 → sum ≡ length (encode n) → sum ≤ 10 → Counted f b n ws sum 0
+  counted-none : {sum : ℕ} → b + n ≤ length ws → n ≤ maxGroups → sum ≡ length (encode n) → sum ≤ 10 → Counted f b n ws sum 0
   unfolding encodeAll flat
   counted-none h s e k = record { within = zero-le; room = h; few = s; below = k; bytes = e ∙ ap length (sym (append-nil (encode n))) }
 
@@ -153,7 +154,7 @@ pub record PairsIn (n : ℕ) (ws out : List ℕ) (i : ℕ) : Type 0 where
   pub within : i ≤ n
   pub few : n ≤ maxGroups
   pub source : length ws ≡ tokenWords
-  pub long : length out ≡ maxNumbers
+  pub long : length out ≡ maxFields
   front : take (2 * i + 2) out ≡ 0 ∷ n ∷ flat pairOf (take i (drop headWords ws))
 
 -- the success, the count n and i restricting SIDs
@@ -165,11 +166,11 @@ pub record SidsIn (n : ℕ) (ws out : List ℕ) (i : ℕ) : Type 0 where
   front : take (i + 2) out ≡ 0 ∷ n ∷ flat sidOf (take i (drop (headWords + maxGroups) ws))
 
 module _ {ws : List ℕ} {n : ℕ} where
-  pub no-pair-in : length ws ≡ tokenWords → n ≡ min (getD ws 17 0) maxGroups → PairsIn n ws (0 ∷ n ∷ replicate 128 0) 0
+  pub no-pair-in : length ws ≡ tokenWords → n ≡ min (getD ws 17 0) maxGroups → PairsIn n ws (0 ∷ n ∷ replicate (2 * maxGroups) 0) 0
   unfolding flat
   no-pair-in l h = record { within = zero-le; few = omega arith; source = l; long = refl; front = refl }
 
-  pub no-sid-in : length ws ≡ tokenWords → n ≡ min (getD ws 18 0) maxRestricting → SidsIn n ws (0 ∷ n ∷ replicate 16 0) 0
+  pub no-sid-in : length ws ≡ tokenWords → n ≡ min (getD ws 18 0) maxRestricting → SidsIn n ws (0 ∷ n ∷ replicate maxRestricting 0) 0
   unfolding flat
   no-sid-in l h = record { within = zero-le; few = omega arith; source = l; long = refl; front = refl }
 

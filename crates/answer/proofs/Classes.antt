@@ -60,11 +60,11 @@ module _ (ws : List ℕ) (index : ℕ) where
         later (omega arith)
         (sym (ap (λ (g : Group). g .sid) (List·getD-eq-default (groupsAt ws) noGroup (omega (arith, groups-counted ws n l e)))))
 
-    pub group-sid : (index ≡ 0 → ⊥) → index ≤ n → RowSid ws index (getD ws (19 + index) 0 % word32)
+    pub group-sid : (index ≡ 0 → ⊥) → index ≤ n → RowSid ws index (getD ws (headWords - 1 + index) 0 % word32)
     unfolding unpack noGroup
     group-sid u h =
         later (omega arith)
-        (ap (λ (k : ℕ). getD ws k 0 % word32) {x = 19 + index} {y = headWords + (index - 1)} (omega arith)
+        (ap (λ (k : ℕ). getD ws k 0 % word32) {x = headWords - 1 + index} {y = headWords + (index - 1)} (omega arith)
         ∙ ap (λ (w : ℕ). w % word32) (sym (getD-take n (drop headWords ws) (index - 1) 0 (omega arith) ∙ getD-drop headWords ws (index - 1) 0))
         ∙ ap (λ (g : Group). g .sid) (sym (List·getD-map unpack (take n (drop headWords ws)) (index - 1) 0))
         ∙ ap (λ (gs : List Group). getD gs (index - 1) noGroup .sid) (sym (groups-cut ws n l e)))

@@ -1,22 +1,18 @@
 -- What a query answers of a token's row, class by class. Assumes nothing.
-use Prim.Native.Nat.{ℕ, _≤_}
+use Prim.Native.Nat.{ℕ, _+_, _≤_}
 use mathlib.Core.Path.{_≡_}
 use mathlib.Core.List.{List, [], _∷_}
 use lib.ListN.{length, getD}
 use Rattle.rules.specs.Number.{encode}
-use Rattle.rules.specs.Token.{sidAt, maxDacl}
+use Rattle.rules.specs.Token.{sidAt, maxRestricting, maxDacl}
 use Rattle.rules.specs.Query.{pairs, classBytes}
 use Rattle.rules.specs.Memory.{low8, groupsAt, limitsAt, tokenAt}
 
 -- ---- the classes of several numbers
 
--- the status, a count and 64 pairs
-abbrev pub maxNumbers : ℕ
-maxNumbers = 130
-
--- the status, a count and 16 SIDs
+-- the status, a count and all restricting SIDs
 abbrev pub maxSids : ℕ
-maxSids = 18
+maxSids = 2 + maxRestricting
 
 -- class 2
 abbrev pub groupNumbers : List ℕ → List ℕ

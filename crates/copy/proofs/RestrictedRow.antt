@@ -16,7 +16,7 @@ use Rattle.rules.specs.Group.{Group, denied}
 use Rattle.rules.specs.Privileges as rules
 use Rattle.rules.specs.Privileges.{remove}
 use Rattle.rules.specs.Token.{Token, maxGroups, maxRestricting, withPrivileges, withGroups}
-use Rattle.rules.specs.Memory.{tokenWords, word32, mark, pack, unpack, head, tokenRow}
+use Rattle.rules.specs.Memory.{headWords, tokenWords, word32, mark, pack, unpack, head, tokenRow}
 use Rattle.rules.proofs.Logic.{length-changeAt}
 use Rattle.privilege.specs.Meaning.{privilegesOf}
 use Rattle.privilege.specs.declared.privileges.Privileges.{Privileges}
@@ -79,7 +79,7 @@ none (g ∷ gs) (suc i) h = ap (λ (l : List Group). g ∷ l) (none gs i (omega 
 
 module _ (t : Token) (i : ℕ) where
   denied-row : i < length (t .groups) → length (t .groups) ≤ maxGroups → Packed t
-      → set (tokenRow t) (20 + i) (onWord denied (getD (tokenRow t) (20 + i) 0)) ≡ tokenRow (denyIn i t)
+      → set (tokenRow t) (headWords + i) (onWord denied (getD (tokenRow t) (headWords + i) 0)) ≡ tokenRow (denyIn i t)
   unfolding tokenRow head denyIn withGroups
   denied-row h few p =
       let ws : List ℕ = map pack (t .groups) in
@@ -88,7 +88,7 @@ module _ (t : Token) (i : ℕ) where
       let long = length-pad maxGroups ws in
       let many : length ws ≡ length (t .groups) = length-map (t .groups) pack in
       let v = onWord denied (getD ws i 0) in
-      ap (λ (w : ℕ). set (head t ++ (gs ++ rs)) (20 + i) (onWord denied w))
+      ap (λ (w : ℕ). set (head t ++ (gs ++ rs)) (headWords + i) (onWord denied w))
       (getD-append-add (head t) (gs ++ rs) i 0 ∙ List·getD-append gs rs 0 i (omega arith) ∙ getD-pad maxGroups ws i (omega arith) (omega arith))
       ∙ set-after (head t) (gs ++ rs) i v
       ∙ ap (λ (l : List ℕ). head t ++ l) (set-append-left gs rs i v (omega arith))
@@ -100,11 +100,11 @@ module _ (t : Token) (i : ℕ) where
   denied-none l = ap (λ (gs : List Group). withGroups gs t) (none (t .groups) i l)
 
 module _ (size index : ℕ) {ws : List ℕ} (long : length ws ≡ tokenWords) (few : size ≤ maxGroups) where
-  pub denies : {v : ℕ} → index < size → v ≡ onWord denied (getD ws (20 + index) 0) → DeniedAt size index ws (set ws (20 + index) v)
+  pub denies : {v : ℕ} → index < size → v ≡ onWord denied (getD ws (headWords + index) 0) → DeniedAt size index ws (set ws (headWords + index) v)
   denies {v} h e = record {
-    long = length-set ws (20 + index) v ∙ long;
+    long = length-set ws (headWords + index) v ∙ long;
     made = λ t n p q.
-        ap (set ws (20 + index)) e ∙ ap (λ (l : List ℕ). set l (20 + index) (onWord denied (getD l (20 + index) 0))) q
+        ap (set ws (headWords + index)) e ∙ ap (λ (l : List ℕ). set l (headWords + index) (onWord denied (getD l (headWords + index) 0))) q
         ∙ denied-row t index (omega arith) (omega arith) p;
   }
 
@@ -114,7 +114,7 @@ module _ (size index : ℕ) {ws : List ℕ} (long : length ws ≡ tokenWords) (f
 -- ---- one SID more
 
 added-row : (t : Token) (sid k : ℕ) → length (t .limits .restricting) ≡ k → k < maxRestricting
-    → set (set (tokenRow t) (84 + k) sid) 18 (k + 1) ≡ tokenRow (addIn sid t)
+    → set (set (tokenRow t) (headWords + maxGroups + k) sid) 18 (k + 1) ≡ tokenRow (addIn sid t)
 unfolding tokenRow head addIn withSids
 added-row t sid k e h =
     let gs = pad maxGroups (map pack (t .groups)) in
@@ -122,16 +122,16 @@ added-row t sid k e h =
     let rs = pad maxRestricting sids in
     let long = length-pad maxGroups (map pack (t .groups)) in
     let more : length (sids ++ (sid ∷ [])) ≡ length sids + 1 = length-append sids (sid ∷ []) in
-    ap (λ (j : ℕ). set (set (head t ++ (gs ++ rs)) j sid) 18 (k + 1)) {x = 84 + k} {y = 20 + (length gs + k)} (omega arith)
+    ap (λ (j : ℕ). set (set (head t ++ (gs ++ rs)) j sid) 18 (k + 1)) {x = headWords + maxGroups + k} {y = headWords + (length gs + k)} (omega arith)
     ∙ ap (λ (l : List ℕ). set l 18 (k + 1)) (set-after (head t) (gs ++ rs) (length gs + k) sid ∙ ap (λ (l : List ℕ). head t ++ l) (set-after gs rs k sid))
     ∙ ap (λ (j : ℕ). set (head t) 18 (k + 1) ++ (gs ++ set rs j sid)) (sym e)
     ∙ ap (λ (l : List ℕ). set (head t) 18 (k + 1) ++ (gs ++ l)) (pad-more maxRestricting sids sid (omega arith))
     ∙ ap (λ (j : ℕ). set (head t) 18 j ++ (gs ++ pad maxRestricting (sids ++ (sid ∷ [])))) {x = k + 1} {y = length (sids ++ (sid ∷ []))} (omega arith)
 
-pub adds : (k sid : ℕ) {ws : List ℕ} → length ws ≡ tokenWords → k < maxRestricting → SidAdded k sid ws (set (set ws (84 + k) sid) 18 (k + 1))
+pub adds : (k sid : ℕ) {ws : List ℕ} → length ws ≡ tokenWords → k < maxRestricting → SidAdded k sid ws (set (set ws (headWords + maxGroups + k) sid) 18 (k + 1))
 adds k sid long h = record {
   long = simp length-set long;
-  made = λ t e q. ap (λ (l : List ℕ). set (set l (84 + k) sid) 18 (k + 1)) q ∙ added-row t sid k e h;
+  made = λ t e q. ap (λ (l : List ℕ). set (set l (headWords + maxGroups + k) sid) 18 (k + 1)) q ∙ added-row t sid k e h;
 }
 
 -- ---- the head
