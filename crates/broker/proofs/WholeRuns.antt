@@ -8,9 +8,10 @@ use lib.ListN.{length, take, drop, replicate, length-replicate}
 use lib.Seq.{take-append-seam, drop-append-seam}
 use lib.Dec.{leb, eqb}
 use Rattle.rules.specs.Basic.{if_then_else_, all}
-use Rattle.rules.specs.Refusal.{noStation, invalidMemory}
+use Rattle.rules.specs.Refusal.{noStation}
 use Rattle.rules.specs.State.{State, start, stationCount, changeStation}
 use Rattle.rules.specs.Station.{cleared}
+use Rattle.rules.specs.Valid as Valid
 use Rattle.rules.specs.Memory.{Memory, sized, valid, encode}
 use Rattle.rules.specs.Model as Model
 use Rattle.rules.specs.Model.{Result, refused}
@@ -20,9 +21,10 @@ use Rattle.rules.specs.Calls.{Done, refusedOn, written, startOn, feedOn, reconn
 use Rattle.rules.specs.WholeList.{Return, doneBy, memoryAfter, returnsOn, returnsOf}
 use Rattle.rules.proofs.Logic.{and-l, and-r, and-i}
 use Rattle.rules.proofs.Tables.{on-if}
+use Rattle.rules.proofs.Always.{start-valid}
 use Rattle.rules.proofs.WholeList.{whole-list}
 use Rattle.broker.specs.Promise.{StartPromise}
-use Rattle.broker.specs.WholeRun.{FeedCall, ReconnectCall, Link, feed, reconnect, Chain, none, link, Ran, memories, RestStays, AllStay, answersIn, happened, eventsIn, states, WholeRun, CanRun}
+use Rattle.broker.specs.WholeRun.{FeedCall, ReconnectCall, Link, feed, reconnect, Chain, none, link, memories, RestStays, AllStay, answersIn, happened, eventsIn, states, WholeRun, CanRun, FromStart, WholeStart, CanStart}
 
 -- ---- one call: what it left and returned is what `Calls` says
 
@@ -134,24 +136,6 @@ chain-along σ w h (link {m₁ = m₁} {c = c} {cs = cs} l x) =
     let next : Stands τ m₁ = subst (Stands τ) (sym (link-as l .memory)) (λ ds v. h (c ∷ ds) (and-i (and-l (ofBytes c) (all ofBytes cs) w) v)) in
     ap₂ (λ (n : Memory) (ns : List Memory). n ∷ ns) (next [] refl) (chain-along τ (and-r (ofBytes c) (all ofBytes cs) w) next x)
 
--- ---- from start
-
--- a start that returned 0 left the start's memory
-begun-as : (m₀ m : Memory) → StartPromise m₀ m 0 → m ≡ encode start
-unfolding startOn refusedOn
-begun-as m₀ m d = from (sized m₀) (d .refusal) (d .memory)
-  where
-    first : Bool → Done
-    first b = if b then record { refusal = 0; used = 0; answer = []; memory = encode start } else refusedOn invalidMemory m₀
-
-    from : (b : Bool) → 0 ≡ first b .refusal → m ≡ first b .memory → m ≡ encode start
-    from true e h = h
-    from false e h = absurd (omega (arith, e))
-
-can-begin : (m₀ : Memory) → sized m₀ ≡ true → StartPromise m₀ (encode start) 0
-unfolding startOn
-can-begin m₀ h = rw h (record { refusal = refl; memory = refl })
-
 -- ---- what the calls returned, of the model
 
 returnedBy : State → Call → Return
@@ -178,52 +162,69 @@ unfolding eventsIn returnsOf events returnedBy
 events-as [] σ = refl
 events-as (c ∷ cs) σ = ap₂ _++_ (happened-as c σ) (events-as cs (returned σ c .after))
 
-module _ {cs : List Call} {m′ : Memory} {rs : List Return} (w : all ofBytes cs ≡ true) (x : Ran cs m′ rs) where
-  begun : x .begun ≡ encode start
-  begun = begun-as (x .before) (x .begun) (x .started)
+-- ---- from any valid state
 
-  run-memory : m′ ≡ encode (after cs start)
-  run-memory = chain-memory (x .calls) ∙ ap (memoryAfter cs) begun ∙ whole-list cs w .memory
+module _ (σ : State) (v : Valid.valid σ ≡ true) where
+  module _ {m m′ : Memory} {cs : List Call} {rs : List Return} (b : m ≡ encode σ) (w : all ofBytes cs ≡ true) (x : Chain m cs m′ rs) where
+    run-memory : m′ ≡ encode (after cs σ)
+    run-memory = chain-memory x ∙ ap (memoryAfter cs) b ∙ whole-list σ v cs w .memory
 
-  run-on : rs ≡ returnsOn cs (encode start)
-  run-on = chain-returns (x .calls) ∙ ap (returnsOn cs) begun
+    run-on : rs ≡ returnsOn cs (encode σ)
+    run-on = chain-returns x ∙ ap (returnsOn cs) b
 
-  run-returns : rs ≡ returnsOf cs start
-  run-returns = run-on ∙ whole-list cs w .returns
+    run-returns : rs ≡ returnsOf cs σ
+    run-returns = run-on ∙ whole-list σ v cs w .returns
 
-  run-answers : answersIn rs ≡ answered cs start
-  run-answers = ap answersIn run-returns ∙ said-as cs start
+    run-answers : answersIn rs ≡ answered cs σ
+    run-answers = ap answersIn run-returns ∙ said-as cs σ
 
-  run-events : eventsIn cs rs ≡ events cs start
-  run-events = ap (eventsIn cs) run-returns ∙ events-as cs start
+    run-events : eventsIn cs rs ≡ events cs σ
+    run-events = ap (eventsIn cs) run-returns ∙ events-as cs σ
 
-  run-along : memories (x .calls) ≡ map encode (states cs start)
-  unfolding Stands
-  run-along = chain-along start w (subst (Stands start) (sym begun) (λ ds v. whole-list ds v .memory)) (x .calls)
+    run-along : memories x ≡ map encode (states cs σ)
+    unfolding Stands
+    run-along = chain-along σ w (subst (Stands σ) (sym b) (λ ds u. whole-list σ v ds u .memory)) x
 
--- every start that returned 0, and every list of calls after it; a chunk is of bytes
-pub whole-run : {cs : List Call} {m′ : Memory} {rs : List Return} → all ofBytes cs ≡ true → (x : Ran cs m′ rs) → WholeRun x
-whole-run {cs} {m′} {rs} w x =
-    let whole = whole-list cs w in
-    record {
-      memory = run-memory w x;
-      along = run-along w x;
-      returns = run-returns w x;
-      rest = chain-rest (x .calls);
-      never13 = λ r i. whole .never13 r (subst (Mem r) (run-on w x) i);
-      alike = λ {ds} v y e. (
-          let same = whole .throughout .alike ds (sym (run-events v y) ∙ e ∙ run-events w x) in
-          record { answers = run-answers v y ∙ same .answers ∙ sym (run-answers w x); memory = run-memory v y ∙ ap encode (same .end) ∙ sym (run-memory w x) });
-      throughout = whole .throughout;
-    }
+  -- every list of calls; a chunk is of bytes
+  pub whole-run : {m m′ : Memory} {cs : List Call} {rs : List Return} → m ≡ encode σ → all ofBytes cs ≡ true → (x : Chain m cs m′ rs) → WholeRun σ x
+  whole-run {m} {m′} {cs} {rs} b w x =
+      let whole = whole-list σ v cs w in
+      record {
+        begins = b;
+        memory = run-memory b w x;
+        along = run-along b w x;
+        returns = run-returns b w x;
+        rest = chain-rest x;
+        never13 = λ r i. whole .never13 r (subst (Mem r) (run-on b w x) i);
+        alike = λ {n} {n′} {ds} a u y e. (
+            let same = whole .throughout .alike ds (sym (run-events a u y) ∙ e ∙ run-events b w x) in
+            record { answers = run-answers a u y ∙ same .answers ∙ sym (run-answers b w x); memory = run-memory a u y ∙ ap encode (same .end) ∙ sym (run-memory b w x) });
+        throughout = whole .throughout;
+      }
 
-pub can-run : (cs : List Call) → all ofBytes cs ≡ true → CanRun cs
-unfolding CanRun
-can-run cs w before h =
-    let whole = whole-list cs w in
-    record {
-      before = before;
-      begun = encode start;
-      started = can-begin before h;
-      calls = subst (Chain (encode start) cs (encode (after cs start))) (whole .returns) (subst (λ (m : Memory). Chain (encode start) cs m (returnsOn cs (encode start))) (whole .memory) (can-chain (encode start) cs));
-    }
+  pub can-run : (cs : List Call) → all ofBytes cs ≡ true → CanRun σ cs
+  unfolding CanRun
+  can-run cs w =
+      let whole = whole-list σ v cs w in
+      subst (Chain (encode σ) cs (encode (after cs σ))) (whole .returns) (subst (λ (m : Memory). Chain (encode σ) cs m (returnsOn cs (encode σ))) (whole .memory) (can-chain (encode σ) cs))
+
+-- ---- from the start
+
+-- a start that returned 0 left the start's memory
+begun-as : (m₀ m : Memory) → StartPromise m₀ m 0 → m ≡ encode start
+unfolding startOn refusedOn
+begun-as m₀ m d =
+    on-if (λ (x : Done). 0 ≡ x .refusal → m ≡ x .memory → m ≡ encode start) (sized m₀) _ _ (λ t e h. h) (λ t e h. absurd (omega (arith, e))) (d .refusal) (d .memory)
+
+-- every start that returned 0, and every list of calls after it
+pub whole-start : {m₀ m′ : Memory} {cs : List Call} {rs : List Return} → all ofBytes cs ≡ true → (x : FromStart m₀ cs m′ rs) → WholeStart x
+unfolding WholeStart
+whole-start {m₀} w x = whole-run start start-valid (begun-as m₀ (x .begun) (x .started)) w (x .calls)
+
+can-begin : (m₀ : Memory) → sized m₀ ≡ true → StartPromise m₀ (encode start) 0
+unfolding startOn
+can-begin m₀ h = rw h (record { refusal = refl; memory = refl })
+
+pub can-start : (m₀ : Memory) (cs : List Call) → all ofBytes cs ≡ true → CanStart m₀ cs
+unfolding CanStart CanRun
+can-start m₀ cs w h = record { begun = encode start; started = can-begin m₀ h; calls = can-run start start-valid cs w }

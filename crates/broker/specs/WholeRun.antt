@@ -1,5 +1,5 @@
--- Demand 3 of the calls themselves: calls that meet their contracts (`Promise`), one after the other from the memory that start leaves, each
--- with the memory as the last one left it. Assumes nothing.
+-- Demand 3 of the calls themselves: calls that meet their contracts (`Promise`), one after the other, each with the memory as the last one
+-- left it, from the memory of any valid state and so from what start leaves. Assumes nothing.
 use Prim.Native.Nat.{ℕ}
 use mathlib.Core.Path.{_≡_}
 use mathlib.Core.Bool.{true}
@@ -44,13 +44,6 @@ pub data Chain : Memory → List Call → Memory → List Return → Type 0 wher
   none : {m : Memory} → Chain m [] m []
   link : {m m₁ m′ : Memory} {c : Call} {cs : List Call} {r : Return} {rs : List Return} → Link m c m₁ r → Chain m₁ cs m′ rs → Chain m (c ∷ cs) m′ (r ∷ rs)
 
--- a start that returned 0 (the contract of obriska_start), then the calls
-pub record Ran (cs : List Call) (m′ : Memory) (rs : List Return) : Type 0 where
-  pub before : Memory
-  pub begun : Memory
-  pub started : StartPromise before begun 0
-  pub calls : Chain begun cs m′ rs
-
 -- the memory after each call
 unfoldable pub memories : {m m′ : Memory} {cs : List Call} {rs : List Return} → Chain m cs m′ rs → List Memory
 memories none = []
@@ -92,21 +85,39 @@ pub record SameRun (m′ n′ : Memory) (rs qs : List Return) : Type 0 where
   pub answers : answersIn rs ≡ answersIn qs
   pub memory : m′ ≡ n′
 
-pub record WholeRun {cs : List Call} {m′ : Memory} {rs : List Return} (x : Ran cs m′ rs) : Type 0 where
+pub record WholeRun (σ : State) {m m′ : Memory} {cs : List Call} {rs : List Return} (x : Chain m cs m′ rs) : Type 0 where
+  -- the calls began with what stands for σ
+  pub begins : m ≡ encode σ
   -- 'after the list the memory holds what the plain desk holds', and so after each call of it
-  pub memory : m′ ≡ encode (Run.after cs start)
-  pub along : memories (x .calls) ≡ map encode (states cs start)
+  pub memory : m′ ≡ encode (Run.after cs σ)
+  pub along : memories x ≡ map encode (states cs σ)
   -- 'each call has returned and answered what the plain desk does'
-  pub returns : rs ≡ returnsOf cs start
+  pub returns : rs ≡ returnsOf cs σ
   -- 'bytes after the answer stay'
-  pub rest : AllStay (x .calls)
+  pub rest : AllStay x
   -- '13 never comes'
   pub never13 : (r : Return) → Mem r rs → r .refusal ≡ invalidMemory → ⊥
   -- 'two lists alike in the order of reconnects and used bytes, with their stations, give the same answers and the same memory'
-  pub alike : {ds : List Call} {n′ : Memory} {qs : List Return} → all ofBytes ds ≡ true → Ran ds n′ qs → eventsIn ds qs ≡ eventsIn cs rs → SameRun n′ m′ qs rs
+  pub alike : {n n′ : Memory} {ds : List Call} {qs : List Return} → n ≡ encode σ → all ofBytes ds ≡ true → Chain n ds n′ qs → eventsIn ds qs ≡ eventsIn cs rs
+      → SameRun n′ m′ qs rs
   -- the order of serving, cutting, growth, and that answers fit
-  pub throughout : Throughout cs
+  pub throughout : Throughout σ cs
 
--- the contracts leave each list a run, from any memory of the right sizes: the claim is of something
-unfoldable pub CanRun : List Call → Type 0
-CanRun cs = (before : Memory) → sized before ≡ true → Ran cs (encode (Run.after cs start)) (returnsOf cs start)
+-- the contracts leave each list a run: the claim is of something
+unfoldable pub CanRun : State → List Call → Type 0
+CanRun σ cs = Chain (encode σ) cs (encode (Run.after cs σ)) (returnsOf cs σ)
+
+-- ---- 'from the desk's start': a start on the memory m₀ that returned 0 (the contract of obriska_start), then calls
+
+pub record FromStart (m₀ : Memory) (cs : List Call) (m′ : Memory) (rs : List Return) : Type 0 where
+  pub begun : Memory
+  pub started : StartPromise m₀ begun 0
+  pub calls : Chain begun cs m′ rs
+
+-- the claim of every such run: it is one from the state `start`
+unfoldable pub WholeStart : {m₀ m′ : Memory} {cs : List Call} {rs : List Return} → FromStart m₀ cs m′ rs → Type 0
+WholeStart x = WholeRun start (x .calls)
+
+-- and each list has one, from any memory of the right sizes
+unfoldable pub CanStart : Memory → List Call → Type 0
+CanStart m₀ cs = sized m₀ ≡ true → FromStart m₀ cs (encode (Run.after cs start)) (returnsOf cs start)

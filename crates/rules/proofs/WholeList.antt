@@ -11,15 +11,15 @@ use Rattle.rules.specs.State.{State, start, stationCount}
 use Rattle.rules.specs.Frame.{maxAnswer}
 use Rattle.rules.specs.Model.{Result, Step, silent, answers, step, refused, fedOn, fedFrom, feed, reconnect}
 use Rattle.rules.specs.Valid as Valid
-use Rattle.rules.specs.Memory.{Memory, sized, encode, decode, valid}
+use Rattle.rules.specs.Memory.{encode, decode, valid}
 use Rattle.rules.specs.Run.{Call, feeds, reconnects, returned, after, ofBytes}
 use Rattle.rules.specs.Growth.{Mem, here, there}
 use Rattle.rules.specs.Calls.{Done, refusedOn, written, startOn, feedOn, reconnectOn}
-use Rattle.rules.specs.WholeList.{Return, doneBy, memoryAfter, returnsOn, returnsOf, WholeList}
+use Rattle.rules.specs.WholeList.{Return, doneBy, memoryAfter, returnsOn, returnsOf, WholeList, AfterStart}
 use Rattle.rules.proofs.Logic.{and-l, and-r, and-i, mem-none}
 use Rattle.rules.proofs.Tables.{on-if}
-use Rattle.rules.proofs.Facts.{StateFacts, facts-valid}
-use Rattle.rules.proofs.Always.{run-step, start-facts}
+use Rattle.rules.proofs.Facts.{StateFacts, valid-facts, facts-valid}
+use Rattle.rules.proofs.Always.{start-valid, run-step}
 use Rattle.rules.proofs.Runs.{cutting}
 use Rattle.rules.proofs.Memory.{read-back, written-valid}
 use Rattle.rules.proofs.Throughout.{throughout}
@@ -101,20 +101,19 @@ not13 [] σ r m q = mem-none m
 not13 (c ∷ cs) σ r (here e) q = call-returns σ c (sym (ap (λ (x : Return). x .refusal) e) ∙ q)
 not13 (c ∷ cs) σ r (there m) q = not13 cs (returned σ c .after) r m q
 
--- start overwrites any memory of the right size
-from-start : (m : Memory) → sized m ≡ true → startOn m .memory ≡ encode start
-unfolding startOn
-from-start m h = rw h
-
--- every list of calls, of bytes
-pub whole-list : (cs : List Call) → all ofBytes cs ≡ true → WholeList cs
-whole-list cs w =
-    let mine = memory-is cs start w start-facts in
+-- every list of calls, of bytes, from every valid state
+pub whole-list : (σ : State) → Valid.valid σ ≡ true → (cs : List Call) → all ofBytes cs ≡ true → WholeList σ cs
+whole-list σ v cs w =
+    let f = valid-facts σ v in
+    let mine = memory-is cs σ w f in
     record {
-      fromStart = from-start;
       memory = mine;
-      returns = returns-are cs start w start-facts;
-      never13 = λ r m. not13 cs start r (subst (Mem r) (returns-are cs start w start-facts) m);
-      sameMemory = λ ds v e. memory-is ds start v start-facts ∙ ap encode (cutting ds cs start e .end) ∙ sym mine;
-      throughout = throughout cs w;
+      returns = returns-are cs σ w f;
+      never13 = λ r m. not13 cs σ r (subst (Mem r) (returns-are cs σ w f) m);
+      sameMemory = λ ds x e. memory-is ds σ x f ∙ ap encode (cutting ds cs σ e .end) ∙ sym mine;
+      throughout = throughout σ v cs w;
     }
+
+pub after-start : (cs : List Call) → all ofBytes cs ≡ true → AfterStart cs
+unfolding startOn
+after-start cs w = record { begun = λ m h. rw h; whole = whole-list start start-valid cs w }

@@ -1,4 +1,4 @@
--- What holds of every feed and reconnect on any memory, and not only on memory that calls from the start reach. Assumes nothing.
+-- What holds of every feed and reconnect on any memory, valid or not. Assumes nothing.
 use Prim.Native.Nat.{ℕ, _≤_}
 use mathlib.Core.Path.{_≡_}
 use mathlib.Core.Bool.{true}

@@ -92,7 +92,7 @@ unfoldable pub notedAt : ℕ → ℕ → List ℕ → List Timed → List Timed
 notedAt n s [] rest = rest
 notedAt n s (b ∷ bytes) rest = record { event = n; station = s; answer = b ∷ bytes } ∷ rest
 
--- of calls, n events after the start: a call's answer comes with its last event
+-- of calls, after n events: a call's answer comes with its last event
 unfoldable pub timed : ℕ → List Call → State → List Timed
 timed n [] σ = []
 timed n (c ∷ cs) σ =
@@ -155,7 +155,7 @@ unfoldable pub answeredAt : ℕ → Outcome → Timed
 answeredAt n (serves x) = record { event = n; station = x .station; answer = answerTo (serves x) }
 answeredAt n (breaks s) = record { event = n; station = s; answer = answerTo (breaks s) }
 
--- each answered at its last byte, n events after the start
+-- each answered at its last byte, after n events
 unfoldable pub answeredFrom : ℕ → List Event → State → List Timed
 answeredFrom n [] σ = []
 answeredFrom n (e ∷ es) σ = map (answeredAt (n + 1)) (outcomeAt σ e) ++ answeredFrom (n + 1) es (stateOf (happens σ e))

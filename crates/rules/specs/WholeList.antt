@@ -1,4 +1,4 @@
--- Demand 3, over lent memory: every list of feeds and reconnects, refused ones included, from the start's memory. Assumes nothing.
+-- Demand 3, over lent memory: every list of feeds and reconnects, refused ones included, from the memory of any valid state. Assumes nothing.
 use Prim.Native.Nat.{ℕ}
 use mathlib.Core.Path.{_≡_}
 use mathlib.Core.List.{List, [], _∷_}
@@ -42,16 +42,19 @@ returnsOf (c ∷ cs) σ =
     let r = returned σ c in record { refusal = r .refusal; used = r .used; answer = r .answer } ∷ returnsOf cs (r .after)
 
 -- cs is any list, so this holds after every call of a list: each prefix is a list
-pub record WholeList (cs : List Call) : Type 0 where
-  -- 'from the desk's start': start on any memory of the right size gives the memory that these lists begin with
-  pub fromStart : (m : Memory) → sized m ≡ true → startOn m .memory ≡ encode start
+pub record WholeList (σ : State) (cs : List Call) : Type 0 where
   -- 'after the list the memory holds what the plain desk holds'
-  pub memory : memoryAfter cs (encode start) ≡ encode (Run.after cs start)
+  pub memory : memoryAfter cs (encode σ) ≡ encode (Run.after cs σ)
   -- 'each call has returned and answered what the plain desk does'
-  pub returns : returnsOn cs (encode start) ≡ returnsOf cs start
+  pub returns : returnsOn cs (encode σ) ≡ returnsOf cs σ
   -- '13 never comes'
-  pub never13 : (r : Return) → Mem r (returnsOn cs (encode start)) → r .refusal ≡ invalidMemory → ⊥
+  pub never13 : (r : Return) → Mem r (returnsOn cs (encode σ)) → r .refusal ≡ invalidMemory → ⊥
   -- 'two lists alike in the order of reconnects and used bytes, with their stations, give the same memory'; the same answers: `alike` below
-  pub sameMemory : (ds : List Call) → all ofBytes ds ≡ true → events ds start ≡ events cs start → memoryAfter ds (encode start) ≡ memoryAfter cs (encode start)
+  pub sameMemory : (ds : List Call) → all ofBytes ds ≡ true → events ds σ ≡ events cs σ → memoryAfter ds (encode σ) ≡ memoryAfter cs (encode σ)
   -- the order of serving, cutting, growth, and that answers fit
-  pub throughout : Throughout cs
+  pub throughout : Throughout σ cs
+
+-- 'from the desk's start': start on any memory of the right size leaves the memory of such a state
+pub record AfterStart (cs : List Call) : Type 0 where
+  pub begun : (m : Memory) → sized m ≡ true → startOn m .memory ≡ encode start
+  pub whole : WholeList start cs
