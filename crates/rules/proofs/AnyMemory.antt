@@ -10,7 +10,7 @@ use lib.ListN.{length}
 use Rattle.table.specs.Table.{flat}
 use Rattle.table.specs.Column.{column}
 use Rattle.rules.specs.Basic.{changeAt}
-use Rattle.rules.specs.Refusal.{streamBroken, noStation, shortBuffer, invalidMemory}
+use Rattle.rules.specs.Refusal.{ranks, streamBroken, noStation, shortBuffer, invalidMemory}
 use Rattle.rules.specs.Table.{Table}
 use Rattle.rules.specs.Token.{Token}
 use Rattle.rules.specs.Handle.{Handle}
@@ -51,16 +51,16 @@ pending-gone p s bytes = ap (λ xs. withStations xs p) (changed-twice s cleared 
 -- an answer, or none; without a status 0 it left all but the streams as in c
 record Ends (c : State) (a : List ℕ) (q : State) : Type 0 where
   isAnswer : (a ≡ []) ⊎ IsAnswer a
-  status : (n : ℕ) → Mem n (statuses a) → n ≤ streamBroken
+  status : (n : ℕ) → Mem n (statuses a) → Mem n (streamBroken ∷ 0 ∷ ranks)
   rights : (Mem 0 (statuses a) → ⊥) → SameRights c q
 
 -- of an answer whose one status is k
-one-status : {c q : State} {a : List ℕ} {k : ℕ} → IsAnswer a → statuses a ≡ k ∷ [] → k ≤ streamBroken → ((k ≡ 0 → ⊥) → SameRights c q) → Ends c a q
-one-status {k = k} i e l h = record { isAnswer = inr i; status = λ n m. only n (subst (Mem n) e m); rights = λ z. h (λ t. z (subst (Mem 0) (sym e) (here (sym t)))) }
+one-status : {c q : State} {a : List ℕ} {k : ℕ} → IsAnswer a → statuses a ≡ k ∷ [] → Mem k (streamBroken ∷ 0 ∷ ranks) → ((k ≡ 0 → ⊥) → SameRights c q) → Ends c a q
+one-status {k = k} i e l h = record { isAnswer = inr i; status = λ n m. only (subst (Mem n) e m); rights = λ z. h (λ t. z (subst (Mem 0) (sym e) (here (sym t)))) }
   where
-    only : (n : ℕ) → Mem n (k ∷ []) → n ≤ streamBroken
-    only n (here t) = omega arith
-    only n (there m) = absurd (mem-none m)
+    only : {n : ℕ} → Mem n (k ∷ []) → Mem n (streamBroken ∷ 0 ∷ ranks)
+    only (here t) = rw t l
+    only (there m) = absurd (mem-none m)
 
 no-status : {c q : State} → SameRights c q → Ends c [] q
 unfolding statuses statusesIn framed framedBy lengthOf
@@ -78,14 +78,13 @@ module _ (s : ℕ) (c : State) (f : StateFacts c) where
   serves : (p : State) (body : List ℕ) → p ≡ c → Ends c (frame (serve p s body .answer)) (serve p s body .state)
   serves p body e =
       let g = subst StateFacts (sym e) f in
-      let low = served-status p s body in
-      one-status (serve-answers p s body g) (serve-status p s body g) (omega arith)
+      one-status (serve-answers p s body g) (serve-status p s body g) (there (served-status p s body))
       (λ z. subst (SameRights c) (sym (ladder p s body .unchanged z ∙ e)) (rights-refl c))
 
   joined-next : (p : State) (bytes : List ℕ) (x : Framed) → changeStation s cleared p ≡ c → Next (joined p s bytes x)
   unfolding joined Next
   joined-next p bytes part e = pending-gone p s bytes ∙ e
-  joined-next p bytes broken e = one-status break-answers break-status (omega arith) (λ z. rights-trans (as-cleared p e) (broken-rights p s))
+  joined-next p bytes broken e = one-status break-answers break-status (here refl) (λ z. rights-trans (as-cleared p e) (broken-rights p s))
   joined-next p bytes (whole body) e = serves (changeStation s cleared p) body e
 
   step-next : (p : State) (b : ℕ) → changeStation s cleared p ≡ c → Next (step p s b)
@@ -134,7 +133,7 @@ rights-left {p} {q} h =
 -- what a call did: a refusal did nothing
 record Did (m : Memory) (d : Done) : Type 0 where
   isAnswer : (d .answer ≡ []) ⊎ IsAnswer (d .answer)
-  status : (n : ℕ) → Mem n (statuses (d .answer)) → n ≤ streamBroken
+  status : (n : ℕ) → Mem n (statuses (d .answer)) → Mem n (streamBroken ∷ 0 ∷ ranks)
   leftAlone : (Mem 0 (statuses (d .answer)) → ⊥) → LeftAlone m (d .memory)
   listed : Mem (d .refusal) (0 ∷ noStation ∷ shortBuffer ∷ invalidMemory ∷ [])
   refused : (d .refusal ≡ 0 → ⊥) → d ≡ refusedOn (d .refusal) m
