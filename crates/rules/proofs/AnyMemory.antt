@@ -134,7 +134,7 @@ rights-left {p} {q} h =
 record Did (m : Memory) (d : Done) : Type 0 where
   isAnswer : (d .answer ≡ []) ⊎ IsAnswer (d .answer)
   status : (n : ℕ) → Mem n (statuses (d .answer)) → Mem n (streamBroken ∷ 0 ∷ ranks)
-  leftAlone : (Mem 0 (statuses (d .answer)) → ⊥) → LeftAlone m (d .memory)
+  leftAlone : (Mem 0 (statuses (d .answer)) → ⊥) → LeftAlone m (d .after)
   listed : Mem (d .refusal) (0 ∷ noStation ∷ shortBuffer ∷ invalidMemory ∷ [])
   refused : (d .refusal ≡ 0 → ⊥) → d ≡ refusedOn (d .refusal) m
 
@@ -188,13 +188,13 @@ module _ (m : Memory) where
   did (feeds s chunk room) = feeding s chunk room
   did (reconnects s) = reconnecting s
 
-  stays-valid : (c : Call) → valid m ≡ true → ofBytes c ≡ true → valid (doneBy m c .memory) ≡ true
+  stays-valid : (c : Call) → valid m ≡ true → ofBytes c ≡ true → valid (doneBy m c .after) ≡ true
   unfolding written
   stays-valid c v w =
       let p = decode m in
       let ok = valid-state m v in
       let e : doneBy m c ≡ written (returned p c) = ap (λ x. doneBy x c) (sym (valid-written m v)) ∙ call-done p ok c in
-      ap (λ (d : Done). valid (d .memory)) e ∙ written-valid (returned p c .after) (facts-valid _ (call-valid p c w (valid-facts p ok)))
+      ap (λ (d : Done). valid (d .after)) e ∙ written-valid (returned p c .after) (facts-valid _ (call-valid p c w (valid-facts p ok)))
 
 short : (a : List ℕ) → (a ≡ []) ⊎ IsAnswer a → length a ≤ maxAnswer
 short a h = ⊎-elim (λ e. rw e (omega arith)) (λ k. k .fits) h

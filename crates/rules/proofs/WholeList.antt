@@ -3,7 +3,7 @@ use Prim.Native.Nat.{ℕ, _+_}
 use native.Mathlib.Omega.{arith}
 use mathlib.Core.Path.{_≡_, refl, sym, ap, _∙_, subst}
 use mathlib.Core.Bool.{Bool, true, false}
-use mathlib.Core.List.{List, [], _∷_}
+use mathlib.Core.List.{List, [], _∷_, map}
 use lib.Dec.{leb, ltb}
 use Rattle.rules.specs.Basic.{if_then_else_, all}
 use Rattle.rules.specs.Refusal.{noStation, shortBuffer, invalidMemory}
@@ -15,7 +15,7 @@ use Rattle.rules.specs.Memory.{encode, decode, valid}
 use Rattle.rules.specs.Run.{Call, feeds, reconnects, returned, after, ofBytes}
 use Rattle.rules.specs.Growth.{Mem, here, there}
 use Rattle.rules.specs.Calls.{Done, refusedOn, written, startOn, feedOn, reconnectOn}
-use Rattle.rules.specs.WholeList.{Return, doneBy, memoryAfter, returnsOn, returnsOf, WholeList, AfterStart}
+use Rattle.rules.specs.WholeList.{doneBy, memoryAfter, returnsOn, returnsOf, WholeList, AfterStart}
 use Rattle.rules.proofs.Logic.{and-l, and-r, and-i, mem-none}
 use Rattle.rules.proofs.Tables.{on-if}
 use Rattle.rules.proofs.Facts.{StateFacts, valid-facts, facts-valid}
@@ -63,17 +63,16 @@ memory-is : (cs : List Call) (σ : State) → all ofBytes cs ≡ true → StateF
 unfolding memoryAfter after all written
 memory-is [] σ w f = refl
 memory-is (c ∷ cs) σ w f =
-    ap (λ (d : Done). memoryAfter cs (d .memory)) (call-done σ (facts-valid σ f) c)
+    ap (λ (d : Done). memoryAfter cs (d .after)) (call-done σ (facts-valid σ f) c)
     ∙ memory-is cs (returned σ c .after) (and-r (ofBytes c) (all ofBytes cs) w) (call-valid σ c (and-l (ofBytes c) (all ofBytes cs) w) f)
 
-returns-are : (cs : List Call) (σ : State) → all ofBytes cs ≡ true → StateFacts σ → returnsOn cs (encode σ) ≡ returnsOf cs σ
+returns-are : (cs : List Call) (σ : State) → all ofBytes cs ≡ true → StateFacts σ → returnsOn cs (encode σ) ≡ map written (returnsOf cs σ)
 unfolding returnsOn returnsOf all written
 returns-are [] σ w f = refl
 returns-are (c ∷ cs) σ w f =
     let r = returned σ c in
-    ap (λ (d : Done). record { refusal = d .refusal; used = d .used; answer = d .answer } ∷ returnsOn cs (d .memory)) (call-done σ (facts-valid σ f) c)
-    ∙ ap (λ rs. record { refusal = r .refusal; used = r .used; answer = r .answer } ∷ rs)
-    (returns-are cs (r .after) (and-r (ofBytes c) (all ofBytes cs) w) (call-valid σ c (and-l (ofBytes c) (all ofBytes cs) w) f))
+    ap (λ (d : Done). d ∷ returnsOn cs (d .after)) (call-done σ (facts-valid σ f) c)
+    ∙ ap (λ ds. written r ∷ ds) (returns-are cs (r .after) (and-r (ofBytes c) (all ofBytes cs) w) (call-valid σ c (and-l (ofBytes c) (all ofBytes cs) w) f))
 
 -- ---- no call of the model is refused by 13
 
@@ -95,11 +94,11 @@ call-returns σ (feeds s chunk room) =
     on-if Returns (leb stationCount s) _ _ (λ t e. omega arith) (λ t. on-if Returns (ltb room maxAnswer) _ _ (λ u e. omega arith) (λ u e. let z = fed-taken chunk 0 s σ in omega arith))
 call-returns σ (reconnects s) = on-if Returns (leb stationCount s) _ _ (λ t e. omega arith) (λ t e. omega arith)
 
-not13 : (cs : List Call) (σ : State) (r : Return) → Mem r (returnsOf cs σ) → r .refusal ≡ invalidMemory → ⊥
-unfolding returnsOf Returns
-not13 [] σ r m q = mem-none m
-not13 (c ∷ cs) σ r (here e) q = call-returns σ c (sym (ap (λ (x : Return). x .refusal) e) ∙ q)
-not13 (c ∷ cs) σ r (there m) q = not13 cs (returned σ c .after) r m q
+not13 : (cs : List Call) (σ : State) (d : Done) → Mem d (map written (returnsOf cs σ)) → d .refusal ≡ invalidMemory → ⊥
+unfolding returnsOf Returns written
+not13 [] σ d m q = mem-none m
+not13 (c ∷ cs) σ d (here e) q = call-returns σ c (sym (ap (λ (x : Done). x .refusal) e) ∙ q)
+not13 (c ∷ cs) σ d (there m) q = not13 cs (returned σ c .after) d m q
 
 -- every list of calls, of bytes, from every valid state
 pub whole-list : (σ : State) → Valid.valid σ ≡ true → (cs : List Call) → all ofBytes cs ≡ true → WholeList σ cs

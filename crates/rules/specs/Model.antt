@@ -31,12 +31,15 @@ step σ s b = byteAt σ s (stationAt σ s) b
 
 -- ---- calls
 
--- what a call returns (its refusal, the bytes used, the answer) and the state after it
-pub record Result : Type 0 where
+-- what a call returns (its refusal, the bytes used, the answer), and what is there after it: a state of the model, or lent memory
+pub record Return (A : Type 0) : Type 0 where
   pub refusal : ℕ
   pub used : ℕ
   pub answer : List ℕ
-  pub after : State
+  pub after : A
+
+abbrev pub Result : Type 0
+Result = Return State
 
 unfoldable pub refused : ℕ → State → Result
 refused n σ = record { refusal = n; used = 0; answer = []; after = σ }
