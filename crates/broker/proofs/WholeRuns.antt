@@ -30,12 +30,12 @@ use Rattle.broker.specs.WholeRun.{FeedCall, ReconnectCall, Link, feed, r
 same-done : {d e : Done} → d .refusal ≡ e .refusal → d .used ≡ e .used → d .answer ≡ e .answer → d .after ≡ e .after → d ≡ e
 same-done n u a m = λ i. record { refusal = n i; used = u i; answer = a i; after = m i }
 
-module _ {m : Memory} {s : ℕ} {chunk : List ℕ} {room : ℕ} {r : Done} (f : FeedCall m s chunk room r) where
+module _ {m : Memory} {s : ℕ} {chunk : List ℕ} {bufferLength : ℕ} {r : Done} (f : FeedCall m s chunk bufferLength r) where
   said : r .answer ≡ feedOn m s chunk (length (f .out)) .answer
   unfolding buffer
   said = let p = f .promise in f .answer ∙ ap₂ take (p .answered) (p .answer) ∙ take-append-seam (feedOn m s chunk (length (f .out)) .answer) _
 
-  fed-as : r ≡ feedOn m s chunk room
+  fed-as : r ≡ feedOn m s chunk bufferLength
   fed-as =
       let p = f .promise in
       same-done (f .refusal ∙ p .refusal) (f .used ∙ p .used) said (p .memory) ∙ ap (feedOn m s chunk) (f .size)
@@ -72,20 +72,20 @@ link-rest (reconnect f) = tt
 -- the contracts leave a call something to do
 can-link : (m : Memory) (c : Call) → Link m c (doneBy m c)
 unfolding doneBy buffer Quiet
-can-link m (feeds s chunk room) =
-    let out : List ℕ = replicate room 0 in
+can-link m (feeds s chunk bufferLength) =
+    let out : List ℕ = replicate bufferLength 0 in
     let d = feedOn m s chunk (length out) in
-    let made : FeedCall m s chunk room d = record {
+    let made : FeedCall m s chunk bufferLength d = record {
       out = out;
       out′ = buffer (d .answer) out;
       fed = record { refusal = d .refusal; used = d .used; answered = length (d .answer) };
-      size = length-replicate room 0;
+      size = length-replicate bufferLength 0;
       promise = record { refusal = refl; used = refl; answered = refl; memory = refl; answer = refl };
       refusal = refl;
       used = refl;
       answer = sym (take-append-seam (d .answer) _);
     } in
-    feed (subst (λ (n : ℕ). FeedCall m s chunk room (feedOn m s chunk n)) (length-replicate room 0) made)
+    feed (subst (λ (n : ℕ). FeedCall m s chunk bufferLength (feedOn m s chunk n)) (length-replicate bufferLength 0) made)
 can-link m (reconnects s) = let q = reconnect-quiet m s in reconnect (record { promise = record { refusal = refl; memory = refl }; used = q .0; answer = q .1 })
 
 -- ---- a chain, from any memory
@@ -119,7 +119,7 @@ said-as (c ∷ cs) σ = ap (noted (returned σ c .answer)) (said-as cs (returned
 
 happened-as : (c : Call) (σ : State) → happened c (written (returned σ c)) ≡ eventsOf σ c
 unfolding happened eventsOf returned written Model.reconnect refused
-happened-as (feeds s chunk room) σ = refl
+happened-as (feeds s chunk bufferLength) σ = refl
 happened-as (reconnects s) σ = ⊎-elim (λ t. rw t) (λ t. rw t) (either (leb stationCount s))
 
 events-as : (cs : List Call) (σ : State) → eventsIn cs (map written (returnsOf cs σ)) ≡ events cs σ

@@ -21,12 +21,12 @@ use Rattle.broker.specs.Promise.{StartPromise, FeedPromise, ReconnectPro
 
 -- ---- one call on the memory m, with what it returned and left: the contract of obriska_feed or obriska_reconnect
 
-pub record FeedCall (m : Memory) (s : ℕ) (chunk : List ℕ) (room : ℕ) (r : Done) : Type 0 where
+pub record FeedCall (m : Memory) (s : ℕ) (chunk : List ℕ) (bufferLength : ℕ) (r : Done) : Type 0 where
   -- the answer buffer before and after
   pub out : List ℕ
   pub out′ : List ℕ
   pub fed : Fed
-  pub size : length out ≡ room
+  pub size : length out ≡ bufferLength
   pub promise : FeedPromise m s chunk out (r .after) out′ fed
   pub refusal : r .refusal ≡ fed .refusal
   pub used : r .used ≡ fed .used
@@ -38,7 +38,7 @@ pub record ReconnectCall (m : Memory) (s : ℕ) (r : Done) : Type 0 where
   pub answer : r .answer ≡ []
 
 pub data Link : Memory → Call → Done → Type 0 where
-  feed : {m : Memory} {s : ℕ} {chunk : List ℕ} {room : ℕ} {r : Done} → FeedCall m s chunk room r → Link m (feeds s chunk room) r
+  feed : {m : Memory} {s : ℕ} {chunk : List ℕ} {bufferLength : ℕ} {r : Done} → FeedCall m s chunk bufferLength r → Link m (feeds s chunk bufferLength) r
   reconnect : {m : Memory} {s : ℕ} {r : Done} → ReconnectCall m s r → Link m (reconnects s) r
 
 -- ---- calls one after the other, from the memory m to m′
@@ -63,7 +63,7 @@ answersIn (r ∷ rs) = noted (r .answer) (answersIn rs)
 
 -- what happened, as the calls returned it: the used bytes, and the reconnects that were not refused
 unfoldable pub happened : Call → Done → List Event
-happened (feeds s chunk room) r = map (byte s) (take (r .used) chunk)
+happened (feeds s chunk bufferLength) r = map (byte s) (take (r .used) chunk)
 happened (reconnects s) r = if eqb (r .refusal) 0 then reconnected s ∷ [] else []
 
 unfoldable pub eventsIn : List Call → List Done → List Event

@@ -3,7 +3,7 @@ use Prim.Native.Nat.{ℕ, suc, _+_, _*_, _-_, _≤_, _<_}
 use native.Mathlib.Omega.{arith}
 use mathlib.Core.Path.{_≡_, refl, sym, ap, _∙_, subst}
 use mathlib.Core.Bool.{true, _||_}
-use mathlib.Core.Logic.{_⊎_, ⊎-elim}
+use mathlib.Core.Logic.{⊎-elim}
 use mathlib.Core.List.{List, [], _∷_, _++_, map}
 use lib.Dec.{eqb, leb, ltb}
 use lib.ListN.{length, take}
@@ -139,11 +139,11 @@ used-bytes s chunk k in8 w e m =
 
 call-happens : (p : State) (c : Call) → ofBytes c ≡ true → (e : Event) → Mem e (eventsOf p c) → Happens e
 unfolding eventsOf ofBytes feed refused Happens
-call-happens p (feeds s chunk room) w =
+call-happens p (feeds s chunk bufferLength) w =
     let P : Result → Type 0 = λ r. (e : Event) → Mem e (map (byte s) (take (r .used) chunk)) → Happens e in
     let none : (e : Event) → Mem e [] → Happens e = λ e m. absurd (mem-none m) in
-    on-if P (leb stationCount s) (refused noStation p) (if ltb room maxAnswer then refused shortBuffer p else fedFrom 0 s chunk p) (λ t. none)
-    (λ t. on-if P (ltb room maxAnswer) (refused shortBuffer p) (fedFrom 0 s chunk p) (λ u. none) (λ u. used-bytes s chunk (fedFrom 0 s chunk p .used) (leb-false stationCount s t) w))
+    on-if P (leb stationCount s) (refused noStation p) (if ltb bufferLength maxAnswer then refused shortBuffer p else fedFrom 0 s chunk p) (λ t. none)
+    (λ t. on-if P (ltb bufferLength maxAnswer) (refused shortBuffer p) (fedFrom 0 s chunk p) (λ u. none) (λ u. used-bytes s chunk (fedFrom 0 s chunk p .used) (leb-false stationCount s t) w))
 call-happens p (reconnects s) w = on-if (λ es. (e : Event) → Mem e es → Happens e) (leb stationCount s) [] (reconnected s ∷ []) (λ t e m. absurd (mem-none m)) (λ t. rejoins)
   where
     rejoins : (e : Event) → Mem e (reconnected s ∷ []) → Happens e

@@ -168,11 +168,11 @@ module _ (m : Memory) where
   not-in-order : Did m (refusedOn invalidMemory m)
   not-in-order = refuses invalidMemory (there (there (there (here refl))))
 
-  feeding : (s : ℕ) (chunk : List ℕ) (room : ℕ) → Did m (feedOn m s chunk room)
+  feeding : (s : ℕ) (chunk : List ℕ) (bufferLength : ℕ) → Did m (feedOn m s chunk bufferLength)
   unfolding feedOn
-  feeding s chunk room =
+  feeding s chunk bufferLength =
       on-if (Did m) (leb stationCount s) _ _ (λ t. no-station)
-      (λ t. on-if (Did m) (ltb room maxAnswer) _ _ (λ u. refuses shortBuffer (there (there (here refl))))
+      (λ t. on-if (Did m) (ltb bufferLength maxAnswer) _ _ (λ u. refuses shortBuffer (there (there (here refl))))
       (λ u. on-if (Did m) (valid m) _ _
       (λ v. let p = decode m in takes (fedFrom 0 s chunk p) s v (fed-taken chunk 0 s p) (fed-ends s (changeStation s cleared p) (clears p s (valid-facts p (valid-state m v)) .facts) chunk 0 p refl))
       (λ v. not-in-order)))
@@ -185,7 +185,7 @@ module _ (m : Memory) where
 
   did : (c : Call) → Did m (doneBy m c)
   unfolding doneBy
-  did (feeds s chunk room) = feeding s chunk room
+  did (feeds s chunk bufferLength) = feeding s chunk bufferLength
   did (reconnects s) = reconnecting s
 
   stays-valid : (c : Call) → valid m ≡ true → ofBytes c ≡ true → valid (doneBy m c .after) ≡ true

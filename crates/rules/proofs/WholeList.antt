@@ -40,7 +40,7 @@ module _ (σ : State) (v : Valid.valid σ ≡ true) where
 
   pub call-done : (c : Call) → doneBy (encode σ) c ≡ written (returned σ c)
   unfolding doneBy returned feedOn feed reconnectOn
-  call-done (feeds s chunk room) = feeding (leb stationCount s) (ltb room maxAnswer)
+  call-done (feeds s chunk bufferLength) = feeding (leb stationCount s) (ltb bufferLength maxAnswer)
     where
       feeding : (a b : Bool) → (if a then refusedOn noStation (encode σ) else if b then refusedOn shortBuffer (encode σ) else if valid (encode σ) then written (fedFrom 0 s chunk (decode (encode σ))) else refusedOn invalidMemory (encode σ))
           ≡ written (if a then refused noStation σ else if b then refused shortBuffer σ else fedFrom 0 s chunk σ)
@@ -90,8 +90,8 @@ fed-taken (b ∷ bytes) n s σ = on-step (step σ s b) (fed-taken bytes (n + 1) 
 
 call-returns : (σ : State) (c : Call) → Returns (returned σ c)
 unfolding returned feed reconnect refused Returns
-call-returns σ (feeds s chunk room) =
-    on-if Returns (leb stationCount s) _ _ (λ t e. omega arith) (λ t. on-if Returns (ltb room maxAnswer) _ _ (λ u e. omega arith) (λ u e. let z = fed-taken chunk 0 s σ in omega arith))
+call-returns σ (feeds s chunk bufferLength) =
+    on-if Returns (leb stationCount s) _ _ (λ t e. omega arith) (λ t. on-if Returns (ltb bufferLength maxAnswer) _ _ (λ u e. omega arith) (λ u e. let z = fed-taken chunk 0 s σ in omega arith))
 call-returns σ (reconnects s) = on-if Returns (leb stationCount s) _ _ (λ t e. omega arith) (λ t e. omega arith)
 
 not13 : (cs : List Call) (σ : State) (d : Done) → Mem d (map written (returnsOf cs σ)) → d .refusal ≡ invalidMemory → ⊥

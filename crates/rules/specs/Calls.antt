@@ -26,9 +26,9 @@ startOn m = if sized m then record { refusal = 0; used = 0; answer = []; after =
 
 -- a station's chunk, and the length of the answer buffer: 11, 12, 13 in that order, then the model
 unfoldable pub feedOn : Memory → ℕ → List ℕ → ℕ → Done
-feedOn m s chunk room =
+feedOn m s chunk bufferLength =
     if leb stationCount s then refusedOn noStation m else
-    if ltb room maxAnswer then refusedOn shortBuffer m else
+    if ltb bufferLength maxAnswer then refusedOn shortBuffer m else
     if valid m then written (fedFrom 0 s chunk (decode m)) else
     refusedOn invalidMemory m
 

@@ -56,9 +56,9 @@ fedFrom n s (b ∷ bytes) σ = fedOn (n + 1) (λ τ. fedFrom (n + 1) s bytes τ)
 
 -- a chunk (document 01's 'piece') from a station, and the length of the answer buffer
 unfoldable pub feed : State → ℕ → List ℕ → ℕ → Result
-feed σ s chunk room =
+feed σ s chunk bufferLength =
     if leb stationCount s then refused noStation σ else
-    if ltb room maxAnswer then refused shortBuffer σ else
+    if ltb bufferLength maxAnswer then refused shortBuffer σ else
     fedFrom 0 s chunk σ
 
 -- the part request and the break are dropped, nothing else

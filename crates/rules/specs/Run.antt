@@ -20,7 +20,7 @@ pub data Call : Type 0 where
   reconnects : ℕ → Call
 
 unfoldable pub returned : State → Call → Result
-returned σ (feeds s chunk room) = feed σ s chunk room
+returned σ (feeds s chunk bufferLength) = feed σ s chunk bufferLength
 returned σ (reconnects s) = reconnect σ s
 
 -- the state after a list of calls
@@ -39,7 +39,7 @@ answered (c ∷ cs) σ = noted (returned σ c .answer) (answered cs (returned σ
 
 -- a chunk is of bytes
 unfoldable pub ofBytes : Call → Bool
-ofBytes (feeds s chunk room) = all isByte chunk
+ofBytes (feeds s chunk bufferLength) = all isByte chunk
 ofBytes (reconnects s) = true
 
 -- ---- events: used bytes, and reconnects that are not refused
@@ -49,7 +49,7 @@ pub data Event : Type 0 where
   reconnected : ℕ → Event
 
 unfoldable pub eventsOf : State → Call → List Event
-eventsOf σ (feeds s chunk room) = map (byte s) (take (feed σ s chunk room .used) chunk)
+eventsOf σ (feeds s chunk bufferLength) = map (byte s) (take (feed σ s chunk bufferLength .used) chunk)
 eventsOf σ (reconnects s) = if leb stationCount s then [] else reconnected s ∷ []
 
 unfoldable pub events : List Call → State → List Event
@@ -85,7 +85,7 @@ pub record Timed : Type 0 where
   pub answer : List ℕ
 
 unfoldable pub stationOf : Call → ℕ
-stationOf (feeds s chunk room) = s
+stationOf (feeds s chunk bufferLength) = s
 stationOf (reconnects s) = s
 
 unfoldable pub notedAt : ℕ → ℕ → List ℕ → List Timed → List Timed
@@ -114,10 +114,10 @@ timedTo n (e ∷ es) σ = toldAt (n + 1) (placeOf e) (happens σ e) (timedTo (n 
 -- ---- a chunk fed until it is used up, in at most k feeds
 
 unfoldable pub untilUsed : ℕ → State → ℕ → List ℕ → ℕ → List Call
-untilUsed zero σ s chunk room = []
-untilUsed (suc k) σ s [] room = []
-untilUsed (suc k) σ s (b ∷ chunk) room =
-    let r = feed σ s (b ∷ chunk) room in feeds s (b ∷ chunk) room ∷ untilUsed k (r .after) s (drop (r .used) (b ∷ chunk)) room
+untilUsed zero σ s chunk bufferLength = []
+untilUsed (suc k) σ s [] bufferLength = []
+untilUsed (suc k) σ s (b ∷ chunk) bufferLength =
+    let r = feed σ s (b ∷ chunk) bufferLength in feeds s (b ∷ chunk) bufferLength ∷ untilUsed k (r .after) s (drop (r .used) (b ∷ chunk)) bufferLength
 
 -- ---- what the streams' bytes come to, in the order of the last byte of each: a whole body, with the state that it is served on, or a break
 

@@ -44,14 +44,14 @@ pub record Throughout (σ : State) (cs : List Call) : Type 0 where
   -- 'two lists alike in the order of reconnects and used bytes, with their stations, give the same answers and the same memory'
   pub alike : (ds : List Call) → events ds σ ≡ events cs σ → Same ds cs σ
   -- 'a piece that is fed until used up': all its bytes are used, and nothing else happens
-  pub usedUp : (s : ℕ) (a : List ℕ) (room : ℕ) → s < stationCount → maxAnswer ≤ room
+  pub usedUp : (s : ℕ) (a : List ℕ) (bufferLength : ℕ) → s < stationCount → maxAnswer ≤ bufferLength
       → let τ = after cs σ in
-      events (untilUsed (length a) τ s a room) τ ≡ map (byte s) a
+      events (untilUsed (length a) τ s a bufferLength) τ ≡ map (byte s) a
   -- 'cutting a piece that is fed until used up changes nothing'
-  pub cutting : (s : ℕ) (a b : List ℕ) (room : ℕ) → s < stationCount → maxAnswer ≤ room
+  pub cutting : (s : ℕ) (a b : List ℕ) (bufferLength : ℕ) → s < stationCount → maxAnswer ≤ bufferLength
       → let τ = after cs σ in
-      let first = untilUsed (length a) τ s a room in
-      Same (untilUsed (length (a ++ b)) τ s (a ++ b) room) (first ++ untilUsed (length b) (after first τ) s b room) τ
+      let first = untilUsed (length a) τ s a bufferLength in
+      Same (untilUsed (length (a ++ b)) τ s (a ++ b) bufferLength) (first ++ untilUsed (length b) (after first τ) s b bufferLength) τ
   -- 13 never comes: memory is in order
   pub order : valid (after cs σ) ≡ true
   -- 'a token's present privileges never grow, used marks and deny-only marks (a group's or the user's) stay': of a token that is live

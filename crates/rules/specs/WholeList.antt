@@ -16,7 +16,7 @@ use Rattle.rules.specs.Throughout.{Throughout}
 -- ---- the calls over memory: each gets the memory as the last one left it
 
 unfoldable pub doneBy : Memory → Call → Done
-doneBy m (feeds s chunk room) = feedOn m s chunk room
+doneBy m (feeds s chunk bufferLength) = feedOn m s chunk bufferLength
 doneBy m (reconnects s) = reconnectOn m s
 
 unfoldable pub memoryAfter : List Call → Memory → Memory
