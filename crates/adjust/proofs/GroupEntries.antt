@@ -16,11 +16,11 @@ use Rattle.rules.specs.Basic.{if_then_else_, all, changeAt}
 use Rattle.rules.specs.Bits.{has}
 use Rattle.rules.specs.Number.{got, max32}
 use Rattle.rules.specs.Entry.{Entry, validEntries, applyAll}
-use Rattle.rules.specs.Group.{Group, noGroup, isDenyOnly, isOnByDefault, isFixed, switched}
+use Rattle.rules.specs.Group.{Group, noGroup, isDenyOnly, isEnabledByDefault, isFixed, withEnabled}
 use Rattle.rules.specs.Token.{maxGroups}
 use Rattle.rules.specs.Memory.{word32, pack, unpack}
 use Rattle.rules.specs.AdjustPrivileges.{named}
-use Rattle.rules.specs.AdjustGroups.{isReset, validEntry, maySwitch, applied, resetGroup, adjusted, onBits}
+use Rattle.rules.specs.AdjustGroups.{isReset, validEntry, maySwitch, applied, resetGroup, adjusted, enabledBits}
 use Rattle.rules.specs.Request.{times, entry}
 use Rattle.rules.proofs.Logic.{and-l, and-r, length-changeAt}
 use Rattle.token.specs.declared.Group as Code
@@ -53,9 +53,9 @@ module _ (g : Group) (d : Bool) (ed : d ≡ isDenyOnly g) where
   unfolding resetGroup
   reset-denied h = rw (sym ed ∙ h)
 
-  pub reset-other : d ≡ false → (b : Bool) (r : Group) → b ≡ isOnByDefault g → r ≡ switched b g → r ≡ resetGroup g
+  pub reset-other : d ≡ false → (b : Bool) (r : Group) → b ≡ isEnabledByDefault g → r ≡ withEnabled b g → r ≡ resetGroup g
   unfolding resetGroup
-  reset-other h b r eb er = er ∙ ap (λ (x : Bool). switched x g) eb ∙ rw (sym ed ∙ h)
+  reset-other h b r eb er = er ∙ ap (λ (x : Bool). withEnabled x g) eb ∙ rw (sym ed ∙ h)
 
 -- ---- its word
 
@@ -87,8 +87,8 @@ module _ (f : Group → Group) (keeps : (g : Group) → f g .sid ≡ g .sid) whe
   word-changed zero (w ∷ gw) = ap (λ (g : Group). g ∷ groupsIn gw) (changed-word w)
   word-changed (suc k) (w ∷ gw) = ap (λ (gs : List Group). unpack w ∷ gs) (word-changed k gw)
 
-switched-sid : (b : Bool) (g : Group) → switched b g .sid ≡ g .sid
-unfolding switched
+switched-sid : (b : Bool) (g : Group) → withEnabled b g .sid ≡ g .sid
+unfolding withEnabled
 switched-sid true g = refl
 switched-sid false g = refl
 
@@ -140,13 +140,13 @@ module _ (gw : List ℕ) where
 -- ---- the entries, made
 
 abbrev step : Entry → List ℕ → List ℕ
-step e gw = changeAt (e .key) (onWord (switched (eqb (e .value) 1))) gw
+step e gw = changeAt (e .key) (onWord (withEnabled (eqb (e .value) 1))) gw
 
 all-made : (es : List Entry) (gw : List ℕ) → foldAll step es gw ≡ map pack (applyAll applied es (groupsIn gw))
 unfolding foldAll applyAll applied
 all-made [] gw = same-words gw
 all-made (e ∷ es) gw =
-    let f = switched (eqb (e .value) 1) in
+    let f = withEnabled (eqb (e .value) 1) in
     all-made es (step e gw) ∙ ap (λ (gs : List Group). map pack (applyAll applied es gs)) (word-changed f (switched-sid (eqb (e .value) 1)) (e .key) gw)
 
 -- what is left gives what the whole gives
@@ -170,9 +170,9 @@ module _ {s : List ℕ} {start count : ℕ} {gw₀ gw : List ℕ} {at left : ℕ
     pub making-lost : r ≡ pair.Bad → EntriesMade count (drop start s) gw₀ gw
     making-lost g = ended (fold-lost entry step gw s at left gw _ (m .rest gw) h (is-none s at r f g))
 
-    pub making-more : (k v q : ℕ) → r ≡ pair.Got k v q → {gw′ : List ℕ} → gw′ ≡ changeAt k (onWord (switched (eqb v 1))) gw → Making s start count gw₀ gw′ q (left - 1)
+    pub making-more : (k v q : ℕ) → r ≡ pair.Got k v q → {gw′ : List ℕ} → gw′ ≡ changeAt k (onWord (withEnabled (eqb v 1))) gw → Making s start count gw₀ gw′ q (left - 1)
     making-more k v q g {gw′} e = record {
-      long = ap length e ∙ length-changeAt gw k (onWord (switched (eqb v 1))) ∙ m .long;
+      long = ap length e ∙ length-changeAt gw k (onWord (withEnabled (eqb v 1))) ∙ m .long;
       rest = λ stop. fold-next entry step stop s at left gw _ (m .rest stop) h (entryOf k v) q (is-pair s at r f k v q g) gw′ e;
     }
 
@@ -194,7 +194,7 @@ module _ {A : Type 0} (bad protected done : A) where
   verdict-if false f w = refl
 
 -- j says that the entries are a reset
-module _ (user n : ℕ) (bytes gw : List ℕ) (j : Bool) (h : j ≡ isJust max32 0 (times n entry bytes)) (p : ℕ) (ep : p ≡ onBits (groupsIn gw)) where
+module _ (user n : ℕ) (bytes gw : List ℕ) (j : Bool) (h : j ≡ isJust max32 0 (times n entry bytes)) (p : ℕ) (ep : p ≡ enabledBits (groupsIn gw)) where
   reset-or-not : (es : List Entry) (later : List ℕ) → times n entry bytes ≡ got es later → isReset es ≡ j
   unfolding isJust isReset
   reset-or-not es later e = sym (h ∙ ap (isJust max32 0) e)

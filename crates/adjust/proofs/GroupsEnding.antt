@@ -17,7 +17,7 @@ use Rattle.rules.specs.Token.{Token, maxGroups, withGroups, nextModified}
 use Rattle.rules.specs.Valid.{tokenValid}
 use Rattle.rules.specs.State.{State, putToken, changeToken}
 use Rattle.rules.specs.Memory.{headWords, low32, pack, tokenRow, tokenAt, identityAt}
-use Rattle.rules.specs.AdjustGroups.{isReset, validEntry, unprotected, applied, resetGroup, adjusted, onBits, onWords, reportWords, adjustedToken, adjust}
+use Rattle.rules.specs.AdjustGroups.{isReset, validEntry, unprotected, applied, resetGroup, adjusted, enabledBits, enabledWords, reportWords, adjustedToken, adjust}
 use Rattle.rules.specs.Decision.{Decision, carriedOut, need_else_then_, success}
 use Rattle.rules.proofs.Logic.{length-changeAt}
 use Rattle.rules.proofs.Rows.{token-back}
@@ -98,16 +98,16 @@ module _ {k n : ℕ} {bytes : List ℕ} (ws : List ℕ) {gw : List ℕ} {i : Ide
         ∙ ap (λ (l : List ℕ). take headWords ws ++ l) (take-append-drop (headWords + n - headWords) (drop headWords ws)) ∙ take-append-drop headWords ws ∙ e
 
     module _ (z : r .refusal ≡ 0) where
-      ends-switched : ending es t ≡ becomes (adjustedToken es t) (encodeAll (onWords reportWords (t .groups)))
+      ends-switched : ending es t ≡ becomes (adjustedToken es t) (encodeAll (enabledWords reportWords (t .groups)))
       ends-switched = picked-none (isGood (t .groups) es) (isFree (t .identity .user) (t .groups) es) refusal-is z _ _ _
 
       words-switched : putGroupWords n gw ws ≡ tokenRow (withGroups (adjusted es (t .groups)) t)
       words-switched =
           group-words-put t v e en (adjusted es (t .groups)) (length-adjusted es (t .groups)) (words-are ∙ picked-none (isGood (t .groups) es) (isFree (t .identity .user) (t .groups) es) refusal-is z _ _ _)
 
-      reported : encodeAll (r .previous ∷ replicate 15 0) ≡ encodeAll (onWords reportWords (t .groups))
+      reported : encodeAll (r .previous ∷ replicate 15 0) ≡ encodeAll (enabledWords reportWords (t .groups))
       reported =
-          ap encodeAll (ap (λ (w : ℕ). w ∷ replicate 15 0) (x .previous ∙ ap onBits (group-words-read t v e en)) ∙ sym (report (t .groups) (few-groups t v)))
+          ap encodeAll (ap (λ (w : ℕ). w ∷ replicate 15 0) (x .previous ∙ ap enabledBits (group-words-read t v e en)) ∙ sym (report (t .groups) (few-groups t v)))
 
   pub row-refused : (r .refusal ≡ 0 → ⊥) → RowSwitched k bytes ws (putGroupWords n gw ws) (answers.Refused (r .refusal))
   row-refused f = record {
@@ -135,7 +135,7 @@ abbrev rest : List Entry → State → handles.Handle → Token → Decision
 rest es σ h t =
     need isReset es || validEntries (validEntry (t .groups)) es else badField then
     need isReset es || all (unprotected t) es else protectedGroup then
-    success (changeToken (h .token) (adjustedToken es) σ) (encodeAll (onWords reportWords (t .groups)))
+    success (changeToken (h .token) (adjustedToken es) σ) (encodeAll (enabledWords reportWords (t .groups)))
 
 ended-if : (b c : Bool) (σ : State) (u : Token) (w : List ℕ)
     → carriedOut σ (need b else badField then need c else protectedGroup then success (putToken u σ) w) ≡ served σ (pick b c (refused 5) (refused 6) (becomes u w))
@@ -152,7 +152,7 @@ rule es σ h = ended-if _ _ σ _ _
 kept : {A : Type 0} (f : Token → A) (es : List Entry) (t : Token) → f (adjustedToken es t) ≡ f t → f (tokenAfter t (ending es t)) ≡ f t
 kept f es t e = by (isGood (t .groups) es) (isFree (t .identity .user) (t .groups) es)
   where
-    by : (b c : Bool) → f (tokenAfter t (pick b c (refused 5) (refused 6) (becomes (adjustedToken es t) (encodeAll (onWords reportWords (t .groups)))))) ≡ f t
+    by : (b c : Bool) → f (tokenAfter t (pick b c (refused 5) (refused 6) (becomes (adjustedToken es t) (encodeAll (enabledWords reportWords (t .groups)))))) ≡ f t
     by true true = e
     by true false = refl
     by false c = refl

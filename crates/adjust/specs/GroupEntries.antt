@@ -11,7 +11,7 @@ use Rattle.rules.specs.Request.{times, entry}
 use Rattle.rules.specs.Group.{Group, noGroup}
 use Rattle.rules.specs.Token.{Token}
 use Rattle.rules.specs.Memory.{pack, unpack}
-use Rattle.rules.specs.AdjustGroups.{isReset, validEntry, maySwitch, applied, adjusted, onBits, onWords, reportWords, adjustedToken}
+use Rattle.rules.specs.AdjustGroups.{isReset, validEntry, maySwitch, applied, adjusted, enabledBits, enabledWords, reportWords, adjustedToken}
 use Rattle.answer.specs.declared.Answer.{Answer}
 use Rattle.body.specs.Entries as entries
 use Rattle.decide.specs.Ending.{Ending, refused, becomes, RowEnds}
@@ -54,7 +54,7 @@ pub record EntriesMade (n : ℕ) (bytes gw gw′ : List ℕ) : Type 0 where
   pub made : (es : List Entry) (later : List ℕ) → times n entry bytes ≡ got es later → gw′ ≡ map pack (applyAll applied es (groupsIn gw))
 
 pub record GroupsSwitched (user n : ℕ) (bytes gw gw′ : List ℕ) (r : Switched) : Type 0 where
-  pub previous : r .previous ≡ onBits (groupsIn gw)
+  pub previous : r .previous ≡ enabledBits (groupsIn gw)
   pub refusal : (es : List Entry) (later : List ℕ) → times n entry bytes ≡ got es later → r .refusal ≡ judged user (groupsIn gw) es 5 6 0
   pub words : (es : List Entry) (later : List ℕ) → times n entry bytes ≡ got es later → gw′ ≡ judged user (groupsIn gw) es gw gw (map pack (adjusted es (groupsIn gw)))
 
@@ -62,7 +62,7 @@ pub record GroupsSwitched (user n : ℕ) (bytes gw gw′ : List ℕ) (r : Switch
 
 abbrev pub ending : List Entry → Token → Ending
 ending es t =
-    judged (t .identity .user) t.groups es (refused 5) (refused 6) (becomes (adjustedToken es t) (encodeAll (onWords reportWords t.groups)))
+    judged (t .identity .user) t.groups es (refused 5) (refused 6) (becomes (adjustedToken es t) (encodeAll (enabledWords reportWords t.groups)))
 
 pub record RowSwitched (n : ℕ) (bytes ws ws′ : List ℕ) (a : Answer) : Type 0 where
   pub ends : (es : List Entry) (later : List ℕ) → times n entry bytes ≡ got es later → RowEnds (ending es) ws ws′ a

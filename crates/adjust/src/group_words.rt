@@ -5,10 +5,10 @@ ghost use mathlib.Core.List.{map};
 ghost use Prim.Native.Nat.{_≤_};
 ghost use lib.ListN.{length};
 ghost use Rattle.rules.specs.Basic.{if_then_else_, changeAt};
-ghost use Rattle.rules.specs.Group.{isOn, switched};
+ghost use Rattle.rules.specs.Group.{isEnabled, withEnabled};
 ghost use Rattle.rules.specs.Token.{maxGroups};
 ghost use Rattle.rules.specs.Memory.{unpack};
-ghost use Rattle.rules.specs.AdjustGroups.{maySwitch, resetGroup, onBits};
+ghost use Rattle.rules.specs.AdjustGroups.{maySwitch, resetGroup, enabledBits};
 ghost use Rattle.token.specs.Meaning.{groupOf};
 ghost use Rattle.token.specs.Row.{onWord};
 ghost use Rattle.adjust.specs.GroupEntries.{groupsIn};
@@ -48,13 +48,13 @@ fn reset_word(w: u64) -> u64
 }
 
 fn switched_word(w: u64, on: bool) -> u64
-    ensures { λ r. ⌜ r ≡ onWord (switched on) w ⌝ }
+    ensures { λ r. ⌜ r ≡ onWord (withEnabled on) w ⌝ }
 {
     words::pack(attributes::switched(words::unpack(w), on))
 }
 
 fn on_bit(w: u64) -> u64
-    ensures { λ r. ⌜ r ≡ (if isOn (unpack w) then 1 else 0) ⌝ }
+    ensures { λ r. ⌜ r ≡ (if isEnabled (unpack w) then 1 else 0) ⌝ }
 {
     if attributes::is_on(words::unpack(w)) {
         1
@@ -77,7 +77,7 @@ pub fn reset_all(groups: &mut [u64])
 
 // Past the last group there is nothing to switch.
 pub fn switch_at(key: u64, on: bool, groups: &mut [u64])
-    ensures { λ _. ⌜ now (groups .exit) ≡ changeAt key (onWord (switched on)) (now (groups .entry)) ⌝ }
+    ensures { λ _. ⌜ now (groups .exit) ≡ changeAt key (onWord (withEnabled on)) (now (groups .entry)) ⌝ }
 {
     let i = key as usize;
     if i < groups.len() {
@@ -88,7 +88,7 @@ pub fn switch_at(key: u64, on: bool, groups: &mut [u64])
 // The ENABLED bits, group i at bit i.
 pub fn enabled_word(groups: &[u64]) -> u64
     requires { ⌜ length (now groups) ≤ maxGroups ⌝ }
-    ensures { λ r. ⌜ r ≡ onBits (groupsIn (now (groups .entry))) ⌝ }
+    ensures { λ r. ⌜ r ≡ enabledBits (groupsIn (now (groups .entry))) ⌝ }
 {
     let mut i = groups.len();
     let mut w: u64 = 0;

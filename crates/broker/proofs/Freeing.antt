@@ -38,7 +38,7 @@ module _ (m : Memory) (v : valid m ≡ true) (s : ℕ) (chunk : List ℕ) (h : s
   unfolding feed
   feeds-from = rw (lt-leb stationCount s h)
 
-  pub stays-valid : valid (written (fedFrom 0 s chunk (decode m)) .memory) ≡ true
+  pub stays-valid : valid (written (fedFrom 0 s chunk (decode m)) .after) ≡ true
   unfolding written returned ofBytes
   stays-valid =
       rw (sym feeds-from) (written-valid (feed (decode m) s chunk maxAnswer .after) (facts-valid _ (call-valid (decode m) (feeds s chunk maxAnswer) bytes (valid-facts (decode m) (valid-state m v)))))

@@ -29,7 +29,7 @@ module _ (m : Memory) (s : ℕ) where
   unfolding reconnectOn
   invalid h v = rw (lt-leb stationCount s h, v)
 
-  reconnects : s < stationCount → valid m ≡ true → reconnectOn m s .memory ≡ encode (changeStation s cleared (decode m))
+  reconnects : s < stationCount → valid m ≡ true → reconnectOn m s .after ≡ encode (changeStation s cleared (decode m))
   unfolding reconnectOn written reconnect
   reconnects h v = rw (lt-leb stationCount s h, v)
 
@@ -41,7 +41,7 @@ module _ (s count : ℕ) (items : List Handle) (ts ds ss ps : List ℕ) where
   pub reconnect-no-station : stationCount ≤ s → ReconnectsWith s count items ts ds ss ps ss ps noStation
   unfolding refusedOn
   reconnect-no-station h = record {
-    reconnected = λ hs l e. let d = no-station (memoryOf ts ds hs ss ps) s h in record { refusal = sym (ap (λ x. x .refusal) d); memory = sym (ap (λ x. x .memory) d) };
+    reconnected = λ hs l e. let d = no-station (memoryOf ts ds hs ss ps) s h in record { refusal = sym (ap (λ x. x .refusal) d); memory = sym (ap (λ x. x .after) d) };
   }
 
   module _ (h : s < stationCount) (b : Bool) (t : ValidTested count items ts ds ss ps b) where
@@ -50,7 +50,7 @@ module _ (s count : ℕ) (items : List Handle) (ts ds ss ps : List ℕ) where
     reconnect-invalid f = record {
       reconnected = λ hs l e.
           let d = invalid (memoryOf ts ds hs ss ps) s h (sym (t .means hs l e) ∙ failed b f) in
-          record { refusal = sym (ap (λ x. x .refusal) d); memory = sym (ap (λ x. x .memory) d) };
+          record { refusal = sym (ap (λ x. x .refusal) d); memory = sym (ap (λ x. x .after) d) };
     }
 
     pub reconnects-with : not b ≡ false → {ss′ ps′ : List ℕ} → StreamDropped s ss ps ss′ ps′ → ReconnectsWith s count items ts ds ss ps ss′ ps′ 0

@@ -19,14 +19,14 @@ use Rattle.broker.specs.declared.by_value.Started.{Started}
 -- start and reconnect return the refusal
 pub record Does (d : Done) (after : Memory) (r : ℕ) : Type 0 where
   pub refusal : r ≡ d .refusal
-  pub memory : after ≡ d .memory
+  pub memory : after ≡ d .after
 
 -- feed returns the refusal, the bytes used and the answer's length; the answer stands at the start of the buffer, and the bytes after it stay
 pub record Feeds (d : Done) (after : Memory) (out out′ : List ℕ) (r : Fed) : Type 0 where
   pub refusal : r .refusal ≡ d .refusal
   pub used : r .used ≡ d .used
   pub answered : r .answered ≡ length (d .answer)
-  pub memory : after ≡ d .memory
+  pub memory : after ≡ d .after
   pub answer : out′ ≡ buffer (d .answer) out
 
 -- ---- the contract of each call, which demand 3's links (`WholeRun`) cite too: memory before, arguments, memory after, result

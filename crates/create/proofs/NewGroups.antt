@@ -14,7 +14,7 @@ use Rattle.rules.specs.Bits.{has, within}
 use Rattle.rules.specs.Number.{Read, got, bad}
 use Rattle.rules.specs.Entry.{Entry}
 use Rattle.rules.specs.Group as rules
-use Rattle.rules.specs.Group.{isFixed, isOnByDefault, isDenyOnly, switched}
+use Rattle.rules.specs.Group.{isFixed, isEnabledByDefault, isDenyOnly, withEnabled}
 use Rattle.rules.specs.Token.{maxGroups}
 use Rattle.rules.specs.Memory.{headWords, tokenWords, pack}
 use Rattle.rules.specs.Request.{follow, _>>=_, give, times, u32, entry, group}
@@ -48,7 +48,7 @@ if-so true y = refl
 if-so false y = refl
 
 pub pair-valid : (user : ℕ) (g : rules.Group) (w low high on fixed deny : Bool) → w ≡ within (g .attributes) givable
-    → low ≡ has 30 (g .attributes) → high ≡ has 31 (g .attributes) → on ≡ isOnByDefault g → fixed ≡ isFixed user g → deny ≡ isDenyOnly g
+    → low ≡ has 30 (g .attributes) → high ≡ has 31 (g .attributes) → on ≡ isEnabledByDefault g → fixed ≡ isFixed user g → deny ≡ isDenyOnly g
     → (w && (low && high || not low && not high) && (not fixed || on) && (not deny || not on)) ≡ validPair user g
 unfolding validPair
 pair-valid user g w low high on fixed deny ew el eh eo ef ed =
@@ -58,8 +58,8 @@ pair-valid user g w low high on fixed deny ew el eh eo ef ed =
 
 -- ---- the group that is entered
 
-module _ (g q : rules.Group) (on : Bool) (e : on ≡ isOnByDefault g) where
-  pub entered-on : on ≡ true → q ≡ switched true g → q ≡ entered g
+module _ (g q : rules.Group) (on : Bool) (e : on ≡ isEnabledByDefault g) where
+  pub entered-on : on ≡ true → q ≡ withEnabled true g → q ≡ entered g
   unfolding entered
   entered-on h f = rw (sym e, h) f
 

@@ -6,7 +6,7 @@ use mathlib.Core.Bool.{Bool, true, false, not, _&&_, _||_, or-true}
 use mathlib.Core.Logic.{_⊎_, inl, inr, ⊎-elim}
 use mathlib.Core.List.{List, [], _∷_, _++_, map}
 use lib.Dec.{eqb}
-use lib.ListN.{length, getD, set}
+use lib.ListN.{length, getD}
 use borrow.Author.Tests.{eqb-true, eq-eqb}
 use Rattle.rules.specs.Basic.{all, member, distinct, implies, changeAt}
 use Rattle.rules.specs.Growth.{Mem, here, there}
@@ -36,6 +36,10 @@ or-r x y h = ap (λ (b : Bool). x || b) h ∙ or-true x
 
 pub not-both : {x : Bool} → x ≡ true → x ≡ false → ⊥
 not-both h k = let z : _≡_ {A = ℕ} 0 1 = cc in omega arith
+
+pub or-no : (x y : Bool) → (x || y) ≡ false → (x ≡ false) × (y ≡ false)
+or-no true y h = absurd (not-both refl h)
+or-no false y h = (refl, h)
 
 pub not-e : (x : Bool) → not x ≡ true → x ≡ true → ⊥
 not-e true h k = not-both refl (sym h)
@@ -88,12 +92,6 @@ module _ {A : Type 0} where
   mem-append [] m = inr m
   mem-append (x ∷ xs) (here e) = inl (here e)
   mem-append (x ∷ xs) (there m) = ⊎-elim (λ k. inl (there k)) (λ k. inr k) (mem-append xs m)
-
-  pub mem-set : (xs : List A) (i : ℕ) (b : A) {a : A} → Mem a (set xs i b) → (a ≡ b) ⊎ Mem a xs
-  mem-set (x ∷ xs) zero b (here e) = inl e
-  mem-set (x ∷ xs) zero b (there m) = inr (there m)
-  mem-set (x ∷ xs) (suc i) b (here e) = inr (here e)
-  mem-set (x ∷ xs) (suc i) b (there m) = ⊎-elim (λ e. inl e) (λ k. inr (there k)) (mem-set xs i b m)
 
   pub length-changeAt : (xs : List A) (i : ℕ) (f : A → A) → length (changeAt i f xs) ≡ length xs
   unfolding changeAt

@@ -4,7 +4,7 @@ use mathlib.Core.Path.{_≡_, ap, _∙_}
 use mathlib.Core.Bool.{Bool, true, false}
 use lib.Bits.{bitOr}
 use Rattle.rules.specs.Bits.{without}
-use Rattle.rules.specs.Group.{Group, switched, denied}
+use Rattle.rules.specs.Group.{Group, withEnabled, denied}
 use Rattle.rules.specs.Memory.{pack, unpack}
 use Rattle.token.specs.Meaning.{groupOf}
 use Rattle.token.specs.Row.{groupIn, wordOf, onWord}
@@ -14,12 +14,12 @@ module _ (s a w : ℕ) where
   abbrev group : ℕ → Group
   group x = record { sid = s; attributes = x }
 
-  pub turned-on : (b : Bool) → b ≡ true → group (bitOr a 4) ≡ switched b (group a)
-  unfolding switched
+  pub turned-on : (b : Bool) → b ≡ true → group (bitOr a 4) ≡ withEnabled b (group a)
+  unfolding withEnabled
   turned-on b h = rw h
 
-  pub turned-off : (b : Bool) → b ≡ false → w ≡ without a 4 → group w ≡ switched b (group a)
-  unfolding switched
+  pub turned-off : (b : Bool) → b ≡ false → w ≡ without a 4 → group w ≡ withEnabled b (group a)
+  unfolding withEnabled
   turned-off b h e = rw (h, e)
 
   pub turned-denied : w ≡ without (bitOr a 0x10) 4 → group w ≡ denied (group a)

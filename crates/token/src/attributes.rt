@@ -1,7 +1,7 @@
 // The attributes of a group: a test for each, and the changes that requests make.
 ghost use mathlib.Core.Path.{_≡_};
 ghost use Rattle.rules.specs.Bits.{without};
-ghost use Rattle.rules.specs.Group.{isMandatory, isOnByDefault, isOn, isDenyOnly, isLogon, isFixed, switched, denied};
+ghost use Rattle.rules.specs.Group.{isMandatory, isEnabledByDefault, isEnabled, isDenyOnly, isLogon, isFixed, withEnabled, denied};
 ghost use Rattle.token.specs.Meaning.{groupOf};
 use crate::Group;
 use privilege::words;
@@ -17,14 +17,14 @@ pub fn is_mandatory(g: Group) -> bool
 }
 
 pub fn is_on_by_default(g: Group) -> bool
-    ensures { λ r. ⌜ r ≡ isOnByDefault (groupOf g) ⌝ }
+    ensures { λ r. ⌜ r ≡ isEnabledByDefault (groupOf g) ⌝ }
 {
     words::has(g.attributes as u64, 1)
 }
 
 // ENABLED.
 pub fn is_on(g: Group) -> bool
-    ensures { λ r. ⌜ r ≡ isOn (groupOf g) ⌝ }
+    ensures { λ r. ⌜ r ≡ isEnabled (groupOf g) ⌝ }
 {
     words::has(g.attributes as u64, 2)
 }
@@ -57,7 +57,7 @@ fn disabled(attributes: u32) -> u32
 
 // ENABLED set to a value.
 pub fn switched(g: Group, on: bool) -> Group
-    ensures { λ r. ⌜ groupOf r ≡ switched on (groupOf g) ⌝ }
+    ensures { λ r. ⌜ groupOf r ≡ withEnabled on (groupOf g) ⌝ }
 {
     let attributes = if on {
         g.attributes | ENABLED

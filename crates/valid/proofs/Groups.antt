@@ -11,7 +11,7 @@ use lib.Dec.{eqb}
 use lib.ListN.{length, getD, length-map, List·getD-map}
 use Rattle.rules.specs.Basic.{all, implies, bothOrNeither}
 use Rattle.rules.specs.Bits.{has, within}
-use Rattle.rules.specs.Group.{Group, noGroup, isOn, isOwner, isDenyOnly}
+use Rattle.rules.specs.Group.{Group, noGroup, isEnabled, isOwner, isDenyOnly}
 use Rattle.rules.specs.AdjustDefaults.{validOwner}
 use Rattle.rules.specs.Valid.{groupValid, is32}
 use Rattle.rules.specs.Memory.{unpack, word32}
@@ -133,7 +133,7 @@ unfolding is32
 is32-low w = lt-ltb (w % word32) word32 (mod-lt w (omega arith))
 
 group-tests : (w : ℕ) → (attributesTest w && halfTest w && bothTest w) ≡ groupTest w
-unfolding groupTest groupValid unpack within isDenyOnly isOn
+unfolding groupTest groupValid unpack within isDenyOnly isEnabled
 group-tests w = rw (half-test w, both-test w, is32-low w)
 
 -- with what the code has at its end

@@ -1,11 +1,11 @@
 -- The bit of the rule. Assumes nothing.
 use borrow.Author.Needs.{needs}
-use Rattle.rules.specs.Group.{isOn}
+use Rattle.rules.specs.Group.{isEnabled}
 use Rattle.token.proofs.attributes.is_on.Statement.{statement}
 use Rattle.token.proofs.attributes.is_on.Tie as tie
 
 pub is-on-spec : {M : Type 1} → statement M
-unfolding isOn
+unfolding isEnabled
 is-on-spec =
     tie.close
     (tie.spec

@@ -1,11 +1,11 @@
 -- The bit of the rule. Assumes nothing.
 use borrow.Author.Needs.{needs}
-use Rattle.rules.specs.Group.{isOnByDefault}
+use Rattle.rules.specs.Group.{isEnabledByDefault}
 use Rattle.token.proofs.attributes.is_on_by_default.Statement.{statement}
 use Rattle.token.proofs.attributes.is_on_by_default.Tie as tie
 
 pub is-on-by-default-spec : {M : Type 1} → statement M
-unfolding isOnByDefault
+unfolding isEnabledByDefault
 is-on-by-default-spec =
     tie.close
     (tie.spec
