@@ -38,13 +38,24 @@ static const uint64_t *station_word(size_t station, enum obriska_station_word wo
     return &memory.stations[row + word];
 }
 
+/* The arrays that a host lends. */
+enum { ARRAYS = 5 };
+
+/* docs/MEMORY.md, the first table. */
+static void the_memory_has_the_sizes_of_the_docs(void)
+{
+    EXPECT(sizeof memory.tokens == 12800 && sizeof memory.dacls == 4096);
+    EXPECT(sizeof memory.handles == 512 && sizeof memory.stations == 208);
+    EXPECT(sizeof memory.pending == 16400 && sizeof memory == 34016);
+}
+
 static void start_asks_for_the_sizes_only(void)
 {
     struct obriska_memory *m = &memory;
     memset(m, 0xAA, sizeof *m);
     before = *m;
-    for (size_t part = 0; part < 5; part++) {
-        size_t less[5] = {0};
+    for (size_t part = 0; part < ARRAYS; part++) {
+        size_t less[ARRAYS] = {0};
         less[part] = 1;
         EXPECT(obriska_start(m->tokens, OBRISKA_TOKENS_LEN - less[0], m->dacls,
                              OBRISKA_DACLS_LEN - less[1], m->handles, OBRISKA_HANDLES_LEN - less[2],
@@ -200,6 +211,7 @@ static void a_copy_goes_on_where_the_memory_was(void)
 
 int main(void)
 {
+    the_memory_has_the_sizes_of_the_docs();
     start_asks_for_the_sizes_only();
     every_byte_is_the_same_whatever_was_there_before();
     a_free_handle_slot_is_zero_in_every_byte();

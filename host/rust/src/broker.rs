@@ -4,10 +4,10 @@ use std::fmt;
 
 use crate::answer::Answer;
 use crate::ffi;
-use crate::memory::{Memory, NEXT_HANDLE, NEXT_TOKEN};
+use crate::layout::{MAX_ANSWER, NEXT_HANDLE, NEXT_TOKEN, STATIONS};
+use crate::memory::Memory;
 use crate::refusal::Refusal;
 use crate::view::{Handle, Station, Token};
-use crate::{MAX_ANSWER, STATIONS};
 
 /// The broker, with the memory that it works on.
 ///

@@ -3,7 +3,8 @@
 
 use std::mem::offset_of;
 
-use crate::memory::{Memory, HANDLE_BYTES};
+use crate::layout::HANDLE_BYTES;
+use crate::memory::Memory;
 
 /// A handle slot, as the C interface has it.
 #[repr(C)]

@@ -1,36 +1,7 @@
 //! The memory that a broker works on, and its form as bytes.
 
 use crate::ffi::Handle;
-use crate::{HANDLES, STATIONS, TOKENS};
-
-/// Words of a token slot.
-pub(crate) const TOKEN_WORDS: usize = 100;
-/// Bytes of a DACL slot.
-pub(crate) const DACL_BYTES: usize = 256;
-/// Bytes of a handle slot.
-pub(crate) const HANDLE_BYTES: usize = 16;
-/// The word of the next token number.
-pub(crate) const NEXT_TOKEN: usize = 0;
-/// The word of the next handle number.
-pub(crate) const NEXT_HANDLE: usize = 1;
-/// The first station's word; before it stand the two next numbers.
-pub(crate) const FIRST_STATION: usize = 2;
-/// Words of a station.
-pub(crate) const STATION_WORDS: usize = 3;
-/// Bytes of a station's pending part.
-pub(crate) const PENDING_BYTES: usize = 2050;
-
-/// Elements of the arrays.
-const TOKENS_LEN: usize = TOKENS * TOKEN_WORDS;
-const DACLS_LEN: usize = TOKENS * DACL_BYTES;
-const STATIONS_LEN: usize = FIRST_STATION + STATIONS * STATION_WORDS;
-const PENDING_LEN: usize = STATIONS * PENDING_BYTES;
-
-/// How many bytes [`Broker::to_bytes`](crate::Broker::to_bytes) gives.
-pub const MEMORY_BYTES: usize = (TOKENS_LEN + STATIONS_LEN) * size_of::<u64>()
-    + DACLS_LEN
-    + HANDLES * HANDLE_BYTES
-    + PENDING_LEN;
+use crate::layout::{DACLS_LEN, HANDLES, MEMORY_BYTES, PENDING_LEN, STATIONS_LEN, TOKENS_LEN};
 
 /// The five arrays of docs/MEMORY.md.
 #[derive(Clone, PartialEq, Eq)]

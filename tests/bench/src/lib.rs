@@ -4,7 +4,7 @@ pub mod rival;
 pub mod work;
 
 use gen::{Broker, Calls};
-use model::{Bytes, Fed, Memory};
+use model::{Bytes, Fed, HandleRecord, Memory};
 
 /// The rival with its lent memory.
 pub struct Rival(rival::Parts);
@@ -34,9 +34,10 @@ impl Rival {
 
 impl Calls for Rival {
     fn feed(&mut self, station: u32, chunk: &[u8], buffer_len: usize) -> Fed {
-        let mut buffer = vec![0xA5; buffer_len];
+        const FILLER: u8 = 0xA5;
+        let mut buffer = vec![FILLER; buffer_len];
         let (refusal, used, answered) = self.call_feed(station, chunk, &mut buffer);
-        assert!(buffer[answered..].iter().all(|&byte| byte == 0xA5));
+        assert!(buffer[answered..].iter().all(|&byte| byte == FILLER));
         Fed { refusal, used, answer: buffer[..answered].to_vec() }
     }
 
@@ -48,11 +49,19 @@ impl Calls for Rival {
 impl Broker for Rival {
     fn lend(memory: &Memory) -> Self {
         let Memory { tokens, dacls, handles, stations, pending } = memory.clone();
+        let handle = |&HandleRecord { station, mask, number, token }: &HandleRecord| {
+            rival::Handle { station, mask, number, token }
+        };
+        let handles = handles.iter().map(handle).collect();
         Rival(rival::Parts { tokens, dacls, handles, stations, pending })
     }
 
     fn bytes(&self) -> Bytes {
         let rival::Parts { tokens, dacls, handles, stations, pending } = self.0.clone();
+        let record = |&rival::Handle { station, mask, number, token }: &rival::Handle| {
+            HandleRecord { station, mask, number, token }
+        };
+        let handles = handles.iter().map(record).collect();
         Memory { tokens, dacls, handles, stations, pending }.bytes()
     }
 

@@ -8,9 +8,7 @@ use crate::stack::fill_stack;
 
 /// A handle's record to C: so many bytes, aligned as its token. What they hold is
 /// [`model::HandleRecord`]'s to say.
-type Record = [u64; 2];
-
-const _: () = assert!(size_of::<Record>() == HANDLE_BYTES);
+type Record = [u64; HANDLE_BYTES / size_of::<u64>()];
 
 /// Bytes of an element of each part.
 const WIDTHS: [usize; PARTS.len()] =
@@ -133,7 +131,7 @@ impl Lent {
         }
     }
 
-    /// The slot of the station's live handle of this number, 32 if there is none.
+    /// The slot of the station's live handle of this number, past the last if there is none.
     pub fn find(&self, station: u32, number: u32) -> usize {
         let [_, _, handles, _, _] = &self.parts;
         unsafe { obriska_find(handles.as_ptr(), handles.len(), station, number) }

@@ -40,7 +40,7 @@ pub fn poke(rng: &mut Rng, memory: &mut Memory) {
         memory.tokens.chunks(TOKEN_ROW).position(|row| row[token_word::NUMBER] != 0).unwrap_or(0);
     match rng.below(9) {
         0 => *any(rng, &mut memory.tokens) = value,
-        1 => memory.tokens[TOKEN_ROW * live + rng.below(TOKEN_ROW)] ^= 1 << rng.below(64),
+        1 => memory.tokens[TOKEN_ROW * live + rng.below(TOKEN_ROW)] ^= rng.bit(u64::BITS),
         2 => memory.tokens[TOKEN_ROW * live + rng.below(token_word::GROUPS)] = value,
         3 => *any(rng, &mut memory.dacls) = value as u8,
         4 => memory.dacls[DACL_ROW * live + rng.below(DACL_ROW)] = value as u8,

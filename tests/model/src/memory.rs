@@ -1,8 +1,8 @@
 //! The lent memory: the state written into five parts of fixed size.
 
 use crate::layout::{
-    station_word, token_word, DACL_ROW, NEXT_HANDLE, NEXT_TOKEN, PENDING_ROW, STATION_ROW,
-    STATION_WORD, TOKEN_ROW,
+    station_word, token_word, ATTRIBUTES_BIT, DACL_ROW, NEXT_HANDLE, NEXT_TOKEN, PENDING_ROW,
+    STATION_ROW, STATION_WORD, TOKEN_ROW,
 };
 use crate::privileges::Privileges;
 use crate::record::HandleRecord;
@@ -104,12 +104,12 @@ fn station_row(station: &Station) -> [u64; STATION_ROW] {
 }
 
 fn group_word(group: &Group) -> u64 {
-    u64::from(group.sid) | u64::from(group.attributes) << 32
+    u64::from(group.sid) | u64::from(group.attributes) << ATTRIBUTES_BIT
 }
 
 /// The group that a word holds.
 pub(crate) fn word_group(word: u64) -> Group {
-    Group { sid: word as u32, attributes: (word >> 32) as u32 }
+    Group { sid: word as u32, attributes: (word >> ATTRIBUTES_BIT) as u32 }
 }
 
 impl Memory {

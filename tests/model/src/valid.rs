@@ -19,7 +19,7 @@ use crate::token::{
 pub type Rule = (&'static str, fn(&Memory) -> bool);
 
 /// The rules in the paragraph's order.
-pub const RULES: [Rule; 15] = [
+pub const RULES: &[Rule] = &[
     ("size", size_is_right),
     ("next numbers", next_numbers_are_not_0),
     ("numbers", numbers_are_distinct_and_below_next),
@@ -173,9 +173,10 @@ fn present_and_used_exist(memory: &Memory) -> bool {
 }
 
 fn attributes_are_known(memory: &Memory) -> bool {
-    memory.live_tokens().flat_map(|row| row.groups()).all(|group| {
-        group.attributes & !(Group::GIVEN | Group::ENABLED) == 0 && group.logon_is_whole()
-    })
+    memory
+        .live_tokens()
+        .flat_map(|row| row.groups())
+        .all(|group| group.attributes & !Group::ALL == 0 && group.logon_is_whole())
 }
 
 fn primary_tokens_have_level_0(memory: &Memory) -> bool {
