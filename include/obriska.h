@@ -39,9 +39,9 @@ extern "C" {
 #define OBRISKA_MAX_RESTRICTING 16 /* restricting SIDs of a token */
 #define OBRISKA_MAX_DACL 256       /* bytes of a token's default DACL */
 
-#define OBRISKA_ANSWER_LEN 1024  /* the shortest answer buffer, and the longest answer */
-#define OBRISKA_MAX_BODY 2048    /* the longest body of a request */
-#define OBRISKA_LENGTH_BYTES 2   /* the most bytes that say a body's length */
+#define OBRISKA_ANSWER_LEN 1024 /* the shortest answer buffer, and the longest answer */
+#define OBRISKA_MAX_BODY 2048   /* the longest body of a request */
+#define OBRISKA_LENGTH_BYTES 2  /* the most bytes that say a body's length */
 
 /* ---- places: docs/MEMORY.md has the values ------------------------------------------------- */
 
@@ -71,13 +71,14 @@ enum obriska_token_word {
     OBRISKA_TOKEN_RESTRICTING = OBRISKA_TOKEN_GROUPS + OBRISKA_MAX_GROUPS /* the first SID */
 };
 
-/* Words of `stations` before its first station. */
-enum obriska_next_word {
+/* Words of `control`. */
+enum obriska_control_word {
     OBRISKA_NEXT_TOKEN = 0,
-    OBRISKA_NEXT_HANDLE = 1
+    OBRISKA_NEXT_HANDLE = 1,
+    OBRISKA_FIRST_STATION /* the row of station 0; the others follow */
 };
 
-/* Words of a station. */
+/* Words of a station's row. */
 enum obriska_station_word {
     OBRISKA_STATION_TOKEN = 0,   /* the number of its primary token */
     OBRISKA_STATION_PENDING = 1, /* how many bytes of a request are pending */
@@ -86,25 +87,24 @@ enum obriska_station_word {
 
 /* ---- sizes ---------------------------------------------------------------------------------- */
 
-/* What one token slot or one station has in an array. */
-#define OBRISKA_TOKEN_WORDS (OBRISKA_TOKEN_RESTRICTING + OBRISKA_MAX_RESTRICTING) /* in `tokens` */
-#define OBRISKA_DACL_BYTES OBRISKA_MAX_DACL                                       /* in `dacls` */
-#define OBRISKA_FIRST_STATION (OBRISKA_NEXT_HANDLE + 1) /* station 0's first word in `stations` */
-#define OBRISKA_STATION_WORDS (OBRISKA_STATION_BROKEN + 1)              /* in `stations` */
-#define OBRISKA_PENDING_BYTES (OBRISKA_LENGTH_BYTES + OBRISKA_MAX_BODY) /* in `pending` */
+/* What one token slot has in `tokens` and in `dacls`, one station in `control` and in `pending`. */
+#define OBRISKA_TOKEN_WORDS (OBRISKA_TOKEN_RESTRICTING + OBRISKA_MAX_RESTRICTING)
+#define OBRISKA_DACL_BYTES OBRISKA_MAX_DACL
+#define OBRISKA_STATION_WORDS (OBRISKA_STATION_BROKEN + 1)
+#define OBRISKA_PENDING_BYTES (OBRISKA_LENGTH_BYTES + OBRISKA_MAX_BODY)
 
 /* Elements of each array that the host lends: exactly these lengths, else refusal 13. */
 #define OBRISKA_TOKENS_LEN (OBRISKA_TOKENS * OBRISKA_TOKEN_WORDS)
 #define OBRISKA_DACLS_LEN (OBRISKA_TOKENS * OBRISKA_DACL_BYTES)
 #define OBRISKA_HANDLES_LEN OBRISKA_HANDLES
-#define OBRISKA_STATIONS_LEN (OBRISKA_FIRST_STATION + OBRISKA_STATIONS * OBRISKA_STATION_WORDS)
+#define OBRISKA_CONTROL_LEN (OBRISKA_FIRST_STATION + OBRISKA_STATIONS * OBRISKA_STATION_WORDS)
 #define OBRISKA_PENDING_LEN (OBRISKA_STATIONS * OBRISKA_PENDING_BYTES)
 
 /* Bytes of a handle, and of all arrays together. */
 #define OBRISKA_HANDLE_BYTES 16
-#define OBRISKA_MEMORY_BYTES                                      \
-    (8 * (OBRISKA_TOKENS_LEN + OBRISKA_STATIONS_LEN) +            \
-     OBRISKA_HANDLE_BYTES * OBRISKA_HANDLES_LEN + OBRISKA_DACLS_LEN + OBRISKA_PENDING_LEN)
+#define OBRISKA_MEMORY_BYTES \
+    (sizeof(uint64_t) * (OBRISKA_TOKENS_LEN + OBRISKA_CONTROL_LEN) + OBRISKA_DACLS_LEN + \
+     OBRISKA_HANDLE_BYTES * OBRISKA_HANDLES_LEN + OBRISKA_PENDING_LEN)
 
 /* ---- records -------------------------------------------------------------------------------- */
 
@@ -130,7 +130,7 @@ struct obriska_memory {
     uint64_t tokens[OBRISKA_TOKENS_LEN];
     uint8_t dacls[OBRISKA_DACLS_LEN];
     struct obriska_handle handles[OBRISKA_HANDLES_LEN];
-    uint64_t stations[OBRISKA_STATIONS_LEN];
+    uint64_t control[OBRISKA_CONTROL_LEN];
     uint8_t pending[OBRISKA_PENDING_LEN];
 };
 
@@ -199,8 +199,8 @@ enum obriska_refusal {
  * the next handle 1.
  * Returns 0, or 13 where a length is wrong; then nothing is written. */
 uint32_t obriska_start(uint64_t *tokens, size_t tokens_len, uint8_t *dacls, size_t dacls_len,
-                       struct obriska_handle *handles, size_t handles_len, uint64_t *stations,
-                       size_t stations_len, uint8_t *pending, size_t pending_len);
+                       struct obriska_handle *handles, size_t handles_len, uint64_t *control,
+                       size_t control_len, uint8_t *pending, size_t pending_len);
 
 /* Feeds a chunk of a station's stream. Uses its bytes up to the end of the first request, or to
  * the byte that breaks the stream, or all of them. A request is served whole, at its last byte.
@@ -216,7 +216,7 @@ struct obriska_fed obriska_feed(uint32_t station, const uint8_t *data, size_t da
                                 uint8_t *answer, size_t answer_len, uint64_t *tokens,
                                 size_t tokens_len, uint8_t *dacls, size_t dacls_len,
                                 struct obriska_handle *handles, size_t handles_len,
-                                uint64_t *stations, size_t stations_len, uint8_t *pending,
+                                uint64_t *control, size_t control_len, uint8_t *pending,
                                 size_t pending_len);
 
 /* Drops the station's part of a request and its break, and nothing else: tokens and handles stay.
@@ -224,7 +224,7 @@ struct obriska_fed obriska_feed(uint32_t station, const uint8_t *data, size_t da
 uint32_t obriska_reconnect(uint32_t station, const uint64_t *tokens, size_t tokens_len,
                            const uint8_t *dacls, size_t dacls_len,
                            const struct obriska_handle *handles, size_t handles_len,
-                           uint64_t *stations, size_t stations_len, uint8_t *pending,
+                           uint64_t *control, size_t control_len, uint8_t *pending,
                            size_t pending_len);
 
 /* The slot of the station's live handle of this number, or OBRISKA_HANDLES if there is none. Writes
@@ -237,7 +237,7 @@ size_t obriska_find(const struct obriska_handle *handles, size_t handles_len, ui
 static inline uint32_t obriska_memory_start(struct obriska_memory *m)
 {
     return obriska_start(m->tokens, OBRISKA_TOKENS_LEN, m->dacls, OBRISKA_DACLS_LEN, m->handles,
-                         OBRISKA_HANDLES_LEN, m->stations, OBRISKA_STATIONS_LEN, m->pending,
+                         OBRISKA_HANDLES_LEN, m->control, OBRISKA_CONTROL_LEN, m->pending,
                          OBRISKA_PENDING_LEN);
 }
 
@@ -246,14 +246,14 @@ static inline struct obriska_fed obriska_memory_feed(struct obriska_memory *m, u
                                                      uint8_t *answer, size_t answer_len)
 {
     return obriska_feed(station, data, data_len, answer, answer_len, m->tokens, OBRISKA_TOKENS_LEN,
-                        m->dacls, OBRISKA_DACLS_LEN, m->handles, OBRISKA_HANDLES_LEN, m->stations,
-                        OBRISKA_STATIONS_LEN, m->pending, OBRISKA_PENDING_LEN);
+                        m->dacls, OBRISKA_DACLS_LEN, m->handles, OBRISKA_HANDLES_LEN, m->control,
+                        OBRISKA_CONTROL_LEN, m->pending, OBRISKA_PENDING_LEN);
 }
 
 static inline uint32_t obriska_memory_reconnect(struct obriska_memory *m, uint32_t station)
 {
     return obriska_reconnect(station, m->tokens, OBRISKA_TOKENS_LEN, m->dacls, OBRISKA_DACLS_LEN,
-                             m->handles, OBRISKA_HANDLES_LEN, m->stations, OBRISKA_STATIONS_LEN,
+                             m->handles, OBRISKA_HANDLES_LEN, m->control, OBRISKA_CONTROL_LEN,
                              m->pending, OBRISKA_PENDING_LEN);
 }
 

@@ -4,7 +4,7 @@ use std::fmt;
 
 use crate::answer::Answer;
 use crate::ffi;
-use crate::layout::{MAX_ANSWER, NEXT_HANDLE, NEXT_TOKEN, STATIONS};
+use crate::layout::{control_word, MAX_ANSWER, STATIONS};
 use crate::memory::Memory;
 use crate::refusal::Refusal;
 use crate::view::{Handle, Station, Token};
@@ -115,12 +115,12 @@ impl Broker {
 
     /// The number that the next token gets; the largest u64 is never given.
     pub fn next_token(&self) -> u64 {
-        self.memory.stations[NEXT_TOKEN]
+        self.memory.control[control_word::NEXT_TOKEN]
     }
 
     /// The number that the next handle gets; the largest u32 is never given.
     pub fn next_handle(&self) -> u32 {
-        self.memory.stations[NEXT_HANDLE] as u32
+        self.memory.control[control_word::NEXT_HANDLE] as u32
     }
 
     /// All that the broker keeps, to be stored across a restart: [`MEMORY_BYTES`] bytes, the same

@@ -52,14 +52,15 @@ pub(crate) mod token_word {
 /// The bit at which a group's attributes begin in its word; the SID stands below.
 pub(crate) const ATTRIBUTES_BIT: u32 = u32::BITS;
 
-/// The word of the next token number.
-pub(crate) const NEXT_TOKEN: usize = 0;
-/// The word of the next handle number.
-pub(crate) const NEXT_HANDLE: usize = 1;
-/// The first station's word.
-pub(crate) const FIRST_STATION: usize = NEXT_HANDLE + 1;
+/// The control words.
+pub(crate) mod control_word {
+    pub const NEXT_TOKEN: usize = 0;
+    pub const NEXT_HANDLE: usize = 1;
+    /// The row of station 0; the others follow.
+    pub const FIRST_STATION: usize = NEXT_HANDLE + 1;
+}
 
-/// Words of a station.
+/// Words of a station's row.
 pub(crate) mod station_word {
     pub const TOKEN: usize = 0;
     pub const PENDING: usize = 1;
@@ -72,7 +73,7 @@ pub(crate) const TOKEN_WORDS: usize = token_word::RESTRICTING + MAX_RESTRICTING;
 pub(crate) const DACL_BYTES: usize = MAX_DACL;
 /// Bytes of a handle slot.
 pub(crate) const HANDLE_BYTES: usize = 16;
-/// Words of a station.
+/// Words of a station's row.
 pub(crate) const STATION_WORDS: usize = station_word::BROKEN + 1;
 /// Bytes of a station's pending part.
 pub(crate) const PENDING_BYTES: usize = LENGTH_BYTES + MAX_BODY;
@@ -80,11 +81,11 @@ pub(crate) const PENDING_BYTES: usize = LENGTH_BYTES + MAX_BODY;
 /// Elements of the arrays.
 pub(crate) const TOKENS_LEN: usize = TOKENS * TOKEN_WORDS;
 pub(crate) const DACLS_LEN: usize = TOKENS * DACL_BYTES;
-pub(crate) const STATIONS_LEN: usize = FIRST_STATION + STATIONS * STATION_WORDS;
+pub(crate) const CONTROL_LEN: usize = control_word::FIRST_STATION + STATIONS * STATION_WORDS;
 pub(crate) const PENDING_LEN: usize = STATIONS * PENDING_BYTES;
 
 /// How many bytes [`Broker::to_bytes`](crate::Broker::to_bytes) gives.
-pub const MEMORY_BYTES: usize = (TOKENS_LEN + STATIONS_LEN) * size_of::<u64>()
+pub const MEMORY_BYTES: usize = (TOKENS_LEN + CONTROL_LEN) * size_of::<u64>()
     + DACLS_LEN
     + HANDLES * HANDLE_BYTES
     + PENDING_LEN;

@@ -1,7 +1,7 @@
 //! The memory that a broker works on, and its form as bytes.
 
 use crate::ffi::Handle;
-use crate::layout::{DACLS_LEN, HANDLES, MEMORY_BYTES, PENDING_LEN, STATIONS_LEN, TOKENS_LEN};
+use crate::layout::{CONTROL_LEN, DACLS_LEN, HANDLES, MEMORY_BYTES, PENDING_LEN, TOKENS_LEN};
 
 /// The five arrays of docs/MEMORY.md.
 #[derive(Clone, PartialEq, Eq)]
@@ -9,7 +9,7 @@ pub(crate) struct Memory {
     pub tokens: [u64; TOKENS_LEN],
     pub dacls: [u8; DACLS_LEN],
     pub handles: [Handle; HANDLES],
-    pub stations: [u64; STATIONS_LEN],
+    pub control: [u64; CONTROL_LEN],
     pub pending: [u8; PENDING_LEN],
 }
 
@@ -19,7 +19,7 @@ impl Memory {
             tokens: [0; TOKENS_LEN],
             dacls: [0; DACLS_LEN],
             handles: [Handle::default(); HANDLES],
-            stations: [0; STATIONS_LEN],
+            control: [0; CONTROL_LEN],
             pending: [0; PENDING_LEN],
         })
     }
@@ -36,7 +36,7 @@ impl Memory {
             bytes.extend(handle.number.to_le_bytes());
             bytes.extend(handle.token.to_le_bytes());
         }
-        bytes.extend(self.stations.iter().flat_map(|word| word.to_le_bytes()));
+        bytes.extend(self.control.iter().flat_map(|word| word.to_le_bytes()));
         bytes.extend(self.pending);
         bytes
     }
@@ -54,7 +54,7 @@ impl Memory {
             let (station, mask) = (reader.u16(), reader.u16());
             Handle { station, mask, number: reader.u32(), token: reader.u64() }
         });
-        memory.stations.fill_with(|| reader.u64());
+        memory.control.fill_with(|| reader.u64());
         memory.pending.fill_with(|| reader.u8());
         Some(memory)
     }

@@ -2,7 +2,7 @@
 
 use crate::ffi;
 use crate::layout::{
-    station_word, token_word, ATTRIBUTES_BIT, DACL_BYTES, FIRST_STATION, PENDING_BYTES, STATIONS,
+    control_word, station_word, token_word, ATTRIBUTES_BIT, DACL_BYTES, PENDING_BYTES, STATIONS,
     STATION_WORDS, TOKEN_WORDS,
 };
 use crate::memory::Memory;
@@ -209,7 +209,7 @@ pub struct Station {
 impl Station {
     pub(crate) fn all(memory: &Memory) -> [Station; STATIONS] {
         std::array::from_fn(|station| {
-            let words = &memory.stations[FIRST_STATION + station * STATION_WORDS..];
+            let words = &memory.control[control_word::FIRST_STATION + station * STATION_WORDS..];
             let pending = &memory.pending[station * PENDING_BYTES..];
             Station {
                 token: words[station_word::TOKEN],

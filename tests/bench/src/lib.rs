@@ -27,8 +27,8 @@ impl Rival {
             let small = u32::from(handle.station | handle.mask) | handle.number;
             all | u64::from(small) | handle.token
         });
-        let (tokens, stations) = (words(&self.0.tokens), words(&self.0.stations));
-        tokens | stations | handles | bytes(&self.0.dacls) | bytes(&self.0.pending)
+        let (tokens, control) = (words(&self.0.tokens), words(&self.0.control));
+        tokens | control | handles | bytes(&self.0.dacls) | bytes(&self.0.pending)
     }
 }
 
@@ -48,21 +48,21 @@ impl Calls for Rival {
 
 impl Broker for Rival {
     fn lend(memory: &Memory) -> Self {
-        let Memory { tokens, dacls, handles, stations, pending } = memory.clone();
+        let Memory { tokens, dacls, handles, control, pending } = memory.clone();
         let handle = |&HandleRecord { station, mask, number, token }: &HandleRecord| {
             rival::Handle { station, mask, number, token }
         };
         let handles = handles.iter().map(handle).collect();
-        Rival(rival::Parts { tokens, dacls, handles, stations, pending })
+        Rival(rival::Parts { tokens, dacls, handles, control, pending })
     }
 
     fn bytes(&self) -> Bytes {
-        let rival::Parts { tokens, dacls, handles, stations, pending } = self.0.clone();
+        let rival::Parts { tokens, dacls, handles, control, pending } = self.0.clone();
         let record = |&rival::Handle { station, mask, number, token }: &rival::Handle| {
             HandleRecord { station, mask, number, token }
         };
         let handles = handles.iter().map(record).collect();
-        Memory { tokens, dacls, handles, stations, pending }.bytes()
+        Memory { tokens, dacls, handles, control, pending }.bytes()
     }
 
     fn start(&mut self) -> u32 {

@@ -2,8 +2,8 @@
 
 use gen::{each_seed, poke, state, Broker, Call};
 use model::{
-    HandleRecord, Memory, DACL_BYTES, HANDLE_ROWS, MIN_BUFFER, PARTS, PENDING_BYTES, STATIONS,
-    STATION_WORDS, TOKEN_WORDS,
+    HandleRecord, Memory, CONTROL_WORDS, DACL_BYTES, HANDLE_ROWS, MIN_BUFFER, PARTS, PENDING_BYTES,
+    STATIONS, TOKEN_WORDS,
 };
 
 use crate::lists::{on_memory, same_bytes};
@@ -65,7 +65,7 @@ pub fn of_other_sizes(memory: &Memory) -> Vec<(String, Memory)> {
         (TOKEN_WORDS, |memory, size| memory.tokens.resize(size, 0)),
         (DACL_BYTES, |memory, size| memory.dacls.resize(size, 0)),
         (HANDLE_ROWS, |memory, size| memory.handles.resize(size, HandleRecord::default())),
-        (STATION_WORDS, |memory, size| memory.stations.resize(size, 0)),
+        (CONTROL_WORDS, |memory, size| memory.control.resize(size, 0)),
         (PENDING_BYTES, |memory, size| memory.pending.resize(size, 0)),
     ];
     let mut memories = Vec::new();

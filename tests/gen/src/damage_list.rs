@@ -1,10 +1,10 @@
 //! For each rule of valid memory the damages that break this rule and, but for two, no other.
 
 use model::{
-    framed, handle_byte, station_word, token_word, Group, HandleRecord, Memory, Model, Token,
-    TokenType, ALL_PRIVILEGES, ATTRIBUTES_BIT, DACL_ROW, HANDLE_BYTES, MAX_BODY, MAX_DACL,
-    MAX_GROUPS, MAX_LENGTH_BYTES, MAX_RESTRICTING, MORE, NEXT_HANDLE, NEXT_TOKEN, NO_CHANGE, PARTS,
-    PENDING_ROW, STATIONS, TOKEN_ROW,
+    control_word, framed, handle_byte, station_word, token_word, Group, HandleRecord, Memory,
+    Model, Token, TokenType, ALL_PRIVILEGES, ATTRIBUTES_BIT, DACL_ROW, HANDLE_BYTES, MAX_BODY,
+    MAX_DACL, MAX_GROUPS, MAX_LENGTH_BYTES, MAX_RESTRICTING, MORE, NO_CHANGE, PARTS, PENDING_ROW,
+    STATIONS, TOKEN_ROW,
 };
 
 use crate::damage::{references, Target};
@@ -40,23 +40,23 @@ pub const DAMAGES: &[Damage] = &[
     damage("size", "a part is shorter", |t| resize(t, -1)),
     damage("size", "a part is empty", |t| resize(t, isize::MIN)),
     damage("next numbers", "the next token number is 0", |t| {
-        t.memory.stations[NEXT_TOKEN] = 0;
+        t.memory.control[control_word::NEXT_TOKEN] = 0;
         Some(())
     }),
     damage("next numbers", "the next handle number is 0", |t| {
-        t.memory.stations[NEXT_HANDLE] = 0;
+        t.memory.control[control_word::NEXT_HANDLE] = 0;
         t.model.handles.iter().all(Option::is_none).then_some(())
     }),
     damage("numbers", "two tokens have one number", two_tokens_with_one_number),
     damage("numbers", "two handles have one number", two_handles_with_one_number),
     damage("numbers", "a token number is not below the next", |t| {
         let highest = t.model.tokens.iter().flatten().map(|token| token.number).max()?;
-        t.memory.stations[NEXT_TOKEN] = t.rng.pick(&[highest, 1]);
+        t.memory.control[control_word::NEXT_TOKEN] = t.rng.pick(&[highest, 1]);
         Some(())
     }),
     damage("numbers", "a handle number is not below the next", |t| {
         let highest = t.model.handles.iter().flatten().map(|handle| handle.number).max()?;
-        t.memory.stations[NEXT_HANDLE] = t.rng.pick(&[highest, 1]).into();
+        t.memory.control[control_word::NEXT_HANDLE] = t.rng.pick(&[highest, 1]).into();
         Some(())
     }),
     damage("references", "a handle's token is not live", |t| {
@@ -95,7 +95,7 @@ pub const DAMAGES: &[Damage] = &[
         t.memory.tokens.copy_within(from..from + TOKEN_ROW, to);
         *t.word(slot, token_word::NUMBER) = t.model.next_token;
         *t.word(slot, token_word::DACL_LENGTH) = 0;
-        t.memory.stations[NEXT_TOKEN] = t.model.next_token.checked_add(1)?;
+        t.memory.control[control_word::NEXT_TOKEN] = t.model.next_token.checked_add(1)?;
         Some(())
     }),
     damage("free", "a word of a free token slot", |t| {
@@ -193,7 +193,7 @@ pub const DAMAGES: &[Damage] = &[
         Some(())
     }),
     damage("ranges", "next handle number", |t| {
-        t.memory.stations[NEXT_HANDLE] = t.rng.pick(&[1 << 32, u64::MAX]);
+        t.memory.control[control_word::NEXT_HANDLE] = t.rng.pick(&[1 << 32, u64::MAX]);
         Some(())
     }),
     damage("ranges", "broken mark", |t| {
@@ -287,7 +287,7 @@ fn resize(t: &mut Target, by: isize) -> Option<()> {
         0 => memory.tokens.resize(size(memory.tokens.len()), 0),
         1 => memory.dacls.resize(size(memory.dacls.len()), 0),
         2 => memory.handles.resize(size(memory.handles.len()), HandleRecord::default()),
-        3 => memory.stations.resize(size(memory.stations.len()), 0),
+        3 => memory.control.resize(size(memory.control.len()), 0),
         _ => memory.pending.resize(size(memory.pending.len()), 0),
     }
     Some(())

@@ -54,12 +54,14 @@ pub mod handle_byte {
     pub const TOKEN: Range<usize> = 8..16;
 }
 
-/// The word of the next token number, in the stations part.
-pub const NEXT_TOKEN: usize = 0;
-/// The word of the next handle number, likewise.
-pub const NEXT_HANDLE: usize = 1;
-/// The first station's word, likewise.
-pub const STATION_WORD: usize = NEXT_HANDLE + 1;
+/// Where things stand among the control words.
+#[allow(missing_docs)] // named as the next numbers
+pub mod control_word {
+    pub const NEXT_TOKEN: usize = 0;
+    pub const NEXT_HANDLE: usize = 1;
+    /// The first station's row; the others follow.
+    pub const STATIONS: usize = NEXT_HANDLE + 1;
+}
 
 /// Words of a token's row.
 pub const TOKEN_ROW: usize = token_word::RESTRICTING + MAX_RESTRICTING;
@@ -78,7 +80,7 @@ pub const TOKEN_WORDS: usize = TOKENS * TOKEN_ROW;
 pub const DACL_BYTES: usize = TOKENS * DACL_ROW;
 /// Size of the handles part.
 pub const HANDLE_ROWS: usize = HANDLES;
-/// Size of the stations part.
-pub const STATION_WORDS: usize = STATION_WORD + STATIONS * STATION_ROW;
+/// Size of the control part.
+pub const CONTROL_WORDS: usize = control_word::STATIONS + STATIONS * STATION_ROW;
 /// Size of the pending part.
 pub const PENDING_BYTES: usize = STATIONS * PENDING_ROW;

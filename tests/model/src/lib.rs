@@ -29,9 +29,9 @@ mod valid;
 pub use feed::{Fed, MIN_BUFFER};
 pub use frame::{framed, MAX_BODY, MAX_LENGTH_BYTES};
 pub use layout::{
-    handle_byte, station_word, token_word, ATTRIBUTES_BIT, DACL_BYTES, DACL_ROW, HANDLE_BYTES,
-    HANDLE_ROWS, NEXT_HANDLE, NEXT_TOKEN, PENDING_BYTES, PENDING_ROW, STATION_ROW, STATION_WORD,
-    STATION_WORDS, TOKEN_ROW, TOKEN_WORDS,
+    control_word, handle_byte, station_word, token_word, ATTRIBUTES_BIT, CONTROL_WORDS, DACL_BYTES,
+    DACL_ROW, HANDLE_BYTES, HANDLE_ROWS, PENDING_BYTES, PENDING_ROW, STATION_ROW, TOKEN_ROW,
+    TOKEN_WORDS,
 };
 pub use memory::{Bytes, Memory, PARTS};
 pub use number::{number_length, write_number, Reader, MORE};

@@ -52,7 +52,7 @@ pub mod word {
 pub const GROUPS: Range<usize> = word::GROUPS..word::RESTRICTING;
 pub const TOKEN_ROW: usize = word::RESTRICTING + MAX_RESTRICTING;
 
-/// Words before the stations' rows.
+/// Control words before the stations' rows.
 pub const NEXT_TOKEN: usize = 0;
 pub const NEXT_HANDLE: usize = 1;
 pub const NEXT_NUMBERS: usize = 2;

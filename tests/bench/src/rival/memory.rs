@@ -25,8 +25,8 @@ pub struct Parts {
     pub dacls: Vec<u8>,
     /// Handle records.
     pub handles: Vec<Handle>,
-    /// Next numbers and stations.
-    pub stations: Vec<u64>,
+    /// Control words: next numbers and stations.
+    pub control: Vec<u64>,
     /// Pending bytes.
     pub pending: Vec<u8>,
 }
@@ -64,7 +64,7 @@ pub struct Memory<'a> {
 impl Parts {
     /// The tables, when each part has its size.
     pub fn view(&mut self) -> Option<Memory<'_>> {
-        let (next, stations) = self.stations.split_first_chunk_mut()?;
+        let (next, stations) = self.control.split_first_chunk_mut()?;
         Some(Memory {
             tokens: table(&mut self.tokens)?,
             dacls: table(&mut self.dacls)?,
