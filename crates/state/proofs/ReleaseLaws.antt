@@ -15,7 +15,7 @@ use Rattle.rules.specs.Index.{foundIndex, freedOne}
 use Rattle.rules.specs.Handle as rules
 use Rattle.rules.specs.State as state
 use Rattle.rules.specs.State.{State, tokenSlots, handleSlots, withTokens, withHandles, withStations, changeStation, isNumbered, setToken, findHandle, dropHandle, handleToken, stationToken, references, released}
-use Rattle.rules.specs.Memory.{tokenWords, slotRow, slotDacl}
+use Rattle.rules.specs.Memory.{tokenWords, sections, slotRow, slotDacl}
 use Rattle.rules.proofs.Tables.{live-slot}
 use Rattle.rules.proofs.Index.{exchanged-set}
 use Rattle.rules.proofs.Facts.{Loose, valid-facts}
@@ -28,12 +28,13 @@ use Rattle.handle.proofs.Slots.{findIndex, isReferred, kept}
 use Rattle.handle.proofs.Words.{records-long}
 use Rattle.token.specs.Meaning.{slotsOf}
 use Rattle.token.proofs.Laws.{put-words, put-dacls}
+use Rattle.control.specs.Stations.{CallerNumber, TokenSet, StationsRefer}
+use Rattle.control.proofs.Sections.{control-same}
 use Rattle.state.specs.Parts.{TokensIn}
 use Rattle.state.specs.Formed.{Formed}
-use Rattle.state.specs.StationFacts.{CallerNumber, TokenSet, StationsRefer}
 use Rattle.state.specs.ReleaseFacts.{PartsIn, TokenFreed, Closed, Installed}
 use Rattle.state.proofs.HandleLaws.{handle-given, handle-dropped}
-use Rattle.state.proofs.FormedLaws.{loose-formed, tokens-back, handles-back, tokens-same, handles-same, stations-same}
+use Rattle.state.proofs.FormedLaws.{loose-formed, tokens-back, handles-back, tokens-same, handles-same}
 
 -- ---- a token is freed, or stays
 
@@ -50,7 +51,7 @@ module _ {token : ℕ} {hs : List Handle} {ss ts ds : List ℕ} {a b : Bool} (by
   referred : (σ : State) → Formed σ → PartsIn σ hs ss ts ds → (a || b) ≡ member token (references σ)
   unfolding references
   referred σ f p =
-      ap₂ _||_ (by-handle ∙ ap (λ ps. member token (map handleToken (lives ps))) (handles-back σ f hs (p .handles))) (by-station .refer σ (p .stations))
+      ap₂ _||_ (by-handle ∙ ap (λ ps. member token (map handleToken (lives ps))) (handles-back σ f hs (p .handles))) (by-station .refer σ (p .control))
       ∙ member-append token (map handleToken (lives (σ .handles .slots))) (map stationToken (σ .stations))
 
   pub token-kept : (a || b) ≡ true → TokenFreed token hs ss ts ds ts ds
@@ -89,24 +90,24 @@ module _ {token : ℕ} {hs : List Handle} {ss ts ds : List ℕ} {a b : Bool} (by
 -- what is freed in the middle state is what the sweep frees
 swept : {token : ℕ} {hs : List Handle} {ss ts ds ts′ ds′ : List ℕ} (σ : State) → Loose σ → released σ ≡ freedOne token σ
     → TokenFreed token hs ss ts ds ts′ ds′ → PartsIn σ hs ss ts ds → PartsIn (released σ) hs ss ts′ ds′
-unfolding released withTokens withSlots
+unfolding released withTokens withSlots sections
 swept {ts′ = ts′} {ds′ = ds′} σ l e f p = record {
   handles = handles-same refl (p .handles);
-  stations = stations-same refl refl refl (p .stations);
+  control = control-same refl (p .control);
   tokens = subst (λ (τ : State). TokensIn τ ts′ ds′) (sym e) (f .tokens σ (loose-formed σ l) p);
 }
 
 pub closed : (s n : ℕ) (hs : List Handle) {ss ts ds ts′ ds′ : List ℕ} {i : ℕ} {h : Handle}
     → i ≡ findIndex s n hs → h ≡ getD hs i none → TokenFreed (h .token) (set hs i none) ss ts ds ts′ ds′
     → Closed s n hs ss ts ds ts′ ds′ (record { slot = i; handle = none })
-unfolding state.handleOf dropHandle withHandles withSlots handleToken
+unfolding state.handleOf dropHandle withHandles withSlots sections handleToken
 closed s n hs {i = i} {h = h} e q f = record {
   parts = λ σ v p known.
       let facts = valid-facts σ v in
       let one = close-frees σ s n (state.handleOf σ s n) facts (live-slot rules.noHandle (findHandle σ s n) known) in
       let same : state.handleOf σ s n .token ≡ h .token = ap handleToken (sym (handle-given s n hs e q .handle σ v (p .handles))) in
       swept (dropHandle s n σ) (drop-loose σ s n (facts .loose)) (rw same at one) f
-      (record { handles = handle-dropped s n hs e σ v (p .handles); stations = stations-same refl refl refl (p .stations); tokens = tokens-same refl (p .tokens) });
+      (record { handles = handle-dropped s n hs e σ v (p .handles); control = control-same refl (p .control); tokens = tokens-same refl (p .tokens) });
 }
 
 -- no slot is freed
@@ -119,6 +120,6 @@ installed s n ws g k f = record {
       let facts = valid-facts σ v in
       let loose : Loose (setToken s n σ) = subst (λ (i : ℕ). Loose (setToken s i σ)) number (token-loose σ s t m type (facts .loose)) in
       let one = token-frees σ s n facts loose in
-      swept (setToken s n σ) loose (rw (sym (g .number σ (p .stations))) at one) (rw (sym (kept {hs = recordsIn ws} {i = handleSlots} none (records-long handleSlots ws) (omega arith))) at f)
-      (record { handles = handles-same refl (p .handles); stations = k .stations σ (p .stations); tokens = tokens-same refl (p .tokens) });
+      swept (setToken s n σ) loose (rw (sym (g .number σ (p .control))) at one) (rw (sym (kept {hs = recordsIn ws} {i = handleSlots} none (records-long handleSlots ws) (omega arith))) at f)
+      (record { handles = handles-same refl (p .handles); control = k .control σ (p .control); tokens = tokens-same refl (p .tokens) });
 }

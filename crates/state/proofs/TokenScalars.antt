@@ -16,8 +16,8 @@ use Rattle.privilege.specs.declared.privileges.Privileges.{Privileges}
 use Rattle.token.specs.Meaning.{identityOf}
 use Rattle.token.specs.Row.{identityIn, privilegesIn, Becomes}
 use Rattle.token.specs.declared.Identity.{Identity}
+use Rattle.control.specs.Stations.{CallerNumber}
 use Rattle.state.specs.Parts.{TokensIn}
-use Rattle.state.specs.StationFacts.{CallerNumber}
 use Rattle.state.specs.TokenCalls.{FoundAt, IdentityGiven, IdentityAt, PrivilegesAt, Held, Marked, WordsChanged, Used}
 use Rattle.state.proofs.InPlace.{lent, back, in-slot, lent-row, no-token, words-changed, words-unchanged}
 

@@ -10,15 +10,16 @@ use Rattle.rules.specs.Valid.{valid}
 use Rattle.rules.specs.Index.{freedOne}
 use Rattle.rules.specs.State.{State, findHandle, dropHandle, setToken, released}
 use Rattle.handle.specs.declared.Handle.{Handle}
-use Rattle.state.specs.Parts.{TokensIn, StationsIn, HandlesIn}
+use Rattle.control.specs.Control.{ControlIn}
+use Rattle.state.specs.Parts.{TokensIn, HandlesIn}
 use Rattle.state.specs.Formed.{Formed}
 use Rattle.state.specs.HandleFacts.{changed}
 use Rattle.state.specs.declared.handles.Change.{Change}
 
--- all parts hold one state
+-- the parts that a request works on hold one state; it reads no pending bytes
 pub record PartsIn (σ : State) (hs : List Handle) (ss ts ds : List ℕ) : Type 0 where
   pub handles : HandlesIn σ hs
-  pub stations : StationsIn σ ss
+  pub control : ControlIn σ ss
   pub tokens : TokensIn σ ts ds
 
 pub record TokenFreed (token : ℕ) (hs : List Handle) (ss ts ds ts′ ds′ : List ℕ) : Type 0 where

@@ -7,10 +7,10 @@ use lib.ListN.{length}
 use Rattle.rules.specs.Memory.{sized, valid}
 use Rattle.handle.specs.Loaded.{loaded}
 use Rattle.handle.specs.declared.Handle.{Handle}
 use Rattle.valid.specs.Meaning.{memoryOf}
 
-pub record SizesTested (tokens dacls count stations pending : ℕ) (r : Bool) : Type 0 where
-  pub sizes : (ts ds ss ps : List ℕ) (hs : List Handle) → length ts ≡ tokens → length ds ≡ dacls → length hs ≡ count → length ss ≡ stations → length ps ≡ pending
+pub record SizesTested (tokens dacls count control pending : ℕ) (r : Bool) : Type 0 where
+  pub sizes : (ts ds ss ps : List ℕ) (hs : List Handle) → length ts ≡ tokens → length ds ≡ dacls → length hs ≡ count → length ss ≡ control → length ps ≡ pending
       → r ≡ sized (memoryOf ts ds hs ss ps)
 
 -- of every lent list with those handles; a valid one is the 32 handles themselves
