@@ -4,7 +4,7 @@ use native.Mathlib.Omega.{arith}
 use mathlib.Core.Path.{_≡_, refl, sym, ap, _∙_}
 use mathlib.Core.Bool.{Bool, true, false, not}
 use mathlib.Core.List.{List}
-use borrow.Author.Tests.{le-leb, lt-leb, lt-ltb, le-ltb}
+use borrow.Author.Tests.{le-leb, lt-leb, lt-ltb, le-ltb, not-true, not-false}
 use lib.ListN.{length, getD}
 use lib.Seq.{set-out}
 use mir.Syntax.{w8}
@@ -19,12 +19,12 @@ use Rattle.handle.specs.Meaning.{none}
 use Rattle.handle.specs.Loaded.{loaded}
 use Rattle.handle.specs.declared.Handle.{Handle}
 use Rattle.valid.specs.Meaning.{memoryOf}
+use Rattle.valid.specs.Tested.{ValidTested}
 use Rattle.state.specs.HandleFacts.{changed}
 use Rattle.broker.specs.Promise.{FeedsWith}
 use Rattle.broker.specs.Accepted.{quiet, Accepted}
-use Rattle.broker.specs.Tested.{ValidTested}
 use Rattle.broker.specs.declared.by_value.Turn.{Turn}
-use Rattle.broker.proofs.Parts.{passed, failed, tested-valid}
+use Rattle.broker.proofs.Parts.{tested-valid}
 use Rattle.broker.proofs.Freeing.{of-bytes, stays-valid, slot-freed}
 
 -- ---- by cases
@@ -74,7 +74,7 @@ module _ (s : ℕ) (chunk : List ℕ) (count : ℕ) (items : List Handle) (ts ds
 
     module _ (l : maxAnswer ≤ length out) (b : Bool) (t : ValidTested count items ts ds ss ps b) where
       pub feed-invalid : {u : Turn} → not b ≡ true → u ≡ quiet invalidMemory 0 count → FeedsWith s chunk count items ts ds ss ps out ts ds ss ps out u
-      feed-invalid f q = refuses invalidMemory q (λ hs k e. invalid (memoryOf ts ds hs ss ps) s chunk (length out) h l (sym (t .means hs k e) ∙ failed b f))
+      feed-invalid f q = refuses invalidMemory q (λ hs k e. invalid (memoryOf ts ds hs ss ps) s chunk (length out) h l (sym (t .means hs k e) ∙ not-true b f))
 
       -- the chunk is of bytes
       pub feeds-with : ((i : ℕ) → Fits w8 (getD chunk i 0)) → not b ≡ false → {ts′ ds′ ss′ ps′ out′ : List ℕ} {u : Turn} → Accepted s chunk items ts ds ss ps out ts′ ds′ ss′ ps′ out′ u
@@ -83,6 +83,6 @@ module _ (s : ℕ) (chunk : List ℕ) (count : ℕ) (items : List Handle) (ts ds
           let m = memoryOf ts ds items ss ps in
           let v : valid (memoryOf ts′ ds′ (changed items (u .change)) ss′ ps′) ≡ true = rw (a .fed .memory) (stays-valid m (tested-valid t f) s chunk h (of-bytes chunk (λ i. w i .fits))) in
           record {
-            fed = λ hs k e. rw (t .all (passed b f) hs k e, feeds m s chunk (length out) h l (tested-valid t f)) (a .fed);
-            clears = λ hs k e z. rw (t .all (passed b f) hs k e) (slot-freed ts′ ds′ items ss′ ps′ (u .change) v z);
+            fed = λ hs k e. rw (t .all (not-false b f) hs k e, feeds m s chunk (length out) h l (tested-valid t f)) (a .fed);
+            clears = λ hs k e z. rw (t .all (not-false b f) hs k e) (slot-freed ts′ ds′ items ss′ ps′ (u .change) v z);
           }

@@ -3,7 +3,7 @@ use Prim.Native.Nat.{ℕ, _≤_, _<_}
 use mathlib.Core.Path.{_≡_, sym, ap, _∙_}
 use mathlib.Core.Bool.{Bool, true, false, not}
 use mathlib.Core.List.{List}
-use borrow.Author.Tests.{le-leb, lt-leb}
+use borrow.Author.Tests.{le-leb, lt-leb, not-true, not-false}
 use Rattle.rules.specs.Refusal.{noStation, invalidMemory}
 use Rattle.rules.specs.Station.{cleared}
 use Rattle.rules.specs.State.{State, stationCount, withStations, changeStation}
@@ -13,10 +13,10 @@ use Rattle.rules.specs.Calls.{refusedOn, written, reconnectOn}
 use Rattle.handle.specs.declared.Handle.{Handle}
 use Rattle.state.specs.ReleaseFacts.{PartsIn}
 use Rattle.valid.specs.Meaning.{memoryOf}
+use Rattle.valid.specs.Tested.{ValidTested}
 use Rattle.broker.specs.Promise.{ReconnectsWith}
 use Rattle.broker.specs.Streams.{StreamDropped}
-use Rattle.broker.specs.Tested.{ValidTested}
-use Rattle.broker.proofs.Parts.{written-as, held-parts, held-pending, passed, failed}
+use Rattle.broker.proofs.Parts.{written-as, held-parts, held-pending}
 
 -- ---- by cases
 
@@ -49,7 +49,7 @@ module _ (s count : ℕ) (items : List Handle) (ts ds ss ps : List ℕ) where
     unfolding refusedOn
     reconnect-invalid f = record {
       reconnected = λ hs l e.
-          let d = invalid (memoryOf ts ds hs ss ps) s h (sym (t .means hs l e) ∙ failed b f) in
+          let d = invalid (memoryOf ts ds hs ss ps) s h (sym (t .means hs l e) ∙ not-true b f) in
           record { refusal = sym (ap (λ x. x .refusal) d); memory = sym (ap (λ x. x .memory) d) };
     }
 
@@ -58,7 +58,7 @@ module _ (s count : ℕ) (items : List Handle) (ts ds ss ps : List ℕ) where
     reconnects-with f {ss′} {ps′} d = record {
       reconnected = λ hs l e.
           let m : Memory = memoryOf ts ds hs ss ps in
-          let v : valid m ≡ true = sym (t .means hs l e) ∙ passed b f in
+          let v : valid m ≡ true = sym (t .means hs l e) ∙ not-false b f in
           let σ : State = decode m in
           let p : PartsIn σ hs ss ts ds = held-parts ts ds hs ss ps v in
           record {
@@ -67,7 +67,7 @@ module _ (s count : ℕ) (items : List Handle) (ts ds ss ps : List ℕ) where
                 written-as ts ds hs ss′ ps′ (changeStation s cleared σ)
                 (record {
                   handles = record { records = p .handles .records };
-                  stations = d .stations σ (p .stations);
+                  control = d .control σ (p .control);
                   tokens = record { words = p .tokens .words; bytes = p .tokens .bytes };
                 })
                 (d .pending σ (held-pending ts ds hs ss ps v))

@@ -15,12 +15,12 @@ use Rattle.rules.specs.Model.{Result, fedFrom}
 use Rattle.rules.specs.Calls.{written, buffer}
 use Rattle.handle.specs.Meaning.{none}
 use Rattle.handle.specs.declared.Handle.{Handle}
+use Rattle.control.specs.Stations.{StreamSet}
 use Rattle.state.specs.HandleFacts.{changed}
 use Rattle.state.specs.ReleaseFacts.{PartsIn}
-use Rattle.request.specs.Answer.{WroteFrame}
 use Rattle.valid.specs.Meaning.{memoryOf}
+use Rattle.answer.specs.Answer.{WroteFrame}
 use Rattle.broker.specs.Promise.{Feeds}
-use Rattle.broker.specs.Streams.{StreamSet}
 use Rattle.broker.specs.declared.Fed.{Fed}
 use Rattle.broker.specs.declared.by_value.Turn.{Turn}
 
@@ -31,7 +31,7 @@ quiet refusal used slots = record { fed = record { refusal = refusal; used = use
 -- a part of a frame stays pending
 pub record PartKept (station count used : ℕ) (ss ss′ : List ℕ) (r : Turn) : Type 0 where
   pub turn : r ≡ quiet 0 used handleSlots
-  pub stations : StreamSet station count false ss ss′
+  pub control : StreamSet station count false ss ss′
 
 -- the first count bytes of a row become zero
 abbrev pub zeroed : ℕ → List ℕ → List ℕ
@@ -40,7 +40,7 @@ zeroed count row = replicate count 0 ++ drop count row
 -- the stream breaks
 pub record BrokenOff (station count used : ℕ) (ss row out ss′ row′ out′ : List ℕ) (r : Turn) : Type 0 where
   pub turn : r ≡ record { fed = record { refusal = 0; used = used; answered = 2 }; change = record { slot = handleSlots; handle = none } }
-  pub stations : StreamSet station 0 true ss ss′
+  pub control : StreamSet station 0 true ss ss′
   pub emptied : row′ ≡ zeroed count row
   pub answer : out′ ≡ 1 ∷ streamBroken ∷ drop 2 out
 

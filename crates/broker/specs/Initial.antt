@@ -6,14 +6,11 @@ use lib.ListN.{replicate}
 use Rattle.rules.specs.State.{start, handleSlots}
 use Rattle.rules.specs.Memory.{encode}
 use Rattle.handle.specs.Meaning.{none}
-use Rattle.state.specs.Parts.{TokensIn, StationsIn}
+use Rattle.state.specs.Parts.{TokensIn}
 use Rattle.valid.specs.Meaning.{memoryOf}
 
 pub record FirstTokens (ts ds : List ℕ) : Type 0 where
   pub tokens : TokensIn start ts ds
-
-pub record FirstStations (ss : List ℕ) : Type 0 where
-  pub stations : StationsIn start ss
 
 -- with 32 free handles beside it
 pub record Begun (ts ds ss ps : List ℕ) : Type 0 where

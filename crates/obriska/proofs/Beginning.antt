@@ -1,5 +1,5 @@
 -- The memory that the program starts with. Assumes nothing.
-use Prim.Native.Nat.{ℕ, _+_, _*_}
+use Prim.Native.Nat.{ℕ, _*_}
 use native.Mathlib.Omega.{arith}
 use mathlib.Core.Path.{_≡_, ap, _∙_}
 use mathlib.Core.Bool.{true}
@@ -9,7 +9,7 @@ use borrow.Author.Tests.{eq-eqb}
 use Rattle.rules.specs.Token.{maxDacl}
 use Rattle.rules.specs.State.{start, tokenSlots, stationCount}
 use Rattle.rules.specs.Frame.{maxAnswer}
-use Rattle.rules.specs.Memory.{tokenWords, counterWords, stationWords, pendingBytes, sized, encode}
+use Rattle.rules.specs.Memory.{tokenWords, controlWords, pendingBytes, sized, encode}
 use Rattle.rules.specs.Calls.{startOn}
 use Rattle.rules.proofs.Logic.{and-i}
 use Rattle.rules.proofs.Memory.{start-written}
@@ -23,7 +23,7 @@ use Rattle.obriska.specs.Serving.{bufferBytes, Ready}
 
 module _ (ts ds ss ps ts′ ds′ ss′ ps′ : List ℕ) (r : Handles) (f : Starts ts ds ss ps ts′ ds′ ss′ ps′ r)
     (lt : length ts ≡ tokenSlots * tokenWords) (ld : length ds ≡ tokenSlots * maxDacl)
-    (ls : length ss ≡ counterWords + stationCount * stationWords) (lp : length ps ≡ stationCount * pendingBytes) where
+    (ls : length ss ≡ controlWords) (lp : length ps ≡ stationCount * pendingBytes) where
   fits : sized (memoryOf ts ds (recordsIn (r .words)) ss ps) ≡ true
   unfolding sized
   fits = and-i (and-i (and-i (and-i (eq-eqb _ _ lt) (eq-eqb _ _ ld)) (eq-eqb _ _ (ap (λ (hs : List Handle). length (map handleOf hs)) (f .handles)))) (eq-eqb _ _ ls)) (eq-eqb _ _ lp)

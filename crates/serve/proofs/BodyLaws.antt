@@ -11,12 +11,12 @@ use Rattle.number.specs.Rest.{Rest, rest, lost, readFrom}
 use Rattle.number.specs.Meaning.{restOf}
 use Rattle.number.specs.declared.cursor.Field.{Field}
 use Rattle.handle.specs.declared.Handle.{Handle}
-use Rattle.request.specs.declared.answer.Answer.the-variants as answers
-use Rattle.request.specs.declared.outcome.Outcome.{Outcome}
-use Rattle.request.specs.Answer.{answerOf, Fit, WroteFrame}
-use Rattle.request.specs.Carried.{Ends}
-use Rattle.request.specs.Layout.{Begun}
-use Rattle.request.proofs.ClassBodies.{Apart, above}
+use Rattle.answer.specs.declared.Answer.the-variants as answers
+use Rattle.answer.specs.Answer.{answerOf, Fit, WroteFrame}
+use Rattle.answer.proofs.Classes.{Apart, above}
+use Rattle.body.specs.Layout.{Begun}
+use Rattle.decide.specs.declared.outcome.Outcome.{Outcome}
+use Rattle.decide.specs.Carried.{Ends}
 use Rattle.serve.specs.Served.{Held, LayoutCarried, BodyCarried, BodyServed}
 use Rattle.serve.proofs.LayoutLaws.{malformed, read-alike}
 

@@ -17,14 +17,14 @@ use Rattle.number.specs.Rest.{readFrom}
 use Rattle.number.specs.Meaning.{restOf}
 use Rattle.number.specs.declared.cursor.Cursor.{Cursor}
 use Rattle.handle.specs.declared.Handle.{Handle}
-use Rattle.request.specs.declared.answer.Answer.the-variants as answers
-use Rattle.request.specs.declared.outcome.Outcome.{Outcome}
-use Rattle.request.specs.Carried.{Ends, Carried}
-use Rattle.request.specs.Layout.{whole, valuesAt, There, NumberRead, Listed, EntriesRead, RestrictRead}
-use Rattle.request.specs.Adjusts.{EntriesCarried}
-use Rattle.request.specs.Creates.{CreateCarried}
-use Rattle.request.specs.Restricts.{RestrictCarried}
-use Rattle.request.proofs.Deciding.{refuses}
+use Rattle.answer.specs.declared.Answer.the-variants as answers
+use Rattle.body.specs.Layout.{whole, valuesAt, There, NumberRead, Listed, EntriesRead, RestrictRead}
+use Rattle.decide.specs.declared.outcome.Outcome.{Outcome}
+use Rattle.decide.specs.Carried.{Ends, Carried}
+use Rattle.decide.proofs.Deciding.{refuses}
+use Rattle.create.specs.Create.{CreateCarried}
+use Rattle.adjust.specs.EntriesCarried.{EntriesCarried}
+use Rattle.copy.specs.Restrict.{RestrictCarried}
 use Rattle.serve.specs.Served.{LayoutCarried}
 
 module _ (station : ℕ) {hs : List Handle} {ss ts ds : List ℕ} (r : Outcome) where

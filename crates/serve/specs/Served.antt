@@ -13,9 +13,9 @@ use Rattle.number.specs.declared.cursor.Cursor.{Cursor}
 use Rattle.handle.specs.declared.Handle.{Handle}
 use Rattle.state.specs.HandleFacts.{changed}
 use Rattle.state.specs.ReleaseFacts.{PartsIn}
-use Rattle.request.specs.Answer.{WroteFrame}
-use Rattle.request.specs.Carried.{Carried}
-use Rattle.request.specs.declared.outcome.Outcome.{Outcome}
+use Rattle.answer.specs.Answer.{WroteFrame}
+use Rattle.decide.specs.Carried.{Carried}
+use Rattle.decide.specs.declared.outcome.Outcome.{Outcome}
 use Rattle.serve.specs.declared.Reply.{Reply}
 
 -- the parts hold a valid state

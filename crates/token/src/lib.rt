@@ -1,4 +1,5 @@
 // Tokens in lent memory: a token's row, which requests read and change in place, and the slots of all tokens.
+pub mod attributes;
 pub mod layout;
 pub mod row;
 pub mod slots;

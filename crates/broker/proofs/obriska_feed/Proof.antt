@@ -184,7 +184,7 @@ module _ {M : Type 1} (𝓤 : URA M) (H : Heap 𝓤) (A : Atoms 𝓤) (W : Given
       qed W (‵ (finally R γ zs) ∷ ‵ (chain (flft κ₄ q₄ ∷ [])) ∷ ‵ (chain Theirs) ∷ ‵ OwnC ∷ items (Lasts az ts ds ss ps) []) ∵
       suffices ! _ (ends-at 𝓤 H A feed.ended stayed (feed.clauses 𝓤 H A at-mem run) W bound (fed r) r (tt, (tt, (az, (ts, (ds, (zs, (ss, (ps, tt)))))))) (tt, (tt, (la, (lt, (ld, (lh, (ls, (lp, tt))))))))) $ says ! e $
       number-had W ! w32 st gst $ move ! (2 ∷ []) $ unchain W (flft κ₄ q₄ ∷ []) $ move ! (3 ∷ []) $ unchain W Theirs $
-      -- [κ₀; κ₁; κ₂; κ₃; κ₅; κ₆; κ₄; station's; handles'; chunk's; answer's; tokens'; dacls'; stations'; pending's]
+      -- [κ₀; κ₁; κ₂; κ₃; κ₅; κ₆; κ₄; station's; handles'; chunk's; answer's; tokens'; dacls'; control's; pending's]
       move ! (0 ∷ 1 ∷ 2 ∷ 3 ∷ 6 ∷ 4 ∷ 5 ∷ 7 ∷ 9 ∷ 10 ∷ 11 ∷ 12 ∷ 8 ∷ []) $ rechain W Toks $ frame ! $
       rechain W (Own ∷ OwnC ∷ finally u8 (a .name) az ∷ finally u64 (t .name) ts ∷ finally u8 (d .name) ds ∷ finally R γ zs ∷ finally u64 (s .name) ss ∷ finally u8 (p .name) ps ∷ []) $ frame ! $
       had W ! F.the-type F′.the-laws F′.the-plain r g $ done !
@@ -259,7 +259,7 @@ module _ {M : Type 1} (𝓤 : URA M) (H : Heap 𝓤) (A : Atoms 𝓤) (W : Given
           -- the chunk is Copy: one copy of what it owns is kept for the exit
           move ! (65 ∷ []) $ use1 W (‵ OwnC ⊛ ‵ OwnC) (shr-slice-copy 𝓤 H A W (named 0) κ₀ u8 .twice c (sv c ∷ [])) $ split ! $
           had W ! S.the-type S′.the-laws S′.the-plain hs g $ number-had W ! w64 (length ys) (gh .0) $
-          -- [the count's; the list's; chunk's twice; the locals; handles'; κ₄; station's; answer's; tokens'; dacls'; stations'; pending's; the tokens]
+          -- [the count's; the list's; chunk's twice; the locals; handles'; κ₄; station's; answer's; tokens'; dacls'; control's; pending's; the tokens]
           move ! (74 ∷ 75 ∷ 76 ∷ 77 ∷ 78 ∷ 79 ∷ 68 ∷ 2 ∷ 69 ∷ 70 ∷ 71 ∷ 0 ∷ 1 ∷ 72 ∷ 73 ∷ []) $ hands W Theirs (Handed hs) $
           -- [what by_value::feed asks; chunk's; the locals, local k at 2 k + 2; handles'; κ₄]
           calls-at ! (fmOf 𝓤 H (W .laws) 𝓣) (ByValue 𝓤 H A at-mem run) known-by-value (to-by-value hs)
@@ -267,7 +267,7 @@ module _ {M : Type 1} (𝓤 : URA M) (H : Heap 𝓤) (A : Atoms 𝓤) (W : Given
           returned ! tt B.the-row (‵ (chain Theirs)) _ (λ ws. lasts by-value.ended (κ₀, (κ₁, (κ₂, (κ₃, (κ₅, (κ₆, tt)))))) (st, (c, (a, (t, (d, (length ys, (hs, (s, (p, tt))))))))) ws)
           (λ r ws. FeedsWith st (c .now) (length ys) (recordsIn (hs .words)) (t .now) (d .now) (s .now) (p .now) (a .now) (ws .1 .1 .1 .0) (ws .1 .1 .1 .1 .0) (ws .1 .1 .1 .1 .1 .1 .1 .0) (ws .1 .1 .1 .1 .1 .1 .1 .1 .0) (ws .1 .1 .0) r) u (λ r ws is e.
           fsplit ! $ drop ! $ fsplit ! $ drop ! $ lasting ! (λ la. lasting ! (λ lt. lasting ! (λ ld. fsplit ! $ drop ! $ fsplit ! $ drop ! $ lasting ! (λ ls. lasting ! (λ lp. drop ! $
-          -- [pending's; stations'; dacls'; tokens'; answer's; the tokens; chunk's; the locals, local k at 2 k + 7; handles'; κ₄]
+          -- [pending's; control's; dacls'; tokens'; answer's; the tokens; chunk's; the locals, local k at 2 k + 7; handles'; κ₄]
           lands ! (init ! 29 refl (held B.the-type B′.the-laws W r u is)) $ rewrite ! 29 (λ (v : Val). ‵ (fat fullShare B′.mir l₁₁ 0 v)) (spelled B.the-type B′.the-laws r u is) refl $
           forget ! 25 refl $ forget ! 27 refl $ forget ! 35 refl $ forget ! 37 refl $ forget ! 39 refl $ forget ! 41 refl $ forget ! 43 refl $ forget ! 45 refl $ forget ! 47 refl $ forget ! 49 refl $ forget ! 51 refl $ forget ! 53 refl $
           move ! (7 ∷ 8 ∷ 9 ∷ 10 ∷ 11 ∷ 12 ∷ 13 ∷ 14 ∷ 15 ∷ 16 ∷ 17 ∷ 18 ∷ 19 ∷ 20 ∷ 21 ∷ 22 ∷ 23 ∷ 24 ∷ 25 ∷ 26 ∷ 27 ∷ 28 ∷ 29 ∷ 30 ∷ 31 ∷ 32 ∷ 33 ∷ 34 ∷ 35 ∷ 36 ∷ 37 ∷ 38 ∷ 39 ∷ 40 ∷ 41 ∷ 42 ∷ 43 ∷ 44 ∷ 45 ∷ 46 ∷ 47 ∷ 48 ∷ 49 ∷ 50 ∷ 51 ∷ 52 ∷ 53 ∷ 54 ∷ 55 ∷ 56 ∷ 57 ∷ 58 ∷ 59 ∷ 60 ∷ 61 ∷ 62 ∷ 63 ∷ 64 ∷ 65 ∷ 66 ∷ 67 ∷ 68 ∷ 70 ∷ 69 ∷ 5 ∷ 6 ∷ 4 ∷ 3 ∷ 2 ∷ 1 ∷ 0 ∷ []) $

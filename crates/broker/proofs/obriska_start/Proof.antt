@@ -118,7 +118,7 @@ module _ {M : Type 1} (𝓤 : URA M) (H : Heap 𝓤) (A : Atoms 𝓤) (W : Given
       qed W (‵ (finally R (h .name) zs) ∷ ‵ (chain (flft κ₂ q₂ ∷ [])) ∷ ‵ (chain Theirs) ∷ items (Lasts ts ds ss ps) []) ∵
       suffices ! _ (ends-at 𝓤 H A start.ended stayed (start.clauses 𝓤 H A at-mem run) W bound (vint w32 r) r (ts, (ds, (zs, (ss, (ps, tt))))) (lt, (ld, (lh, (ls, (lp, tt)))))) $ says ! e $
       move ! (1 ∷ []) $ unchain W (flft κ₂ q₂ ∷ []) $ move ! (2 ∷ []) $ unchain W Theirs $
-      -- [κ₀; κ₁; κ₃; κ₄; κ₂; handles'; tokens'; dacls'; stations'; pending's]
+      -- [κ₀; κ₁; κ₃; κ₄; κ₂; handles'; tokens'; dacls'; control's; pending's]
       move ! (0 ∷ 1 ∷ 4 ∷ 2 ∷ 3 ∷ 6 ∷ 7 ∷ 5 ∷ 8 ∷ 9 ∷ []) $ rechain W Toks $ frame ! $ rechain W (finally u64 (t .name) ts ∷ finally u8 (d .name) ds ∷ finally R (h .name) zs ∷ finally u64 (s .name) ss ∷ finally u8 (p .name) ps ∷ []) $ frame ! $
       number-had W ! w32 r gr $ done !
 
@@ -165,7 +165,7 @@ module _ {M : Type 1} (𝓤 : URA M) (H : Heap 𝓤) (A : Atoms 𝓤) (W : Given
           returned ! tt B.the-row (‵ (chain Theirs)) _ (λ ws. lasts by-value.ended (κ₀, (κ₁, (κ₃, (κ₄, tt)))) (t, (d, (length (h .now), (s, (p, tt))))) ws)
           (λ r ws. StartsWith (length (h .now)) (t .now) (d .now) (s .now) (p .now) (ws .0) (ws .1 .0) (ws .1 .1 .1 .0) (ws .1 .1 .1 .1 .0) r) u (λ r ws is e.
           lasting ! (λ lt. lasting ! (λ ld. fsplit ! $ drop ! $ lasting ! (λ ls. lasting ! (λ lp. drop ! $
-          -- [pending's; stations'; dacls'; tokens'; the tokens; the locals, local k at 2 k + 5; handles'; κ₂]
+          -- [pending's; control's; dacls'; tokens'; the tokens; the locals, local k at 2 k + 5; handles'; κ₂]
           lands ! (init ! 17 refl (held B.the-type B′.the-laws W r u is)) $ rewrite ! 17 (λ (v : Val). ‵ (fat fullShare B′.mir l₆ 0 v)) (spelled B.the-type B′.the-laws r u is) refl $
           forget ! 19 refl $ forget ! 21 refl $ forget ! 23 refl $ forget ! 25 refl $ forget ! 27 refl $ forget ! 29 refl $ forget ! 31 refl $ forget ! 33 refl $ forget ! 35 refl $
           move ! (5 ∷ 6 ∷ 7 ∷ 8 ∷ 9 ∷ 10 ∷ 11 ∷ 12 ∷ 13 ∷ 14 ∷ 15 ∷ 16 ∷ 17 ∷ 18 ∷ 19 ∷ 20 ∷ 21 ∷ 22 ∷ 23 ∷ 24 ∷ 25 ∷ 26 ∷ 27 ∷ 28 ∷ 29 ∷ 30 ∷ 31 ∷ 32 ∷ 33 ∷ 34 ∷ 35 ∷ 36 ∷ 37 ∷ 38 ∷ 39 ∷ 40 ∷ 41 ∷ 42 ∷ 44 ∷ 43 ∷ 4 ∷ 3 ∷ 2 ∷ 1 ∷ 0 ∷ []) $

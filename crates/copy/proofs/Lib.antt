@@ -1,0 +1,4 @@
+pub mod Copies
+pub mod RestrictedRow
+pub mod RestrictLists
+pub mod RestrictEnding

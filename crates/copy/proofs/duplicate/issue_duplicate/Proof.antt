@@ -1,0 +1,25 @@
+-- By the type and level asked for. Assumes nothing.
+use borrow.Author.Needs.{needs}
+use Rattle.copy.proofs.Copies.{to-primary, to-anonymous, to-impersonation}
+use Rattle.copy.proofs.duplicate.issue_duplicate.Statement.{statement}
+use Rattle.copy.proofs.duplicate.issue_duplicate.Tie as tie
+
+pub issue-duplicate-spec : {M : Type 1} → statement M
+issue-duplicate-spec =
+    tie.close
+    (tie.spec
+    (λ c κs. search needs)
+    (λ c. search needs)
+    (λ c. search needs)
+    (λ c. search needs)
+    (λ c. search (needs, to-anonymous))
+    (λ c κs. search needs)
+    (λ c. search needs)
+    (λ c. search needs)
+    (λ c. search needs)
+    (λ c. search (needs, to-primary))
+    (λ c κs. search needs)
+    (λ c. search needs)
+    (λ c. search needs)
+    (λ c. search needs)
+    (λ c. search (needs, to-impersonation)))
