@@ -3,7 +3,7 @@ use borrow.Author.Needs.{needs}
 use borrow.Author.Tests.{not-false}
 use Rattle.decide.proofs.Issuing.{numbers-left}
 use Rattle.decide.proofs.Locating.{located}
-use Rattle.copy.proofs.Copies.{duplicate-unknown, duplicate-bad, duplicate-full, duplicates}
+use Rattle.copy.proofs.DuplicateEnding.{duplicate-unknown, duplicate-bad, duplicate-full, duplicates}
 use Rattle.copy.proofs.duplicate.duplicate.Statement.{statement}
 use Rattle.copy.proofs.duplicate.duplicate.Tie as tie
 

@@ -1,6 +1,6 @@
 -- By the type and level asked for. Assumes nothing.
 use borrow.Author.Needs.{needs}
-use Rattle.copy.proofs.Copies.{to-primary, to-anonymous, to-impersonation}
+use Rattle.copy.proofs.DuplicateEnding.{to-primary, to-anonymous, to-impersonation}
 use Rattle.copy.proofs.duplicate.issue_duplicate.Statement.{statement}
 use Rattle.copy.proofs.duplicate.issue_duplicate.Tie as tie
 
