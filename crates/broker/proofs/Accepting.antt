@@ -55,8 +55,8 @@ pub cleared-valid : (σ : State) (s : ℕ) → valid σ ≡ true → valid (chan
 unfolding stationToken cleared withPending streamValid all isPart framed framedBy lengthOf implies isEmpty
 cleared-valid σ s v = facts-valid (changeStation s cleared σ) (stream-facts σ s cleared (λ x. refl) (λ x m. refl) (valid-facts σ v))
 
-parts-set : {s n : ℕ} {b : Bool} {hs : List Handle} {ss ts ds ss′ : List ℕ} → StreamSet s n b ss ss′ → (σ : State) (f : Station → Station)
-    → ((x : Station) → stationRow (f x) ≡ streamRow n b (stationRow x)) → PartsIn σ hs ss ts ds → PartsIn (changeStation s f σ) hs ss′ ts ds
+parts-set : {s n : ℕ} {b : Bool} {hs : List Handle} {cs ts ds cs′ : List ℕ} → StreamSet s n b cs cs′ → (σ : State) (f : Station → Station)
+    → ((x : Station) → stationRow (f x) ≡ streamRow n b (stationRow x)) → PartsIn σ hs cs ts ds → PartsIn (changeStation s f σ) hs cs′ ts ds
 unfolding changeStation withStations
 parts-set w σ f q p = record {
   handles = record { records = p .handles .records };
@@ -64,18 +64,18 @@ parts-set w σ f q p = record {
   tokens = record { words = p .tokens .words; bytes = p .tokens .bytes };
 }
 
-parts-cleared : {s : ℕ} {hs : List Handle} {ss ts ds ss′ : List ℕ} → StreamSet s 0 false ss ss′ → (σ : State) → PartsIn σ hs ss ts ds → PartsIn (changeStation s cleared σ) hs ss′ ts ds
+parts-cleared : {s : ℕ} {hs : List Handle} {cs ts ds cs′ : List ℕ} → StreamSet s 0 false cs cs′ → (σ : State) → PartsIn σ hs cs ts ds → PartsIn (changeStation s cleared σ) hs cs′ ts ds
 unfolding stationRow cleared withPending
 parts-cleared w σ p = parts-set w σ cleared (λ x. refl) p
 
-pub held-cleared : {s : ℕ} {hs : List Handle} {ss ts ds ss′ : List ℕ} → StreamSet s 0 false ss ss′ → Held hs ss ts ds → Held hs ss′ ts ds
+pub held-cleared : {s : ℕ} {hs : List Handle} {cs ts ds cs′ : List ℕ} → StreamSet s 0 false cs cs′ → Held hs cs ts ds → Held hs cs′ ts ds
 held-cleared {s} w k = record { state = changeStation s cleared (k .state); isValid = cleared-valid (k .state) s (k .isValid); parts = parts-cleared w (k .state) (k .parts) }
 
 -- ---- a frame's body is served
 
-pub frame-served : (s start count used : ℕ) (hs : List Handle) {ss ts ds row out ss₁ ss′ ts′ ds′ row′ out′ : List ℕ} (r : Reply) → StreamSet s 0 false ss ss₁
-    → BodyServed s (take (count - start) (drop start row)) hs ss₁ ts ds ss′ ts′ ds′ out out′ r → row′ ≡ zeroed count row
-    → FrameServed s start count used hs ss ts ds row out ss′ ts′ ds′ row′ out′ (record { fed = record { refusal = 0; used = used; answered = r .written }; change = r .change })
+pub frame-served : (s start count used : ℕ) (hs : List Handle) {cs ts ds row out cs₁ cs′ ts′ ds′ row′ out′ : List ℕ} (r : Reply) → StreamSet s 0 false cs cs₁
+    → BodyServed s (take (count - start) (drop start row)) hs cs₁ ts ds cs′ ts′ ds′ out out′ r → row′ ≡ zeroed count row
+    → FrameServed s start count used hs cs ts ds row out cs′ ts′ ds′ row′ out′ (record { fed = record { refusal = 0; used = used; answered = r .written }; change = r .change })
 frame-served s start count used hs r w b e = record {
   refusal = refl;
   used = refl;
@@ -86,8 +86,8 @@ frame-served s start count used hs r w b e = record {
 
 -- ---- the stream breaks
 
-pub broken-off : (s count used n : ℕ) {ss row out ss′ row′ out′ : List ℕ} → row′ ≡ zeroed count row → StreamSet s 0 true ss ss′ → WroteFrame (streamBroken ∷ []) out out′ n
-    → BrokenOff s count used ss row out ss′ row′ out′ (record { fed = record { refusal = 0; used = used; answered = n }; change = record { slot = handleSlots; handle = none } })
+pub broken-off : (s count used n : ℕ) {cs row out cs′ row′ out′ : List ℕ} → row′ ≡ zeroed count row → StreamSet s 0 true cs cs′ → WroteFrame (streamBroken ∷ []) out out′ n
+    → BrokenOff s count used cs row out cs′ row′ out′ (record { fed = record { refusal = 0; used = used; answered = n }; change = record { slot = handleSlots; handle = none } })
 unfolding frame encode encodeIn lowFirst
 broken-off s count used n e w a = record {
   turn = ap (λ (k : ℕ). record { fed = record { refusal = 0; used = used; answered = k }; change = record { slot = handleSlots; handle = none } }) (a .size);
@@ -107,7 +107,7 @@ module _ (σ : State) (v : valid σ ≡ true) where
       set-out hs handleSlots none
       (omega (arith, length-map hs handleOf, ap length (i .records), length-map (σ .handles .slots) slotHandle, valid-facts σ v .loose .handles .sized))
 
-  parts-kept : {hs : List Handle} {ss ts ds : List ℕ} → PartsIn σ hs ss ts ds → PartsIn σ (set hs handleSlots none) ss ts ds
+  parts-kept : {hs : List Handle} {cs ts ds : List ℕ} → PartsIn σ hs cs ts ds → PartsIn σ (set hs handleSlots none) cs ts ds
   parts-kept p = rw (none-changed (p .handles)) p
 
   module _ (s : ℕ) (h : s < stationCount) where
@@ -134,11 +134,11 @@ module _ (σ : State) (v : valid σ ≡ true) where
 
 -- ---- what join asks
 
-module _ {s : ℕ} {hs : List Handle} {ss ts ds row : List ℕ} (k : RowHeld s hs ss ts ds row) where
-  pub held-row : Held hs ss ts ds
+module _ {s : ℕ} {hs : List Handle} {cs ts ds row : List ℕ} (k : RowHeld s hs cs ts ds row) where
+  pub held-row : Held hs cs ts ds
   held-row = record { state = k .state; isValid = k .isValid; parts = k .parts }
 
-  pub count-short : (g : Stream) → s < stationCount → StreamGiven s ss g → g .count < pendingBytes
+  pub count-short : (g : Stream) → s < stationCount → StreamGiven s cs g → g .count < pendingBytes
   count-short g h i = rw (i .count (k .state) (k .parts .control)) (short (k .state) (k .isValid) s h)
 
 -- what the joined bytes are asked for
@@ -152,9 +152,9 @@ module _ {chunk row row₁ : List ℕ} {n : ℕ} {r : Stopped} (j : Joined chunk
 
 -- ---- a chunk
 
-module _ (s : ℕ) (chunk : List ℕ) {hs : List Handle} {ss ts ds row : List ℕ} (g : Stream) (h : s < stationCount) (i : StreamGiven s ss g) where
+module _ (s : ℕ) (chunk : List ℕ) {hs : List Handle} {cs ts ds row : List ℕ} (g : Stream) (h : s < stationCount) (i : StreamGiven s cs g) where
   -- the stream is broken
-  pub chunk-eaten : {out : List ℕ} {u : Turn} → g .broken ≡ true → u ≡ quiet 0 (length chunk) handleSlots → RowFed s chunk hs ss ts ds row out ss ts ds row out u
+  pub chunk-eaten : {out : List ℕ} {u : Turn} → g .broken ≡ true → u ≡ quiet 0 (length chunk) handleSlots → RowFed s chunk hs cs ts ds row out cs ts ds row out u
   unfolding buffer
   chunk-eaten b q = record {
     fed = λ σ v p e. rw (stream-eaten σ s chunk (sym (i .broken σ (p .control)) ∙ b), q) (record {
@@ -168,7 +168,7 @@ module _ (s : ℕ) (chunk : List ℕ) {hs : List Handle} {ss ts ds row : List �
   }
 
   module _ (intact : g .broken ≡ false) {row₁ : List ℕ} (r : Stopped) (j : Joined chunk row (g .count) row₁ r) (l : length row₁ ≡ length row) where
-    module _ (σ : State) (v : valid σ ≡ true) (p : PartsIn σ hs ss ts ds) (e : row ≡ pendingRow (stationAt σ s)) where
+    module _ (σ : State) (v : valid σ ≡ true) (p : PartsIn σ hs cs ts ds) (e : row ≡ pendingRow (stationAt σ s)) where
       unbroken : stationAt σ s .isBroken ≡ false
       unbroken = sym (i .broken σ (p .control)) ∙ intact
 
@@ -195,8 +195,8 @@ module _ (s : ℕ) (chunk : List ℕ) {hs : List Handle} {ss ts ds row : List �
       zeroed-row : zeroed (r .count) row₁ ≡ replicate pendingBytes 0
       zeroed-row = row-zeroed (stationAt σ s .pending) (stopAt σ s chunk .joined) row₁ (r .count) (joined-longer (stationAt σ s .pending) chunk) joined-count (j .fits) after
 
-    pub chunk-joins : r .what ≡ code.Part → {ss′ out : List ℕ} {u : Turn} → PartKept s (r .count) (r .used) ss ss′ u
-        → RowFed s chunk hs ss ts ds row out ss′ ts ds row₁ out u
+    pub chunk-joins : r .what ≡ code.Part → {cs′ out : List ℕ} {u : Turn} → PartKept s (r .count) (r .used) cs cs′ u
+        → RowFed s chunk hs cs ts ds row out cs′ ts ds row₁ out u
     unfolding buffer stationRow pendingRow withPending
     chunk-joins q w = record {
       fed = λ σ v p e.
@@ -213,8 +213,8 @@ module _ (s : ℕ) (chunk : List ℕ) {hs : List Handle} {ss ts ds row : List �
           });
     }
 
-    pub chunk-breaks : r .what ≡ code.Broken → {out ss′ row′ out′ : List ℕ} {u : Turn} → BrokenOff s (r .count) (r .used) ss row₁ out ss′ row′ out′ u
-        → RowFed s chunk hs ss ts ds row out ss′ ts ds row′ out′ u
+    pub chunk-breaks : r .what ≡ code.Broken → {out cs′ row′ out′ : List ℕ} {u : Turn} → BrokenOff s (r .count) (r .used) cs row₁ out cs′ row′ out′ u
+        → RowFed s chunk hs cs ts ds row out cs′ ts ds row′ out′ u
     unfolding buffer frame encode encodeIn lowFirst stationRow brokenOff
     chunk-breaks q w = record {
       fed = λ σ v p e.
@@ -231,9 +231,9 @@ module _ (s : ℕ) (chunk : List ℕ) {hs : List Handle} {ss ts ds row : List �
           });
     }
 
-    pub chunk-serves : (start : ℕ) → r .what ≡ code.Whole start → {out ss′ ts′ ds′ row′ out′ : List ℕ} {u : Turn}
-        → FrameServed s start (r .count) (r .used) hs ss ts ds row₁ out ss′ ts′ ds′ row′ out′ u
-        → RowFed s chunk hs ss ts ds row out ss′ ts′ ds′ row′ out′ u
+    pub chunk-serves : (start : ℕ) → r .what ≡ code.Whole start → {out cs′ ts′ ds′ row′ out′ : List ℕ} {u : Turn}
+        → FrameServed s start (r .count) (r .used) hs cs ts ds row₁ out cs′ ts′ ds′ row′ out′ u
+        → RowFed s chunk hs cs ts ds row out cs′ ts′ ds′ row′ out′ u
     unfolding buffer cleared withPending
     chunk-serves start q w = record {
       fed = λ σ v p e.
@@ -254,34 +254,34 @@ module _ (s : ℕ) (chunk : List ℕ) {hs : List Handle} {ss ts ds row : List �
 
 -- ---- valid memory
 
-module _ (s : ℕ) (chunk : List ℕ) (hs : List Handle) (ts ds ss ps : List ℕ) (h : s < stationCount) (v : Memory.valid (memoryOf ts ds hs ss ps) ≡ true) where
+module _ (s : ℕ) (chunk : List ℕ) (hs : List Handle) (ts ds cs ps : List ℕ) (h : s < stationCount) (v : Memory.valid (memoryOf ts ds hs cs ps) ≡ true) where
   abbrev held : State
-  held = decode (memoryOf ts ds hs ss ps)
+  held = decode (memoryOf ts ds hs cs ps)
 
   abbrev lent : List ℕ
   lent = take (s * pendingBytes + pendingBytes - s * pendingBytes) (drop (s * pendingBytes) ps)
 
   state-valid : valid held ≡ true
-  state-valid = valid-state (memoryOf ts ds hs ss ps) v
+  state-valid = valid-state (memoryOf ts ds hs cs ps) v
 
   lent-row : lent ≡ pendingRow (stationAt held s)
   unfolding stationAt
   lent-row =
       part-at pendingBytes s ps
-      ∙ ap (record-at pendingBytes s) (held-pending ts ds hs ss ps v .rows)
+      ∙ ap (record-at pendingBytes s) (held-pending ts ds hs cs ps v .rows)
       ∙ record-flat pendingRow pendingBytes length-pendingRow s (held .stations) startStation (inside held state-valid s h)
 
   pub lent-long : length lent ≡ pendingBytes
   lent-long = ap length lent-row ∙ length-pendingRow (stationAt held s)
 
-  pub row-held : RowHeld s hs ss ts ds lent
-  row-held = record { state = held; isValid = state-valid; parts = held-parts ts ds hs ss ps v; pending = lent-row }
+  pub row-held : RowHeld s hs cs ts ds lent
+  row-held = record { state = held; isValid = state-valid; parts = held-parts ts ds hs cs ps v; pending = lent-row }
 
-  pub accepts : {out ss′ ts′ ds′ row′ out′ : List ℕ} {u : Turn} → RowFed s chunk hs ss ts ds lent out ss′ ts′ ds′ row′ out′ u
-      → Accepted s chunk hs ts ds ss ps out ts′ ds′ ss′ (take (s * pendingBytes) ps ++ (row′ ++ drop (s * pendingBytes + pendingBytes - s * pendingBytes) (drop (s * pendingBytes) ps))) out′ u
+  pub accepts : {out cs′ ts′ ds′ row′ out′ : List ℕ} {u : Turn} → RowFed s chunk hs cs ts ds lent out cs′ ts′ ds′ row′ out′ u
+      → Accepted s chunk hs ts ds cs ps out ts′ ds′ cs′ (take (s * pendingBytes) ps ++ (row′ ++ drop (s * pendingBytes + pendingBytes - s * pendingBytes) (drop (s * pendingBytes) ps))) out′ u
   unfolding written
-  accepts {out} {ss′} {ts′} {ds′} {row′} {out′} {u} r =
-      let f = r .fed held state-valid (held-parts ts ds hs ss ps v) lent-row in
+  accepts {out} {cs′} {ts′} {ds′} {row′} {out′} {u} r =
+      let f = r .fed held state-valid (held-parts ts ds hs cs ps v) lent-row in
       record {
         fed = record {
           refusal = f .refusal;
@@ -289,7 +289,7 @@ module _ (s : ℕ) (chunk : List ℕ) (hs : List Handle) (ts ds ss ps : List ℕ
           answered = f .answered;
           answer = f .answer;
           memory =
-              written-as ts′ ds′ (changed hs (u .change)) ss′ _ (fedFrom 0 s chunk held .after) (f .parts)
-              (record { rows = put-lent pendingBytes s ps refl ∙ ap (put-record pendingBytes s row′) (held-pending ts ds hs ss ps v .rows) ∙ f .pending });
+              written-as ts′ ds′ (changed hs (u .change)) cs′ _ (fedFrom 0 s chunk held .after) (f .parts)
+              (record { rows = put-lent pendingBytes s ps refl ∙ ap (put-record pendingBytes s row′) (held-pending ts ds hs cs ps v .rows) ∙ f .pending });
         };
       }

@@ -25,11 +25,11 @@ cleared-row : (s : ℕ) (ps : List ℕ) {row : List ℕ} → row ≡ replicate p
 unfolding record-at
 cleared-row s ps e = e ∙ ap (λ (ws : List ℕ). replicate pendingBytes 0 ++ ws) (drop-of-length-le (take pendingBytes (drop (s * pendingBytes) ps)) {i = pendingBytes} (simp length-take (omega arith))) ∙ append-nil (replicate pendingBytes 0)
 
-pub stream-dropped : (s : ℕ) (ss ps ss′ row : List ℕ) → s < stationCount → length ps ≡ stationCount * pendingBytes → StreamSet s 0 false ss ss′
+pub stream-dropped : (s : ℕ) (cs ps cs′ row : List ℕ) → s < stationCount → length ps ≡ stationCount * pendingBytes → StreamSet s 0 false cs cs′
     → row ≡ replicate pendingBytes 0 ++ drop pendingBytes (take (s * pendingBytes + pendingBytes - s * pendingBytes) (drop (s * pendingBytes) ps))
-    → StreamDropped s ss ps ss′ (take (s * pendingBytes) ps ++ (row ++ drop (s * pendingBytes + pendingBytes - s * pendingBytes) (drop (s * pendingBytes) ps)))
+    → StreamDropped s cs ps cs′ (take (s * pendingBytes) ps ++ (row ++ drop (s * pendingBytes + pendingBytes - s * pendingBytes) (drop (s * pendingBytes) ps)))
 unfolding stationRow cleared withPending
-stream-dropped s ss ps ss′ row h l w e = record {
+stream-dropped s cs ps cs′ row h l w e = record {
   control = λ σ i. w .control σ cleared (λ x. refl) i;
   pending = λ σ i. record {
     rows =

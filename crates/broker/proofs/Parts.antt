@@ -20,11 +20,11 @@ use Rattle.broker.specs.Streams.{PendingIn}
 
 -- ---- the parts, and the memory that they make up
 
-module _ (ts ds : List ℕ) (hs : List Handle) (ss ps : List ℕ) where
+module _ (ts ds : List ℕ) (hs : List Handle) (cs ps : List ℕ) where
   abbrev memory : Memory
-  memory = memoryOf ts ds hs ss ps
+  memory = memoryOf ts ds hs cs ps
 
-  pub written-as : (τ : State) → PartsIn τ hs ss ts ds → PendingIn τ ps → memory ≡ encode τ
+  pub written-as : (τ : State) → PartsIn τ hs cs ts ds → PendingIn τ ps → memory ≡ encode τ
   unfolding encode control
   written-as τ p q = cc (p .tokens .words, p .tokens .bytes, p .handles .records, p .control .words .words, q .rows)
 
@@ -32,7 +32,7 @@ module _ (ts ds : List ℕ) (hs : List Handle) (ss ps : List ℕ) where
     back : encode (decode memory) ≡ memory
     back = valid-written memory v
 
-    pub held-parts : PartsIn (decode memory) hs ss ts ds
+    pub held-parts : PartsIn (decode memory) hs cs ts ds
     unfolding encode
     held-parts = record {
       handles = record { records = sym (ap (λ m. m .handles) back) };
@@ -48,14 +48,14 @@ module _ (ts ds : List ℕ) (hs : List Handle) (ss ps : List ℕ) where
 
 -- ---- after the test of all lent memory, made with `if !b`
 
-module _ {count : ℕ} {items : List Handle} {ts ds ss ps : List ℕ} {b : Bool} (t : ValidTested count items ts ds ss ps b) (f : not b ≡ false) where
-  pub tested-valid : valid (memoryOf ts ds items ss ps) ≡ true
+module _ {count : ℕ} {items : List Handle} {ts ds cs ps : List ℕ} {b : Bool} (t : ValidTested count items ts ds cs ps b) (f : not b ≡ false) where
+  pub tested-valid : valid (memoryOf ts ds items cs ps) ≡ true
   tested-valid = t .holds (not-false b f)
 
-  pub tested-lent : Sizes.Lent ts ds ss ps
-  tested-lent = sizes-of ts ds items ss ps (fits ts ds items ss ps tested-valid)
+  pub tested-lent : Sizes.Lent ts ds cs ps
+  tested-lent = sizes-of ts ds items cs ps (fits ts ds items cs ps tested-valid)
 
-  pub control-long : length ss ≡ controlWords
+  pub control-long : length cs ≡ controlWords
   control-long = tested-lent .control
 
   pub pending-long : length ps ≡ stationCount * pendingBytes

@@ -24,7 +24,6 @@ use Rattle.privilege.specs.declared.privileges.Privileges.{Privileges}
 use Rattle.token.specs.NewRow.{Headed}
 use Rattle.token.proofs.NewRow.{no-groups}
 use Rattle.handle.specs.Meaning.{none, handleOf}
-use Rattle.handle.specs.declared.Handle.{Handle}
 use Rattle.control.specs.Control.{ControlIn}
 use Rattle.valid.specs.Meaning.{memoryOf}
 use Rattle.valid.specs.Tested.{SizesTested}
@@ -98,35 +97,35 @@ tokens-begun p {zs} {bs} {ws} hz hb e h = record {
   };
 }
 
-pub begun : {ts ds ss ps : List ℕ} → FirstTokens ts ds → ControlIn start ss → ps ≡ replicate (stationCount * pendingBytes) 0 → Begun ts ds ss ps
-begun {ts} {ds} {ss} {ps} t s e = record {
+pub begun : {ts ds cs ps : List ℕ} → FirstTokens ts ds → ControlIn start cs → ps ≡ replicate (stationCount * pendingBytes) 0 → Begun ts ds cs ps
+begun {ts} {ds} {cs} {ps} t s e = record {
   memory =
-      written-as ts ds (replicate handleSlots none) ss ps start
+      written-as ts ds (replicate handleSlots none) cs ps start
       (record { handles = record { records = first-handles }; control = s; tokens = t .tokens })
       (record { rows = e ∙ first-pending });
 }
 
 -- ---- what start returns
 
-module _ (count : ℕ) (ts ds ss ps : List ℕ) (b : Bool) (t : SizesTested (length ts) (length ds) count (length ss) (length ps) b) where
-  pub start-refused : not b ≡ true → StartsWith count ts ds ss ps ts ds ss ps (record { refusal = invalidMemory; freed = 0 })
+module _ (count : ℕ) (ts ds cs ps : List ℕ) (b : Bool) (t : SizesTested (length ts) (length ds) count (length cs) (length ps) b) where
+  pub start-refused : not b ≡ true → StartsWith count ts ds cs ps ts ds cs ps (record { refusal = invalidMemory; freed = 0 })
   unfolding startOn refusedOn
   start-refused f = record {
-    started = λ hs l. let e = sizes-wrong count ts ds ss ps b t f hs l in record { refusal = rw e; memory = rw e };
+    started = λ hs l. let e = sizes-wrong count ts ds cs ps b t f hs l in record { refusal = rw e; memory = rw e };
     inside = omega arith;
   }
 
-  pub starts : (f : not b ≡ false) → {ts′ ds′ ss′ ps′ : List ℕ} → Begun ts′ ds′ ss′ ps′ → StartsWith count ts ds ss ps ts′ ds′ ss′ ps′ (record { refusal = 0; freed = handleSlots })
+  pub starts : (f : not b ≡ false) → {ts′ ds′ cs′ ps′ : List ℕ} → Begun ts′ ds′ cs′ ps′ → StartsWith count ts ds cs ps ts′ ds′ cs′ ps′ (record { refusal = 0; freed = handleSlots })
   unfolding startOn
-  starts f {ts′} {ds′} {ss′} {ps′} w =
-      let n : count ≡ handleSlots = right-count count ts ds ss ps b t f in
+  starts f {ts′} {ds′} {cs′} {ps′} w =
+      let n : count ≡ handleSlots = right-count count ts ds cs ps b t f in
       record {
         started = λ hs l.
-            let e = sizes-right count ts ds ss ps b t f hs l in
+            let e = sizes-right count ts ds cs ps b t f hs l in
             record {
               refusal = rw e;
               memory =
-                  ap (λ is. memoryOf ts′ ds′ is ss′ ps′)
+                  ap (λ is. memoryOf ts′ ds′ is cs′ ps′)
                   (ap (λ is. replicate handleSlots none ++ is) (drop-of-length-le hs {i = handleSlots} (omega arith)) ∙ append-nil (replicate handleSlots none))
                   ∙ w .memory ∙ sym (rw e);
             };

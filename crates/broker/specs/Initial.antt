@@ -13,5 +13,5 @@ pub record FirstTokens (ts ds : List ℕ) : Type 0 where
   pub tokens : TokensIn start ts ds
 
 -- with 32 free handles beside it
-pub record Begun (ts ds ss ps : List ℕ) : Type 0 where
-  pub memory : memoryOf ts ds (replicate handleSlots none) ss ps ≡ encode start
+pub record Begun (ts ds cs ps : List ℕ) : Type 0 where
+  pub memory : memoryOf ts ds (replicate handleSlots none) cs ps ≡ encode start

@@ -12,6 +12,6 @@ use Rattle.control.specs.Control.{ControlIn}
 pub record PendingIn (σ : State) (ps : List ℕ) : Type 0 where
   pub rows : ps ≡ flat pendingRow (σ .stations)
 
-pub record StreamDropped (station : ℕ) (ss ps ss′ ps′ : List ℕ) : Type 0 where
-  pub control : (σ : State) → ControlIn σ ss → ControlIn (changeStation station cleared σ) ss′
+pub record StreamDropped (station : ℕ) (cs ps cs′ ps′ : List ℕ) : Type 0 where
+  pub control : (σ : State) → ControlIn σ cs → ControlIn (changeStation station cleared σ) cs′
   pub pending : (σ : State) → PendingIn σ ps → PendingIn (changeStation station cleared σ) ps′

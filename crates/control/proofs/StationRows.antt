@@ -1,9 +1,9 @@
 -- A word of a station's row, read and stored. Assumes nothing.
 use Prim.Native.Nat.{ℕ, _+_, _*_, _<_}
 use native.Mathlib.Omega.{arith}
-use mathlib.Core.Path.{_≡_, refl, sym, ap, ap₂, _∙_, subst}
+use mathlib.Core.Path.{_≡_, refl, sym, ap, _∙_}
 use mathlib.Core.Bool.{Bool, true, false}
-use mathlib.Core.List.{List, map}
+use mathlib.Core.List.{List}
 use mir.Val.{boolByte}
 use lib.Dec.{eqb}
 use lib.ListN.{length, getD, set, length-set}
@@ -11,11 +11,11 @@ use Rattle.table.specs.Table.{flat, put-record, length-flat, record-element, pu
 use Rattle.table.specs.Sections.{Sectioned, section-long, section-word, section-set}
 use Rattle.rules.specs.Station.{Station, startStation, withToken}
 use Rattle.rules.specs.State.{State, stationCount, withStations, stationAt, changeStation, setToken, callerNumber}
-use Rattle.rules.specs.Memory.{stationWords, primaryWord, countWord, brokenWord, stationSection, controlSizes, stationWordAt, controlWords, mark, stationRow, sections}
+use Rattle.rules.specs.Memory.{stationWords, primaryWord, countWord, brokenWord, stationSection, controlSizes, stationWordAt, mark, stationRow, sections}
 use Rattle.rules.proofs.Rows.{length-stationRow}
 use Rattle.rules.proofs.Control.{row-put}
 use Rattle.control.specs.Control.{ControlIn}
-use Rattle.control.specs.Stations.{WordGiven, CallerNumber, TokenSet, StreamGiven, streamRow, StreamSet}
+use Rattle.control.specs.Stations.{WordGiven, CallerNumber, TokenSet, StreamGiven, StreamSet}
 
 -- ---- reading
 

@@ -1,4 +1,5 @@
-// The control words: sections one after the other. What is new goes to the end, a section behind the last and a word behind its row's.
+// The places of the control words: sections one after the other. What is new goes to the end, a section behind the last and a word behind
+// the others of its row.
 pub const STATIONS: usize = 8;
 
 // The next numbers.

@@ -30,8 +30,8 @@ number-in : (ws : List ℕ) (u : Token) → ws ≡ tokenRow u → getD ws 0 0 �
 unfolding tokenRow head
 number-in ws u e = ap (λ (l : List ℕ). getD l 0 0) e
 
-module _ {s mask : ℕ} {ws bs : List ℕ} {hs : List Handle} {ss ts ds ss₁ ts′ ds′ ss′ : List ℕ} {c : Change}
-    (a : RowAdded ws bs ts ds ss ts′ ds′ ss₁) (h : HandleAdded s (getD ws 0 0) mask hs ss₁ ss′ c) where
+module _ {s mask : ℕ} {ws bs : List ℕ} {hs : List Handle} {cs ts ds cs₁ ts′ ds′ cs′ : List ℕ} {c : Change}
+    (a : RowAdded ws bs ts ds cs ts′ ds′ cs₁) (h : HandleAdded s (getD ws 0 0) mask hs cs₁ cs′ c) where
   -- the state between has a token that may be of any form: the handles are the same as if only the next number had stepped
   abbrev stepped : State → State
   stepped σ = withTokens (record { slots = σ .tokens .slots; next = σ .tokens .next + 1 }) σ
@@ -40,16 +40,16 @@ module _ {s mask : ℕ} {ws bs : List ℕ} {hs : List Handle} {ss ts ds ss₁ ts
   unfolding withTokens
   stepped-formed σ f = record { token-slots = f .token-slots; handle-slots = f .handle-slots; tokens = f .tokens; handles = f .handles }
 
-  handles-after : (u : Token) (σ : State) → valid σ ≡ true → PartsIn σ hs ss ts ds → HandlesIn (addHandle s (getD ws 0 0) mask (addToken u σ)) (changed hs c)
+  handles-after : (u : Token) (σ : State) → valid σ ≡ true → PartsIn σ hs cs ts ds → HandlesIn (addHandle s (getD ws 0 0) mask (addToken u σ)) (changed hs c)
   unfolding addToken withTokens added addHandle withHandles sections
   handles-after u σ v p = record {
     records = h .handles (stepped σ) (stepped-formed σ (valid-formed σ v)) (record { records = p .handles .records }) (control-same refl (a .control u σ (p .control))) .records;
   }
 
-  pub row-issues : RowIssued s mask ws bs hs ss ts ds ss′ ts′ ds′ (record { answer = answers.Value (c .handle .number); change = c })
+  pub row-issues : RowIssued s mask ws bs hs cs ts ds cs′ ts′ ds′ (record { answer = answers.Value (c .handle .number); change = c })
   unfolding addToken withTokens addHandle
   row-issues = record {
-    parts = λ u w b σ v p. subst (λ (k : ℕ). PartsIn (addHandle s k mask (addToken u σ)) (changed hs c) ss′ ts′ ds′) (number-in ws u w) (record {
+    parts = λ u w b σ v p. subst (λ (k : ℕ). PartsIn (addHandle s k mask (addToken u σ)) (changed hs c) cs′ ts′ ds′) (number-in ws u w) (record {
       handles = handles-after u σ v p;
       control = h .control (addToken u σ) (a .control u σ (p .control));
       tokens = with-handles (a .tokens u w b σ v (p .tokens)) _;
@@ -60,17 +60,17 @@ module _ {s mask : ℕ} {ws bs : List ℕ} {hs : List Handle} {ss ts ds ss₁ ts
 -- ---- how a request that issues is decided
 
 -- in the state before, or in the one where a used bit is set; u is the new token
-pub record Ready (x : Decision) (s mask : ℕ) (u : Token) (ws bs : List ℕ) (hs : List Handle) (ss ts ds : List ℕ) (σ τ : State) : Type 0 where
+pub record Ready (x : Decision) (s mask : ℕ) (u : Token) (ws bs : List ℕ) (hs : List Handle) (cs ts ds : List ℕ) (σ τ : State) : Type 0 where
   pub valid : valid τ ≡ true
-  pub parts : PartsIn τ hs ss ts ds
+  pub parts : PartsIn τ hs cs ts ds
   pub words : ws ≡ tokenRow u
   pub bytes : bs ≡ daclRow u
   pub decided : carriedOut σ x ≡ carriedOut σ (issued s mask u τ)
 
-pub ends-issuing : {x : State → Decision} {s mask : ℕ} {ws bs : List ℕ} {hs : List Handle} {ss ts ds ss₁ ts₁ ds₁ ss′ ts′ ds′ : List ℕ} {r : Outcome} (u : State → Token) (τ : State → State)
-    → RowIssued s mask ws bs hs ss₁ ts₁ ds₁ ss′ ts′ ds′ r
-    → ((σ : State) → valid σ ≡ true → PartsIn σ hs ss ts ds → Ready (x σ) s mask (u σ) ws bs hs ss₁ ts₁ ds₁ σ (τ σ))
-    → Carried x hs ss ts ds ss′ ts′ ds′ r
+pub ends-issuing : {x : State → Decision} {s mask : ℕ} {ws bs : List ℕ} {hs : List Handle} {cs ts ds cs₁ ts₁ ds₁ cs′ ts′ ds′ : List ℕ} {r : Outcome} (u : State → Token) (τ : State → State)
+    → RowIssued s mask ws bs hs cs₁ ts₁ ds₁ cs′ ts′ ds′ r
+    → ((σ : State) → valid σ ≡ true → PartsIn σ hs cs ts ds → Ready (x σ) s mask (u σ) ws bs hs cs₁ ts₁ ds₁ σ (τ σ))
+    → Carried x hs cs ts ds cs′ ts′ ds′ r
 unfolding carriedOut issued
 ends-issuing {ts′ = ts′} {ds′ = ds′} u τ i d = record {
   parts = λ σ v p. let k = d σ v p in rw (k .decided) (i .parts (u σ) (k .words) (k .bytes) (τ σ) (k .valid) (k .parts));

@@ -21,16 +21,16 @@ use Rattle.valid.specs.Meaning.{memoryOf}
 use Rattle.session.specs.Turns.{Starts}
 use Rattle.obriska.specs.Serving.{bufferBytes, Ready}
 
-module _ (ts ds ss ps ts′ ds′ ss′ ps′ : List ℕ) (r : Handles) (f : Starts ts ds ss ps ts′ ds′ ss′ ps′ r)
+module _ (ts ds cs ps ts′ ds′ cs′ ps′ : List ℕ) (r : Handles) (f : Starts ts ds cs ps ts′ ds′ cs′ ps′ r)
     (lt : length ts ≡ tokenSlots * tokenWords) (ld : length ds ≡ tokenSlots * maxDacl)
-    (ls : length ss ≡ controlWords) (lp : length ps ≡ stationCount * pendingBytes) where
-  fits : sized (memoryOf ts ds (recordsIn (r .words)) ss ps) ≡ true
+    (ls : length cs ≡ controlWords) (lp : length ps ≡ stationCount * pendingBytes) where
+  fits : sized (memoryOf ts ds (recordsIn (r .words)) cs ps) ≡ true
   unfolding sized
   fits = and-i (and-i (and-i (and-i (eq-eqb _ _ lt) (eq-eqb _ _ ld)) (eq-eqb _ _ (ap (λ (hs : List Handle). length (map handleOf hs)) (f .handles)))) (eq-eqb _ _ ls)) (eq-eqb _ _ lp)
 
-  begun : memoryOf ts′ ds′ (recordsIn (r .words)) ss′ ps′ ≡ encode start
+  begun : memoryOf ts′ ds′ (recordsIn (r .words)) cs′ ps′ ≡ encode start
   unfolding startOn
   begun = f .memory ∙ rw fits
 
-  pub ready : (b a : List ℕ) → length b ≡ bufferBytes → length a ≡ maxAnswer → Ready b a (memoryOf ts′ ds′ (recordsIn (r .words)) ss′ ps′)
+  pub ready : (b a : List ℕ) → length b ≡ bufferBytes → length a ≡ maxAnswer → Ready b a (memoryOf ts′ ds′ (recordsIn (r .words)) cs′ ps′)
   ready b a lb la = record { input = lb; output = omega arith; memory = rw begun start-written }

@@ -42,7 +42,7 @@ abbrev pub pendingBytes : ℕ
 pendingBytes = maxBody + 2
 
 -- ---- the control words: what the broker keeps beside tokens, handles and pending bytes, in sections of fixed sizes one after the other.
--- What is new goes to the end, a section behind the last and a word behind its row's: then no place shifts
+-- What is new goes to the end, a section behind the last and a word behind the others of its row
 
 -- the two next numbers
 abbrev pub tokenCounter : ℕ

@@ -10,10 +10,10 @@ use Rattle.rules.specs.Token.{maxDacl}
 use Rattle.rules.specs.Table.{live, added}
 use Rattle.rules.specs.State.{tokenSlots, withTokens, addToken}
 use Rattle.rules.specs.Index.{freeIndex}
-use Rattle.rules.specs.Memory.{tokenWords, tokenCounter, handleCounter, nextHandle, counters, sections, slotRow, slotDacl}
+use Rattle.rules.specs.Memory.{tokenWords, tokenCounter, handleCounter, nextHandle, sections, slotRow, slotDacl}
 use Rattle.rules.proofs.Index.{placed-set}
 use Rattle.token.proofs.Laws.{put-words, put-dacls}
-use Rattle.control.specs.Counters.{stepped, Stepped}
+use Rattle.control.specs.Counters.{Stepped}
 use Rattle.state.specs.TokenCalls.{RowsPut, RowAdded}
 use Rattle.state.proofs.TokenLooks.{slots-read, slots-long, FreeAt}
 
@@ -31,14 +31,14 @@ module _ {ws bs ts ds : List ℕ} {i : ℕ} where
     bytes = λ u w ps h e. e ∙ ap (flat slotDacl) (sym (set-out ps i (live u) (omega arith)));
   }
 
-  pub row-added : {ss ts′ ds′ ss′ : List ℕ} → FreeAt ts i → RowsPut ws bs i ts ds ts′ ds′ → Stepped tokenCounter ss ss′ → RowAdded ws bs ts ds ss ts′ ds′ ss′
+  pub row-added : {cs ts′ ds′ cs′ : List ℕ} → FreeAt ts i → RowsPut ws bs i ts ds ts′ ds′ → Stepped tokenCounter cs cs′ → RowAdded ws bs ts ds cs ts′ ds′ cs′
   unfolding addToken withTokens added sections
-  row-added {ss} at r t = record {
+  row-added {cs} at r t = record {
     tokens = λ u w b σ v h.
         let ps = σ .tokens .slots in
         let long = slots-long σ v in
         let e = sym (placed-set u ps ∙ ap (λ (k : ℕ). set ps k (live u)) (sym (at ds ∙ ap freeIndex (slots-read v h)))) in
         record { words = r .words u w ps long (h .words) ∙ ap (flat slotRow) e; bytes = r .bytes u b ps long (h .bytes) ∙ ap (flat slotDacl) e };
     control = λ u σ j. t .control σ (addToken u σ) refl j;
-    handle-next = ap nextHandle (t .word) ∙ getD-set-other ss tokenCounter handleCounter _ 0 (λ e. omega arith);
+    handle-next = ap nextHandle (t .word) ∙ getD-set-other cs tokenCounter handleCounter _ 0 (λ e. omega arith);
   }

@@ -1,5 +1,5 @@
 -- What is found among the handles, and what a change of one slot is. Assumes nothing.
-use Prim.Native.Nat.{ℕ, zero, suc, _+_, _<_}
+use Prim.Native.Nat.{ℕ, zero, suc, _<_}
 use native.Mathlib.Omega.{arith}
 use mathlib.Core.Path.{_≡_, refl, sym, ap, ap₂, _∙_}
 use mathlib.Core.Bool.{Bool, true, false, not, _&&_}
@@ -15,7 +15,7 @@ use Rattle.rules.specs.Handle as rules
 use Rattle.rules.specs.Valid.{valid}
 use Rattle.rules.specs.State as state
 use Rattle.rules.specs.State.{State, handleSlots, withHandles, findHandle, canAddHandle, addHandle, dropHandle}
-use Rattle.rules.specs.Memory.{handleCounter, nextHandle, counters, sections, slotHandle, handleAt}
+use Rattle.rules.specs.Memory.{handleCounter, sections, slotHandle, handleAt}
 use Rattle.rules.proofs.Logic.{and-r}
 use Rattle.rules.proofs.Index.{found-at, placed-set, exchanged-set}
 use Rattle.handle.specs.Meaning.{handleOf, none}
@@ -89,10 +89,10 @@ free-there [] = refl
 free-there (free ∷ ps) = lt-ltb zero (suc (length ps)) (omega arith)
 free-there (live a ∷ ps) = leb·suc-suc (suc (freeIndex ps)) (length ps) ∙ free-there ps
 
-pub handle-room : (hs : List Handle) {ss : List ℕ} {i next : ℕ} → i ≡ freeSlot hs → NextGiven handleCounter ss next
-    → HandleRoom hs ss (ltb i handleSlots && ltb next max32)
+pub handle-room : (hs : List Handle) {cs : List ℕ} {i next : ℕ} → i ≡ freeSlot hs → NextGiven handleCounter cs next
+    → HandleRoom hs cs (ltb i handleSlots && ltb next max32)
 unfolding canAddHandle canAdd
-handle-room hs {ss} {i} {next} e g = record {
+handle-room hs {cs} {i} {next} e g = record {
   room = λ σ v h k.
       let f = valid-formed σ v in
       let w : i ≡ freeIndex (σ .handles .slots) = e ∙ ap freeIndex (handles-back σ f hs h) in
@@ -100,8 +100,8 @@ handle-room hs {ss} {i} {next} e g = record {
   next = λ t. let l : next < max32 = ltb-true next max32 (and-r (ltb i handleSlots) (ltb next max32) t) in let w = g .word in omega arith;
 }
 
-pub handle-added : (s token mask : ℕ) (hs : List Handle) {ss ss′ : List ℕ} {i n : ℕ} → i ≡ freeSlot hs → NextGiven handleCounter ss n → Stepped handleCounter ss ss′
-    → HandleAdded s token mask hs ss ss′ (record { slot = i; handle = record { station = s; number = n; token = token; mask = mask } })
+pub handle-added : (s token mask : ℕ) (hs : List Handle) {cs cs′ : List ℕ} {i n : ℕ} → i ≡ freeSlot hs → NextGiven handleCounter cs n → Stepped handleCounter cs cs′
+    → HandleAdded s token mask hs cs cs′ (record { slot = i; handle = record { station = s; number = n; token = token; mask = mask } })
 unfolding addHandle withHandles added sections slotHandle
 handle-added s token mask hs {i = i} e g t = record {
   control = λ σ k. t .control σ (addHandle s token mask σ) refl k;

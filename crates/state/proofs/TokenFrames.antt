@@ -19,12 +19,12 @@ module _ {σ : State} {ts ds : List ℕ} (i : TokensIn σ ts ds) where
   with-handles x = record { words = i .words; bytes = i .bytes }
 
 -- control words: putToken and released, which give no number
-module _ {σ : State} {ss : List ℕ} (j : ControlIn σ ss) where
-  pub with-slots : (ps : List (Slot Token)) → ControlIn (withTokens (withSlots ps (σ .tokens)) σ) ss
+module _ {σ : State} {cs : List ℕ} (j : ControlIn σ cs) where
+  pub with-slots : (ps : List (Slot Token)) → ControlIn (withTokens (withSlots ps (σ .tokens)) σ) cs
   unfolding withTokens withSlots sections
   with-slots ps = control-same refl j
 
-  pub used-control : (n s : ℕ) → ControlIn (used n s σ) ss
+  pub used-control : (n s : ℕ) → ControlIn (used n s σ) cs
   unfolding used changeToken putToken
   used-control n s = with-slots _
 

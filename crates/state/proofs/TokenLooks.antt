@@ -1,7 +1,7 @@
 -- What is read in the parts of a valid state. Assumes nothing.
 use Prim.Native.Nat.{ℕ}
 use native.Mathlib.Omega.{arith}
-use mathlib.Core.Path.{_≡_, refl, sym, ap, ap₂, _∙_}
+use mathlib.Core.Path.{_≡_, sym, ap, ap₂, _∙_}
 use mathlib.Core.Bool.{true, _&&_}
 use mathlib.Core.List.{List}
 use lib.Dec.{ltb}
@@ -13,7 +13,7 @@ use Rattle.rules.specs.State as State
 use Rattle.rules.specs.State.{State, tokenSlots, canAddToken}
 use Rattle.rules.specs.Index.{freeIndex}
 use Rattle.rules.specs.Valid.{valid}
-use Rattle.rules.specs.Memory.{tokenCounter, counters}
+use Rattle.rules.specs.Memory.{tokenCounter}
 use Rattle.rules.proofs.Logic.{and-r}
 use Rattle.rules.proofs.Facts.{valid-facts}
 use Rattle.token.specs.Meaning.{slotsOf}
@@ -37,7 +37,7 @@ slots-long σ v = valid-facts σ v .loose .tokens .sized
 abbrev pub FreeAt : List ℕ → ℕ → Type 0
 FreeAt ts r = (bs : List ℕ) → r ≡ freeIndex (slotsOf ts bs)
 
-pub can-add : {ts ss : List ℕ} {i n : ℕ} → FreeAt ts i → NextGiven tokenCounter ss n → CanAdd ts ss (ltb i tokenSlots && ltb n max64)
+pub can-add : {ts cs : List ℕ} {i n : ℕ} → FreeAt ts i → NextGiven tokenCounter cs n → CanAdd ts cs (ltb i tokenSlots && ltb n max64)
 unfolding canAddToken canAdd
 can-add {i = i} {n = n} e w = record {
   below = λ h. let l = ltb-true n max64 (and-r (ltb i tokenSlots) _ h) in omega (arith, w .word);

@@ -11,10 +11,10 @@ use Rattle.handle.specs.Meaning.{handleOf}
 use Rattle.handle.specs.declared.Handle.{Handle}
 
 -- the sizes of the lent parts that a request works on
-pub record Lent (ts ds ss : List ℕ) : Type 0 where
+pub record Lent (ts ds cs : List ℕ) : Type 0 where
   pub tokens : length ts ≡ tokenSlots * tokenWords
   pub dacls : length ds ≡ tokenSlots * maxDacl
-  pub control : length ss ≡ controlWords
+  pub control : length cs ≡ controlWords
 
 pub record TokensIn (σ : State) (ts ds : List ℕ) : Type 0 where
   pub words : ts ≡ flat slotRow (σ .tokens .slots)

@@ -6,7 +6,7 @@ use Prim.Native.Nat.{ℕ, _+_, _-_, _*_, _^_, _<_}
 use native.Mathlib.Omega.{arith}
 use borrow.Author.Tests.{eq-eqb, le-leb}
 use lib.Dec.{eqb, leb}
-use lib.ListN.{length, take, drop, getD, length-drop, length-map, take-append-drop}
+use lib.ListN.{length, take, drop, length-drop, length-map, take-append-drop}
 use lib.Seq.{length-take-le, take-all, take-take}
 use Rattle.table.specs.Lists.{named-take}
 use Rattle.table.specs.Table.{flat, length-flat}
@@ -154,31 +154,31 @@ at-fronts ns os hs rs n o h nt nh e =
     drop-take h (h + stationCount - 0) rs ∙ ap (λ (k : ℕ). take k (drop h rs)) {x = h + stationCount - 0 - h} {y = stationCount} (omega arith) in
     cc (c n, c o, c h)
 
-pub at-links : (ts : List ℕ) (hs : List code.Handle) (ss : List ℕ) {ns os hn rs : List ℕ} {n o h : ℕ} {f r : Bool}
-    → r ≡ numbersTest (take n ns) (take o os) (take h hn) (take h rs) (take stationCount (drop h rs)) (nextToken ss) (nextHandle ss)
+pub at-links : (ts : List ℕ) (hs : List code.Handle) (cs : List ℕ) {ns os hn rs : List ℕ} {n o h : ℕ} {f r : Bool}
+    → r ≡ numbersTest (take n ns) (take o os) (take h hn) (take h rs) (take stationCount (drop h rs)) (nextToken cs) (nextHandle cs)
     → Front tokenSlots (nonzero (columnBy firstWord tokenWords tokenSlots ts)) n ns → Front tokenSlots (nonzero (columnBy otherWord tokenWords tokenSlots ts)) o os
     → Front handleSlots (kept Meaning.numberOf Meaning.numberOf hs) h hn
-    → Referred (kept Meaning.numberOf tokenOf hs) (columnBy tokenIn stationWords stationCount (stationsIn ss)) h rs
-    → f ≡ all fieldsOf hs → (f && r) ≡ linksTest ts (map handleOf hs) ss
+    → Referred (kept Meaning.numberOf tokenOf hs) (columnBy tokenIn stationWords stationCount (stationsIn cs)) h rs
+    → f ≡ all fieldsOf hs → (f && r) ≡ linksTest ts (map handleOf hs) cs
 unfolding linksTest handleNumber handleToken
-at-links ts hs ss {hn = hn} {rs = rs} {h = h} er en eo eh ek ef =
+at-links ts hs cs {hn = hn} {rs = rs} {h = h} er en eo eh ek ef =
     let z : all fieldsOf hs ≡ all fieldsTest (map handleOf hs) = sym (all-map handleOf fieldsTest hs) in
     let u : take h hn ≡ kept handleNumber handleNumber (map handleOf hs) = eh .front ∙ sym (kept-map handleNumber handleNumber handleOf hs) in
     let v : take h rs ≡ kept handleNumber handleToken (map handleOf hs) = ek .held ∙ sym (kept-map handleNumber handleToken handleOf hs) in
     cc (en .front, eo .front, ek .behind)
 
-pub at-parts : (ts ds : List ℕ) (hs : List code.Handle) (ss ps : List ℕ) {t s l : Bool}
+pub at-parts : (ts ds : List ℕ) (hs : List code.Handle) (cs ps : List ℕ) {t s l : Bool}
     → t ≡ testRows tokenTest tokenWords maxDacl tokenSlots ts ds
-    → s ≡ testRows stationTest stationWords pendingBytes stationCount (stationsIn ss) ps
-    → l ≡ linksTest ts (map handleOf hs) ss
-    → (t && s && l) ≡ partsTest (memoryOf ts ds hs ss ps)
+    → s ≡ testRows stationTest stationWords pendingBytes stationCount (stationsIn cs) ps
+    → l ≡ linksTest ts (map handleOf hs) cs
+    → (t && s && l) ≡ partsTest (memoryOf ts ds hs cs ps)
 unfolding partsTest
-at-parts ts ds hs ss ps et eu el = cc
+at-parts ts ds hs cs ps et eu el = cc
 
 -- of memory whose sizes are right
-pub whole : (ts ds : List ℕ) (hs : List code.Handle) (ss ps : List ℕ) → Lent ts ds ss ps → length hs ≡ handleSlots → nextToken ss < 2 ^ 64
-    → partsTest (memoryOf ts ds hs ss ps) ≡ valid (memoryOf ts ds hs ss ps)
+pub whole : (ts ds : List ℕ) (hs : List code.Handle) (cs ps : List ℕ) → Lent ts ds cs ps → length hs ≡ handleSlots → nextToken cs < 2 ^ 64
+    → partsTest (memoryOf ts ds hs cs ps) ≡ valid (memoryOf ts ds hs cs ps)
 unfolding valid sized
-whole ts ds hs ss ps lent lh kn =
-    parts (memoryOf ts ds hs ss ps) (lent .tokens) (lent .dacls) (length-map hs handleOf ∙ lh) (lent .control) (lent .pending) kn
-    ∙ sym (rw (eq-eqb (length ts) (tokenSlots * tokenWords) (lent .tokens), eq-eqb (length ds) (tokenSlots * maxDacl) (lent .dacls), eq-eqb (length (map handleOf hs)) handleSlots (length-map hs handleOf ∙ lh), eq-eqb (length ss) controlWords (lent .control), eq-eqb (length ps) (stationCount * pendingBytes) (lent .pending)))
+whole ts ds hs cs ps lent lh kn =
+    parts (memoryOf ts ds hs cs ps) (lent .tokens) (lent .dacls) (length-map hs handleOf ∙ lh) (lent .control) (lent .pending) kn
+    ∙ sym (rw (eq-eqb (length ts) (tokenSlots * tokenWords) (lent .tokens), eq-eqb (length ds) (tokenSlots * maxDacl) (lent .dacls), eq-eqb (length (map handleOf hs)) handleSlots (length-map hs handleOf ∙ lh), eq-eqb (length cs) controlWords (lent .control), eq-eqb (length ps) (stationCount * pendingBytes) (lent .pending)))

@@ -12,13 +12,13 @@ use Rattle.rules.specs.Memory.{Memory, tokenWords, controlWords, pendingBytes}
 use Rattle.valid.specs.Tests.{fieldsTest}
 
 abbrev pub memoryOf : List ℕ → List ℕ → List Handle → List ℕ → List ℕ → Memory
-memoryOf ts ds hs ss ps = record { tokens = ts; dacls = ds; handles = map handleOf hs; control = ss; pending = ps }
+memoryOf ts ds hs cs ps = record { tokens = ts; dacls = ds; handles = map handleOf hs; control = cs; pending = ps }
 
 -- the parts have the sizes that document 01 fixes
-pub record Lent (ts ds ss ps : List ℕ) : Type 0 where
+pub record Lent (ts ds cs ps : List ℕ) : Type 0 where
   pub tokens : length ts ≡ tokenSlots * tokenWords
   pub dacls : length ds ≡ tokenSlots * maxDacl
-  pub control : length ss ≡ controlWords
+  pub control : length cs ≡ controlWords
   pub pending : length ps ≡ stationCount * pendingBytes
 
 abbrev pub numberOf : Handle → ℕ

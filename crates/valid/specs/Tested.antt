@@ -10,11 +10,11 @@ use Rattle.handle.specs.declared.Handle.{Handle}
 use Rattle.valid.specs.Meaning.{memoryOf}
 
 pub record SizesTested (tokens dacls count control pending : ℕ) (r : Bool) : Type 0 where
-  pub sizes : (ts ds ss ps : List ℕ) (hs : List Handle) → length ts ≡ tokens → length ds ≡ dacls → length hs ≡ count → length ss ≡ control → length ps ≡ pending
-      → r ≡ sized (memoryOf ts ds hs ss ps)
+  pub sizes : (ts ds cs ps : List ℕ) (hs : List Handle) → length ts ≡ tokens → length ds ≡ dacls → length hs ≡ count → length cs ≡ control → length ps ≡ pending
+      → r ≡ sized (memoryOf ts ds hs cs ps)
 
 -- of every lent list with those handles; a valid one is the 32 handles themselves
-pub record ValidTested (count : ℕ) (items : List Handle) (ts ds ss ps : List ℕ) (r : Bool) : Type 0 where
-  pub means : (hs : List Handle) → length hs ≡ count → loaded hs ≡ items → r ≡ valid (memoryOf ts ds hs ss ps)
-  pub holds : r ≡ true → valid (memoryOf ts ds items ss ps) ≡ true
+pub record ValidTested (count : ℕ) (items : List Handle) (ts ds cs ps : List ℕ) (r : Bool) : Type 0 where
+  pub means : (hs : List Handle) → length hs ≡ count → loaded hs ≡ items → r ≡ valid (memoryOf ts ds hs cs ps)
+  pub holds : r ≡ true → valid (memoryOf ts ds items cs ps) ≡ true
   pub all : r ≡ true → (hs : List Handle) → length hs ≡ count → loaded hs ≡ items → hs ≡ items

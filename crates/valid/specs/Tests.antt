@@ -206,10 +206,10 @@ numbersTest ns os hs ts ss nextToken nextHandle =
 
 -- the parts of the lent memory: tokens, handles, control words
 unfoldable pub linksTest : List ℕ → List Handle → List ℕ → Bool
-linksTest ts hs ss =
+linksTest ts hs cs =
     all fieldsTest hs
     && numbersTest (nonzero (columnBy firstWord tokenWords tokenSlots ts)) (nonzero (columnBy otherWord tokenWords tokenSlots ts))
-    (kept handleNumber handleNumber hs) (kept handleNumber handleToken hs) (columnBy tokenIn stationWords stationCount (stationsIn ss)) (nextToken ss) (nextHandle ss)
+    (kept handleNumber handleNumber hs) (kept handleNumber handleToken hs) (columnBy tokenIn stationWords stationCount (stationsIn cs)) (nextToken cs) (nextHandle cs)
 
 unfoldable pub partsTest : Memory → Bool
 partsTest m =

@@ -14,8 +14,9 @@ use control::layout::STATIONS;
 use handle::HANDLE_WORDS;
 use handle::Handle;
 use handle::SLOTS;
+use privilege::mask::Mask;
 
-const ALL_RIGHTS: u16 = 0x1EF;
+const ALL_RIGHTS: u16 = Mask::ALL.0 as u16;
 
 // Whether the fields of all are valid; of the live ones, the first `count` of each list, their numbers and their tokens'. Behind these in
 // `referred` stand the stations' tokens, so that all references are counted in one list.

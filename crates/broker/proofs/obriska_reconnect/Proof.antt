@@ -112,15 +112,15 @@ module _ {M : Type 1} (𝓤 : URA M) (H : Heap 𝓤) (A : Atoms 𝓤) (W : Given
   Handed hs = Own ∷ OwnT ∷ OwnD ∷ usize .own (length (h .now)) (vint w64 (length (h .now)) ∷ []) ∷ S.the-row .own hs (all hs ∷ []) ∷ OwnS ∷ OwnP ∷ []
 
   -- ---- the exit
-  exits : (ss ps : List ℕ) (r : ℕ) (u : Val) → length ss ≡ length (s .now) → length ps ≡ length (p .now)
-      → Does (reconnectOn (memoryOf (t .now) (d .now) (h .now) (s .now) (p .now)) st) (memoryOf (t .now) (d .now) (h .now) ss ps) r → Is u32 r (u ∷ [])
-      → ent 𝓤 (⋆ 𝓤 H A (‵ (finally u8 (p .name) ps) ∷ ‵ (finally u64 (s .name) ss) ∷ ‵ (chain Theirs) ∷ ‵ OwnD ∷ ‵ OwnT ∷ ‵ (flft κ₂ q₂) ∷ ‵ OwnH ∷ [])) (Post u)
-  exits ss ps r u ls lp e is =
-      qed W (‵ (finally u8 (p .name) ps) ∷ ‵ (finally u64 (s .name) ss) ∷ ‵ (chain Theirs) ∷ ‵ OwnD ∷ ‵ OwnT ∷ ‵ (flft κ₂ q₂) ∷ ‵ OwnH ∷ []) ∵
-      suffices ! _ (ends-at 𝓤 H A reconnect.ended stayed (reconnect.clauses 𝓤 H A at-mem run) W bound u r (tt, (tt, (tt, (tt, (ss, (ps, tt)))))) (tt, (tt, (tt, (tt, (ls, (lp, tt))))))) $ says ! e $
+  exits : (cs ps : List ℕ) (r : ℕ) (u : Val) → length cs ≡ length (s .now) → length ps ≡ length (p .now)
+      → Does (reconnectOn (memoryOf (t .now) (d .now) (h .now) (s .now) (p .now)) st) (memoryOf (t .now) (d .now) (h .now) cs ps) r → Is u32 r (u ∷ [])
+      → ent 𝓤 (⋆ 𝓤 H A (‵ (finally u8 (p .name) ps) ∷ ‵ (finally u64 (s .name) cs) ∷ ‵ (chain Theirs) ∷ ‵ OwnD ∷ ‵ OwnT ∷ ‵ (flft κ₂ q₂) ∷ ‵ OwnH ∷ [])) (Post u)
+  exits cs ps r u ls lp e is =
+      qed W (‵ (finally u8 (p .name) ps) ∷ ‵ (finally u64 (s .name) cs) ∷ ‵ (chain Theirs) ∷ ‵ OwnD ∷ ‵ OwnT ∷ ‵ (flft κ₂ q₂) ∷ ‵ OwnH ∷ []) ∵
+      suffices ! _ (ends-at 𝓤 H A reconnect.ended stayed (reconnect.clauses 𝓤 H A at-mem run) W bound u r (tt, (tt, (tt, (tt, (cs, (ps, tt)))))) (tt, (tt, (tt, (tt, (ls, (lp, tt))))))) $ says ! e $
       number-had W ! w32 st gst $ move ! (3 ∷ []) $ unchain W Theirs $
       -- [κ₀; κ₁; κ₃; κ₄; station's; pending's; control's; dacls'; tokens'; κ₂; handles']
-      move ! (0 ∷ 1 ∷ 9 ∷ 2 ∷ 3 ∷ 4 ∷ 8 ∷ 7 ∷ 10 ∷ 6 ∷ 5 ∷ []) $ rechain W Toks $ frame ! $ rechain W (Own ∷ OwnT ∷ OwnD ∷ OwnH ∷ finally u64 (s .name) ss ∷ finally u8 (p .name) ps ∷ []) $ frame ! $
+      move ! (0 ∷ 1 ∷ 9 ∷ 2 ∷ 3 ∷ 4 ∷ 8 ∷ 7 ∷ 10 ∷ 6 ∷ 5 ∷ []) $ rechain W Toks $ frame ! $ rechain W (Own ∷ OwnT ∷ OwnD ∷ OwnH ∷ finally u64 (s .name) cs ∷ finally u8 (p .name) ps ∷ []) $ frame ! $
       owned ! u32 (Is u32) (uint-makes 𝓤 H A W w32) r (u ∷ []) is $ done !
 
   module _ (𝓣 : Tables 𝓤 H) (known-load : Triple 𝓤 (𝓣 .C #load) (Load 𝓤 H A at-mem run)) (known-by-value : Triple 𝓤 (𝓣 .C #by-value) (ByValue 𝓤 H A at-mem run)) where
