@@ -11,10 +11,10 @@ use Rattle.rules.specs.Handle as rules-handle
 use Rattle.rules.specs.State as state
 use Rattle.rules.specs.State.{State, tokenSlots}
 use Rattle.rules.specs.Valid.{valid, tokenValid}
-use Rattle.rules.specs.Memory.{tokenWords, tokenRow, daclRow}
+use Rattle.rules.specs.Memory.{tokenWords, tokenCounter, tokenRow, daclRow}
 use Rattle.rules.specs.Decision.{Decision, carriedOut, withHandle}
 use Rattle.handle.specs.declared.Handle.{Handle}
-use Rattle.state.specs.TokenCalls.{NextToken}
+use Rattle.control.specs.Counters.{NextGiven}
 use Rattle.state.specs.ReleaseFacts.{PartsIn}
 use Rattle.state.proofs.InPlace.{in-slot}
 use Rattle.decide.specs.declared.located.Located.{Located}
@@ -31,11 +31,11 @@ pub row-copied : (w i : ℕ) {xs r : List ℕ} → i < tokenSlots → r ≡ take
 row-copied w i {xs} h e l = record { inside = h; row = e ∙ part-at w i xs; long = l }
 
 -- ws and bs are the rows of what f makes of the token in slot i
-pub issues-made : (f : ℕ → rules.Token → rules.Token) {n i s mask : ℕ} {ws bs : List ℕ} {hs : List Handle} {ss ts ds ss′ ts′ ds′ : List ℕ} {r : Outcome}
-    → i < tokenSlots → NextToken ss n
+pub issues-made : (f : ℕ → rules.Token → rules.Token) {n i s mask : ℕ} {ws bs : List ℕ} {hs : List Handle} {cs ts ds cs′ ts′ ds′ : List ℕ} {r : Outcome}
+    → i < tokenSlots → NextGiven tokenCounter cs n
     → ((t : rules.Token) → tokenValid t ≡ true → record-at tokenWords i ts ≡ tokenRow t → ws ≡ tokenRow (f n t))
     → ((t : rules.Token) → record-at maxDacl i ds ≡ daclRow t → bs ≡ daclRow (f n t))
-    → RowIssued s mask ws bs hs ss ts ds ss′ ts′ ds′ r → CopyIssued f i s mask hs ss ts ds ss′ ts′ ds′ r
+    → RowIssued s mask ws bs hs cs ts ds cs′ ts′ ds′ r → CopyIssued f i s mask hs cs ts ds cs′ ts′ ds′ r
 issues-made f l k w b e = record {
   carried = λ j at. ends-issuing (λ σ. f (σ .tokens .next) (state.tokenOf σ j)) (λ σ. σ) e (λ σ v p.
       let t = state.tokenOf σ j in
@@ -43,18 +43,18 @@ issues-made f l k w b e = record {
       record {
         valid = v;
         parts = p;
-        words = w t (there .isValid) (there .words) ∙ ap (λ (m : ℕ). tokenRow (f m t)) (k .next σ (p .stations));
-        bytes = b t (there .bytes) ∙ ap (λ (m : ℕ). daclRow (f m t)) (k .next σ (p .stations));
+        words = w t (there .isValid) (there .words) ∙ ap (λ (m : ℕ). tokenRow (f m t)) (k .next σ (p .control));
+        bytes = b t (there .bytes) ∙ ap (λ (m : ℕ). daclRow (f m t)) (k .next σ (p .control));
         decided = refl;
       });
 }
 
 -- a request on the handle that was found, and its token
-module _ {s n right : ℕ} {hs : List Handle} {ss ts ds : List ℕ} {token held : ℕ} {x : Located} (g : TokenLocated s n right hs ts token held x) (z : x .refusal ≡ 0) where
-  pub on-located : (go : State → rules-handle.Handle → rules.Token → Decision) → {ss′ ts′ ds′ : List ℕ} {r : Outcome}
-      → ((h : State → rules-handle.Handle) → ((σ : State) → valid σ ≡ true → PartsIn σ hs ss ts ds → held ≡ h σ .mask)
-      → Carried (λ σ. go σ (h σ) (state.tokenOf σ token)) hs ss ts ds ss′ ts′ ds′ r)
-      → Carried (λ σ. withHandle σ s n right (go σ)) hs ss ts ds ss′ ts′ ds′ r
+module _ {s n right : ℕ} {hs : List Handle} {cs ts ds : List ℕ} {token held : ℕ} {x : Located} (g : TokenLocated s n right hs ts token held x) (z : x .refusal ≡ 0) where
+  pub on-located : (go : State → rules-handle.Handle → rules.Token → Decision) → {cs′ ts′ ds′ : List ℕ} {r : Outcome}
+      → ((h : State → rules-handle.Handle) → ((σ : State) → valid σ ≡ true → PartsIn σ hs cs ts ds → held ≡ h σ .mask)
+      → Carried (λ σ. go σ (h σ) (state.tokenOf σ token)) hs cs ts ds cs′ ts′ ds′ r)
+      → Carried (λ σ. withHandle σ s n right (go σ)) hs cs ts ds cs′ ts′ ds′ r
   on-located go c = carried-as (λ σ v p.
       goes-on σ s n right (go σ) (g .refusal σ v (p .handles) (p .tokens)) z
       ∙ ap (λ (k : ℕ). carriedOut σ (go σ (state.handleOf σ s n) (state.tokenOf σ k))) (sym (g .token σ v (p .handles))))

@@ -17,7 +17,7 @@ use Rattle.rules.specs.Privileges.{existing, createToken, granted}
 use Rattle.rules.specs.Token as rules
 use Rattle.rules.specs.Token.{maxGroups, maxDacl, newToken, noDefaults, primaryOf}
 use Rattle.rules.specs.State.{State, stationCount, held, used}
-use Rattle.rules.specs.Memory.{tokenRow, daclRow}
+use Rattle.rules.specs.Memory.{tokenCounter, tokenRow, daclRow}
 use Rattle.rules.specs.Valid.{valid}
 use Rattle.rules.specs.Decision.{need_else_then_, carriedOut, canIssue, issued}
 use Rattle.rules.specs.Create.{validPair, validIntegrity, validCreate, entered, create}
@@ -28,9 +28,10 @@ use Rattle.handle.specs.declared.Handle.{Handle}
 use Rattle.privilege.specs.Meaning.{privilegesOf}
 use Rattle.privilege.specs.declared.privileges.Privileges.{Privileges}
 use Rattle.token.specs.NewRow.{Headed}
-use Rattle.state.specs.TokenCalls.{Held, NextToken, Used}
+use Rattle.control.specs.Counters.{NextGiven}
+use Rattle.state.specs.TokenCalls.{Held, Used}
 use Rattle.state.specs.ReleaseFacts.{PartsIn}
-use Rattle.state.proofs.TokenFrames.{used-stations, used-handles}
+use Rattle.state.proofs.TokenFrames.{used-control, used-handles}
 use Rattle.answer.specs.declared.Answer.the-variants as answers
 use Rattle.decide.specs.declared.outcome.Outcome.{Outcome}
 use Rattle.decide.specs.Carried.{Ends}
@@ -72,20 +73,20 @@ no-dacl : (u : rules.Token) → u .defaults .dacl ≡ [] → replicate maxDacl 0
 unfolding daclRow pad
 no-dacl u e = sym (ap (pad maxDacl) e)
 
-module _ (s : ℕ) {ws : List ℕ} {hs : List Handle} {ss ts ds : List ℕ} {b : Bool} (i : IssueRoom hs ts ss b) where
-  pub create-no-room : {r : Outcome} → not b ≡ true → Ends (answers.Refused 8) r → RowCreated s ws hs ss ts ds ss ts ds r
+module _ (s : ℕ) {ws : List ℕ} {hs : List Handle} {cs ts ds : List ℕ} {b : Bool} (i : IssueRoom hs ts cs b) where
+  pub create-no-room : {r : Outcome} → not b ≡ true → Ends (answers.Refused 8) r → RowCreated s ws hs cs ts ds cs ts ds r
   create-no-room f e = record { carried = λ u w d. room-refuses i (λ σ. issued s allRights u (used createToken s σ)) f e }
 
-  pub create-issues : {ts₁ ss′ ts′ ds′ : List ℕ} {r : Outcome} → not b ≡ false → s < stationCount → Used createToken s ts ss ts₁
-      → RowIssued s allRights ws (replicate maxDacl 0) hs ss ts₁ ds ss′ ts′ ds′ r → RowCreated s ws hs ss ts ds ss′ ts′ ds′ r
+  pub create-issues : {ts₁ cs′ ts′ ds′ : List ℕ} {r : Outcome} → not b ≡ false → s < stationCount → Used createToken s ts cs ts₁
+      → RowIssued s allRights ws (replicate maxDacl 0) hs cs ts₁ ds cs′ ts′ ds′ r → RowCreated s ws hs cs ts ds cs′ ts′ ds′ r
   unfolding has
   create-issues f in8 m k = record {
     carried = λ u w d. ends-issuing (λ σ. u) (λ σ. used createToken s σ) k λ σ v p. record {
       valid = facts-valid (used createToken s σ) (mark σ s createToken (valid-facts σ v) in8 refl .step .facts);
       parts = record {
         handles = used-handles (p .handles) createToken s;
-        stations = used-stations (p .stations) createToken s;
-        tokens = m .tokens σ v (p .tokens) (p .stations);
+        control = used-control (p .control) createToken s;
+        tokens = m .tokens σ v (p .tokens) (p .control);
       };
       words = w;
       bytes = no-dacl u d;
@@ -95,16 +96,16 @@ module _ (s : ℕ) {ws : List ℕ} {hs : List Handle} {ss ts ds : List ℕ} {b :
 
 -- ---- the request
 
-module _ (s user session integrity present byDefault : ℕ) (body : List ℕ) (at count : ℕ) {hs : List Handle} {ss ts ds : List ℕ} {b : Bool} (h : Held createToken s ts ss b) where
-  is-held : {c : Bool} → not b ≡ c → (σ : State) → valid σ ≡ true → PartsIn σ hs ss ts ds → not (held σ s createToken) ≡ c
-  is-held f σ v p = ap not (sym (h .held σ v (p .tokens) (p .stations))) ∙ f
+module _ (s user session integrity present byDefault : ℕ) (body : List ℕ) (at count : ℕ) {hs : List Handle} {cs ts ds : List ℕ} {b : Bool} (h : Held createToken s ts cs b) where
+  is-held : {c : Bool} → not b ≡ c → (σ : State) → valid σ ≡ true → PartsIn σ hs cs ts ds → not (held σ s createToken) ≡ c
+  is-held f σ v p = ap not (sym (h .held σ v (p .tokens) (p .control))) ∙ f
 
-  pub create-not-held : {r : Outcome} → not b ≡ true → Ends (answers.Refused 4) r → CreateCarried s user session integrity present byDefault body at count hs ss ts ds ss ts ds r
+  pub create-not-held : {r : Outcome} → not b ≡ true → Ends (answers.Refused 4) r → CreateCarried s user session integrity present byDefault body at count hs cs ts ds cs ts ds r
   unfolding create
   create-not-held {r} f e = record { carried = λ gs later q. refuses 4 r e (omega arith) (λ σ v p. fails (held σ s createToken) σ 4 _ (is-held f σ v p)) }
 
   module _ (f : not b ≡ false) {n : ℕ} {ws : List ℕ} {ok : Bool} (g : RowMade n user session integrity present byDefault body at count ws ok) where
-    pub create-refused : {r : Outcome} → not ok ≡ true → Ends (answers.Refused 5) r → CreateCarried s user session integrity present byDefault body at count hs ss ts ds ss ts ds r
+    pub create-refused : {r : Outcome} → not ok ≡ true → Ends (answers.Refused 5) r → CreateCarried s user session integrity present byDefault body at count hs cs ts ds cs ts ds r
     unfolding create
     create-refused {r} k e = record {
       carried = λ gs later q. refuses 5 r e (omega arith) λ σ v p.
@@ -112,8 +113,8 @@ module _ (s user session integrity present byDefault : ℕ) (body : List ℕ) (a
           ∙ fails (validCreate user integrity present byDefault gs) σ 5 _ (ap not (sym (g .valid gs later q)) ∙ k);
     }
 
-    pub creates : {ss′ ts′ ds′ : List ℕ} {r : Outcome} → not ok ≡ false → NextToken ss n → RowCreated s ws hs ss ts ds ss′ ts′ ds′ r
-        → CreateCarried s user session integrity present byDefault body at count hs ss ts ds ss′ ts′ ds′ r
+    pub creates : {cs′ ts′ ds′ : List ℕ} {r : Outcome} → not ok ≡ false → NextGiven tokenCounter cs n → RowCreated s ws hs cs ts ds cs′ ts′ ds′ r
+        → CreateCarried s user session integrity present byDefault body at count hs cs ts ds cs′ ts′ ds′ r
     unfolding create newToken noDefaults
     creates k next c = record {
       carried = λ gs later q.
@@ -121,6 +122,6 @@ module _ (s user session integrity present byDefault : ℕ) (body : List ℕ) (a
           carried-as (λ σ v p.
           holds (held σ s createToken) σ privilegeNotHeld _ (is-held f σ v p)
           ∙ holds (validCreate user integrity present byDefault gs) σ badField _ (ap not (sym (g .valid gs later q)) ∙ k)
-          ∙ ap (λ (j : ℕ). carriedOut σ (need canIssue σ else tableFull then issued s allRights (made j) (used createToken s σ))) (sym (next .next σ (p .stations))))
+          ∙ ap (λ (j : ℕ). carriedOut σ (need canIssue σ else tableFull then issued s allRights (made j) (used createToken s σ))) (sym (next .next σ (p .control))))
           (c .carried (made n) (g .made gs later q (not-false ok k)) refl);
     }

@@ -11,6 +11,8 @@ ghost use Rattle.create.specs.Create.{RowMade, RowCreated, CreateCarried
 use crate::groups::read_groups;
 use answer::refusal;
 use body::fields::CreateFields;
+use control::counters;
+use control::layout::NEXT_TOKEN;
 use decide::issue::can_issue;
 use decide::issue::issue_row;
 use decide::outcome;
@@ -20,7 +22,6 @@ use privilege::mask::Mask;
 use privilege::privileges::Privileges;
 use privilege::words;
 use state::tokens::held;
-use state::tokens::next_token;
 use state::tokens::used;
 use token::Identity;
 use token::layout::MAX_DACL;
@@ -65,15 +66,15 @@ fn issue_created(
     handles: &[u64; HANDLE_WORDS],
     tokens: &mut [u64],
     dacls: &mut [u8],
-    stations: &mut [u64],
+    control: &mut [u64],
 ) -> Outcome
-    requires { ⌜ Lent (now tokens) (now dacls) (now stations) × (station < stationCount) × (length (now row) ≡ tokenWords) ⌝ }
-    ensures { λ r. ⌜ RowCreated station (now (row .entry)) (recordsIn (now (handles .entry))) (now (stations .entry)) (now (tokens .entry)) (now (dacls .entry)) (now (stations .exit)) (now (tokens .exit)) (now (dacls .exit)) r ⌝ }
+    requires { ⌜ Lent (now tokens) (now dacls) (now control) × (station < stationCount) × (length (now row) ≡ tokenWords) ⌝ }
+    ensures { λ r. ⌜ RowCreated station (now (row .entry)) (recordsIn (now (handles .entry))) (now (control .entry)) (now (tokens .entry)) (now (dacls .entry)) (now (control .exit)) (now (tokens .exit)) (now (dacls .exit)) r ⌝ }
 {
-    if !can_issue(handles, tokens, stations) {
+    if !can_issue(handles, tokens, control) {
         return outcome::refused(refusal::TABLE_FULL);
     }
-    used(Privileges::CREATE_TOKEN, station, tokens, stations);
+    used(Privileges::CREATE_TOKEN, station, tokens, control);
     let all = Mask::ALL;
     let dacl = [0u8; MAX_DACL];
     issue_row(
@@ -84,7 +85,7 @@ fn issue_created(
         handles,
         tokens,
         dacls,
-        stations,
+        control,
     )
 }
 
@@ -95,18 +96,18 @@ pub fn create(
     handles: &[u64; HANDLE_WORDS],
     tokens: &mut [u64],
     dacls: &mut [u8],
-    stations: &mut [u64],
+    control: &mut [u64],
 ) -> Outcome
-    requires { ⌜ Lent (now tokens) (now dacls) (now stations) × (station < stationCount) ⌝ }
-    ensures { λ r. ⌜ CreateCarried station (f .user) (f .session) (f .integrity) (f .present) (f .«by_default») (now (s .entry)) (f .at) (f .count) (recordsIn (now (handles .entry))) (now (stations .entry)) (now (tokens .entry)) (now (dacls .entry)) (now (stations .exit)) (now (tokens .exit)) (now (dacls .exit)) r ⌝ }
+    requires { ⌜ Lent (now tokens) (now dacls) (now control) × (station < stationCount) ⌝ }
+    ensures { λ r. ⌜ CreateCarried station (f .user) (f .session) (f .integrity) (f .present) (f .«by_default») (now (s .entry)) (f .at) (f .count) (recordsIn (now (handles .entry))) (now (control .entry)) (now (tokens .entry)) (now (dacls .entry)) (now (control .exit)) (now (tokens .exit)) (now (dacls .exit)) r ⌝ }
 {
-    if !held(Privileges::CREATE_TOKEN, station, tokens, stations) {
+    if !held(Privileges::CREATE_TOKEN, station, tokens, control) {
         return outcome::refused(refusal::PRIVILEGE_NOT_HELD);
     }
-    let n = next_token(stations);
+    let n = counters::next(NEXT_TOKEN, control);
     let mut row = [0u64; TOKEN_WORDS];
     if !make(n, f, s, &mut row) {
         return outcome::refused(refusal::BAD_FIELD);
     }
-    issue_created(station, &row, handles, tokens, dacls, stations)
+    issue_created(station, &row, handles, tokens, dacls, control)
 }

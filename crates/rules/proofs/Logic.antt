@@ -99,6 +99,12 @@ module _ {A : Type 0} where
   length-changeAt (x ∷ xs) zero f = refl
   length-changeAt (x ∷ xs) (suc i) f = ap suc (length-changeAt xs i f)
 
+  pub changeAt-set : (xs : List A) (i : ℕ) (f : A → A) (z : A) → changeAt i f xs ≡ set xs i (f (getD xs i z))
+  unfolding changeAt
+  changeAt-set [] i f z = refl
+  changeAt-set (x ∷ xs) zero f z = refl
+  changeAt-set (x ∷ xs) (suc i) f z = ap (λ ys. x ∷ ys) (changeAt-set xs i f z)
+
   -- what stands there after a change, and what stood there before
   pub mem-changeAt : (xs : List A) (i : ℕ) (f : A → A) {a : A} → Mem a (changeAt i f xs) → ((b : A) × Mem b xs × (a ≡ f b)) ⊎ Mem a xs
   unfolding changeAt

@@ -17,9 +17,9 @@ use Rattle.session.specs.Program.{Output, nothing, fed}
 use Rattle.session.specs.declared.turn.Turned.{Turned}
 
 -- a start over no handles
-pub record Starts (ts ds ss ps ts′ ds′ ss′ ps′ : List ℕ) (r : Handles) : Type 0 where
+pub record Starts (ts ds cs ps ts′ ds′ cs′ ps′ : List ℕ) (r : Handles) : Type 0 where
   pub handles : recordsIn (r .words) ≡ replicate handleSlots none
-  pub memory : memoryOf ts′ ds′ (recordsIn (r .words)) ss′ ps′ ≡ startOn (memoryOf ts ds (recordsIn (r .words)) ss ps) .after
+  pub memory : memoryOf ts′ ds′ (recordsIn (r .words)) cs′ ps′ ≡ startOn (memoryOf ts ds (recordsIn (r .words)) cs ps) .after
 
 -- the answer that was written, before what the rest of a chunk brings
 abbrev pub answering : List ℕ → Output → Output

@@ -1,8 +1,8 @@
-// A group and its word.
+// A group and its word, SID + attributes * 2^32.
 ghost use mathlib.Core.Path.{_≡_};
 ghost use Rattle.token.specs.Row.{groupIn, wordOf};
 use crate::Group;
-use crate::layout::WORD_32;
+use table::WORD_32;
 
 pub fn unpack(w: u64) -> Group
     ensures { λ r. ⌜ r ≡ groupIn w ⌝ }

@@ -23,7 +23,7 @@ use Rattle.rules.specs.State.{handleSlots, stationCount, numberOf, handleNumber
 use Rattle.rules.specs.Valid.{between, handleValid}
 use Rattle.rules.specs.Memory.{slotAt, tokenAt, identityAt, handleAt, slotHandle, sameHandle, sameHandles, stationAt, tokenWords, stationWords, pendingBytes}
 use Rattle.rules.proofs.Logic.{and-r, and-i, or-e, or-l, or-r, either}
-use Rattle.valid.specs.Tests.{slotTest, columnBy, firstWord, otherWord, kept, nonzero, isKept, referenceSlots, Referred, count, isGiven, isApart, fieldsTest}
+use Rattle.valid.specs.Tests.{slotTest, columnBy, firstWord, otherWord, tokenIn, kept, nonzero, isKept, referenceSlots, Referred, count, isGiven, isApart, fieldsTest}
 use Rattle.valid.proofs.Truth.{same-truth, all-cong, all-and, all-map, eqb-same, eqb-flip}
 use Rattle.valid.proofs.Loops.{Keeping, keeping-none, keeping-more}
 use Rattle.valid.proofs.Counts.{count-none, distinct-count}
@@ -60,7 +60,7 @@ module _ (f : List ℕ → ℕ) (w : ℕ) where
 -- the stations' tokens are written behind the first n elements of an array
 module _ (n : ℕ) (ws before : List ℕ) where
   abbrev added : List ℕ
-  added = columnBy firstWord stationWords stationCount ws
+  added = columnBy tokenIn stationWords stationCount ws
 
   -- after i of them
   pub record Adding (items : List ℕ) (i : ℕ) : Type 0 where
@@ -73,7 +73,7 @@ module _ (n : ℕ) (ws before : List ℕ) where
   pub adding-none : n ≤ handleSlots → length before ≡ referenceSlots → Adding before 0
   adding-none f l = record { within = omega arith; fits = f; long = l; held = refl; behind = refl }
 
-  pub adding-more : {items : List ℕ} {i v : ℕ} → Adding items i → i < stationCount → v ≡ firstWord (take (i * stationWords + stationWords - i * stationWords) (drop (i * stationWords) ws))
+  pub adding-more : {items : List ℕ} {i v : ℕ} → Adding items i → i < stationCount → v ≡ tokenIn (take (i * stationWords + stationWords - i * stationWords) (drop (i * stationWords) ws))
       → Adding (set items (n + i) v) (i + 1)
   adding-more {items} {i} {v} t h e = record {
     within = omega arith;
@@ -83,8 +83,8 @@ module _ (n : ℕ) (ws before : List ℕ) where
     behind =
         ap₂ take (add-one i) (drop-set-add n items i v)
         ∙ take-suc-set (drop n items) i v (simp length-drop (omega (arith, t .fits, t .long)))
-        ∙ ap₂ (λ l x. l ++ (x ∷ [])) (t .behind) (column-lent firstWord stationWords stationCount i ws h e)
-        ∙ sym (take-suc added i 0 (omega (arith, length-column firstWord stationWords stationCount ws)))
+        ∙ ap₂ (λ l x. l ++ (x ∷ [])) (t .behind) (column-lent tokenIn stationWords stationCount i ws h e)
+        ∙ sym (take-suc added i 0 (omega (arith, length-column tokenIn stationWords stationCount ws)))
         ∙ ap (λ (k : ℕ). take k added) (sym (add-one i));
   }
 
@@ -94,7 +94,7 @@ module _ (n : ℕ) (ws before : List ℕ) where
       record {
         room = record { fits = omega (arith, t .fits); long = t .long };
         held = t .held;
-        behind = ap (λ (k : ℕ). take k (drop n items)) (sym e) ∙ t .behind ∙ take-all i added (omega (arith, length-column firstWord stationWords stationCount ws));
+        behind = ap (λ (k : ℕ). take k (drop n items)) (sym e) ∙ t .behind ∙ take-all i added (omega (arith, length-column tokenIn stationWords stationCount ws));
       }
 
 -- ---- what is kept of a list
@@ -202,10 +202,10 @@ other-numbers ss n ws bs =
 
 -- ---- the stations' tokens
 
-pub station-tokens : (n : ℕ) (ws bs : List ℕ) → map stationToken (readRows stationAt stationWords pendingBytes n ws bs) ≡ columnBy firstWord stationWords n ws
+pub station-tokens : (n : ℕ) (ws bs : List ℕ) → map stationToken (readRows stationAt stationWords pendingBytes n ws bs) ≡ columnBy tokenIn stationWords n ws
 unfolding readRows columnBy stationAt stationToken
 station-tokens zero ws bs = refl
-station-tokens (suc n) ws bs = ap (λ l. getD (take stationWords ws) 0 0 ∷ l) (station-tokens n (drop stationWords ws) (drop pendingBytes bs))
+station-tokens (suc n) ws bs = ap (λ l. tokenIn (take stationWords ws) ∷ l) (station-tokens n (drop stationWords ws) (drop pendingBytes bs))
 
 -- ---- the handles
 

@@ -17,7 +17,7 @@ use Rattle.rules.specs.Table.{Slot, free, live}
 use Rattle.rules.specs.Handle.{Handle}
 use Rattle.rules.specs.State.{handleNumber, handleToken, tokenSlots, handleSlots, stationCount}
 use Rattle.rules.specs.Valid.{groupValid, tokenValid, streamValid}
-use Rattle.rules.specs.Memory.{Memory, same, slotRow, slotDacl, slotAt, tokenRow, daclRow, tokenAt, stationRow, pendingRow, stationAt, unpack, word32, headWords, tokenWords, stationWords, pendingBytes, counterWords}
+use Rattle.rules.specs.Memory.{Memory, same, slotRow, slotDacl, slotAt, tokenRow, daclRow, tokenAt, stationRow, pendingRow, stationAt, unpack, word32, headWords, tokenWords, stationWords, primaryWord, countWord, brokenWord, nextToken, nextHandle, stationsIn, pendingBytes}
 
 abbrev pub isZero : ℕ → Bool
 isZero w = eqb w 0
@@ -103,7 +103,7 @@ stationTest ws bs = same (stationRow (stationAt ws bs)) ws && same (pendingRow (
 
 -- nothing pending
 abbrev pub idleTest : List ℕ → Bool
-idleTest ws = eqb (getD ws 1 0) 0 && ltb (getD ws 2 0) 2
+idleTest ws = eqb (getD ws countWord 0) 0 && ltb (getD ws brokenWord 0) 2
 
 -- of each row; the bytes beside it are not looked at
 abbrev pub allIdle : List ℕ → Bool
@@ -117,6 +117,10 @@ columnBy f w (suc n) ws = f (take w ws) ∷ columnBy f w n (drop w ws)
 
 abbrev pub firstWord : List ℕ → ℕ
 firstWord row = getD row 0 0
+
+-- a station's primary token
+abbrev pub tokenIn : List ℕ → ℕ
+tokenIn row = getD row primaryWord 0
 
 -- the number of a token that is not primary, else 0
 abbrev pub otherWord : List ℕ → ℕ
@@ -200,15 +204,15 @@ numbersTest ns os hs ts ss nextToken nextHandle =
     && refsTest ns (ts ++ ss)
     && all (isApart ss) os
 
--- the parts of the lent memory: tokens, handles, counters and stations
+-- the parts of the lent memory: tokens, handles, control words
 unfoldable pub linksTest : List ℕ → List Handle → List ℕ → Bool
-linksTest ts hs ss =
+linksTest ts hs cs =
     all fieldsTest hs
     && numbersTest (nonzero (columnBy firstWord tokenWords tokenSlots ts)) (nonzero (columnBy otherWord tokenWords tokenSlots ts))
-    (kept handleNumber handleNumber hs) (kept handleNumber handleToken hs) (columnBy firstWord stationWords stationCount (drop counterWords ss)) (getD ss 0 0) (getD ss 1 0)
+    (kept handleNumber handleNumber hs) (kept handleNumber handleToken hs) (columnBy tokenIn stationWords stationCount (stationsIn cs)) (nextToken cs) (nextHandle cs)
 
 unfoldable pub partsTest : Memory → Bool
 partsTest m =
     testRows tokenTest tokenWords maxDacl tokenSlots m.tokens m.dacls
-    && testRows stationTest stationWords pendingBytes stationCount (drop counterWords m.stations) m.pending
-    && linksTest m.tokens m.handles m.stations
+    && testRows stationTest stationWords pendingBytes stationCount (stationsIn m.control) m.pending
+    && linksTest m.tokens m.handles m.control

@@ -15,6 +15,7 @@ use crate::words::narrow_words;
 use crate::words::zero_bytes;
 use crate::words::zero_words;
 use privilege::privileges::Privileges;
+use table::WORD_32;
 use token::layout::*;
 
 // A group's word is SID + attributes * 2^32. Its attributes; OWNER's bit of the word.

@@ -14,13 +14,13 @@ use Rattle.obriska.proofs.run.Tie as tie
 
 -- the slices keep their lengths
 abbrev Inv : tie.InvT-loop
-Inv buffer₀ answer₀ tokens₀ dacls₀ stations₀ pending₀ held₀ chunks₀ from₀ end₀ buffer answer tokens dacls stations pending held chunks from end =
-    (chunks ≤ budget) × (from ≤ end) × (end ≤ length buffer) × Ready buffer answer (memoryOf tokens dacls (recordsIn (held .words)) stations pending)
+Inv buffer₀ answer₀ tokens₀ dacls₀ control₀ pending₀ held₀ chunks₀ from₀ end₀ buffer answer tokens dacls control pending held chunks from end =
+    (chunks ≤ budget) × (from ≤ end) × (end ≤ length buffer) × Ready buffer answer (memoryOf tokens dacls (recordsIn (held .words)) control pending)
     × (length buffer ≡ length buffer₀) × (length answer ≡ length answer₀) × (length tokens ≡ length tokens₀)
-    × (length dacls ≡ length dacls₀) × (length stations ≡ length stations₀) × (length pending ≡ length pending₀)
+    × (length dacls ≡ length dacls₀) × (length control ≡ length control₀) × (length pending ≡ length pending₀)
 
 abbrev μ : tie.MeasureT-loop
-μ buffer₀ answer₀ tokens₀ dacls₀ stations₀ pending₀ held₀ chunks₀ from₀ end₀ buffer answer tokens dacls stations pending held chunks from end =
+μ buffer₀ answer₀ tokens₀ dacls₀ control₀ pending₀ held₀ chunks₀ from₀ end₀ buffer answer tokens dacls control pending held chunks from end =
     (budget - chunks) * (bufferBytes + 1) + (bufferBytes - (end - from))
 
 pub run-spec : {M : Type 1} → statement M

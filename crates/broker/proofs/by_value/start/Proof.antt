@@ -1,6 +1,7 @@
 -- By the test of the sizes. Assumes nothing.
 use borrow.Author.Needs.{needs}
-use Rattle.broker.proofs.Starting.{start-refused, start-lent, starts}
+use Rattle.valid.proofs.Sizes.{right-lent}
+use Rattle.broker.proofs.Starting.{start-refused, starts}
 use Rattle.broker.proofs.by_value.start.Statement.{statement}
 use Rattle.broker.proofs.by_value.start.Tie as tie
 
@@ -10,7 +11,7 @@ start-spec =
     (tie.spec
     (λ c κs. search needs)
     (λ c. search (needs, start-refused))
-    (λ c κs. search (needs, start-lent))
+    (λ c κs. search (needs, right-lent))
     (λ c. search needs)
     (λ c. search needs)
     (λ c. search needs)
