@@ -62,23 +62,23 @@ go s v σ h t = need held σ s tcb else privilegeNotHeld then success (changeTok
 
 module _ {s n : ℕ} (v : ℕ) {hs : List Handle} {cs ts ds : List ℕ} {h : Handle} {k : ℕ} (l : LookedUp s n adjustScope hs h k) where
   pub scope-handle-refused : {r : Outcome} → (k ≡ 0 → ⊥) → Ends (answers.Refused k) r
-      → Carried (λ σ. scope σ s n v) hs cs ts ds cs ts ds r
+      → Carried (λ σ. scope σ s n v) ts ds hs cs ts ds cs r
   unfolding scope
   scope-handle-refused {r} f e = handle-refuses l (go s v) r e f
 
   module _ (found : k ≡ 0) {b : Bool} (is : Held tcb s ts cs b) where
-    decided : (σ : State) → valid σ ≡ true → PartsIn σ hs cs ts ds
+    decided : (σ : State) → valid σ ≡ true → PartsIn σ ts ds hs cs
         → carriedOut σ (scope σ s n v) ≡ carriedOut σ (need b else privilegeNotHeld then success (changeToken (h .token) (scopedToken v) (used tcb s σ)) [])
     unfolding scope
     decided σ w p =
         looked-up l σ w (p .handles) (go s v σ) found ∙ rw (sym (is .held σ w (p .tokens) (p .control)))
 
-    pub scope-not-held : {r : Outcome} → not b ≡ true → Ends (answers.Refused 4) r → Carried (λ σ. scope σ s n v) hs cs ts ds cs ts ds r
+    pub scope-not-held : {r : Outcome} → not b ≡ true → Ends (answers.Refused 4) r → Carried (λ σ. scope σ s n v) ts ds hs cs ts ds cs r
     unfolding carriedOut refusal
     scope-not-held {r} f e = refuses 4 r e (omega arith) (λ σ w p. decided σ w p ∙ rw (not-true b f))
 
     pub scope-changes : {r : Outcome} {ts′ : List ℕ} → not b ≡ false → ScopeApplied s (h .token) v ts cs ts′ → Ends answers.Done r
-        → Carried (λ σ. scope σ s n v) hs cs ts ds cs ts′ ds r
+        → Carried (λ σ. scope σ s n v) ts ds hs cs ts′ ds cs r
     unfolding carriedOut changeToken putToken
     scope-changes {r} f c e = ends-with answers.Done r e (λ σ w p. tt)
         (λ σ w p. rw (decided σ w p, not-false b f) (record {

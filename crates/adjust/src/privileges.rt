@@ -48,7 +48,7 @@ pub fn adjust_privileges(
     control: &[u64],
 ) -> Outcome
     requires { ⌜ Lent (now tokens) (now dacls) (now control) ⌝ }
-    ensures { λ r. ⌜ EntriesCarried adjust station (f .handle) (now (s .entry)) (f .at) (f .count) (recordsIn (now (handles .entry))) (now (control .entry)) (now (tokens .entry)) (now (dacls .entry)) (now (control .entry)) (now (tokens .exit)) (now (dacls .entry)) r ⌝ }
+    ensures { λ r. ⌜ EntriesCarried adjust station (f .handle) (now (s .entry)) (f .at) (f .count) (now (tokens .entry)) (now (dacls .entry)) (recordsIn (now (handles .entry))) (now (control .entry)) (now (tokens .exit)) (now (dacls .entry)) (now (control .entry)) r ⌝ }
 {
     let found = find_handle(station, f.handle, handles);
     let x = locate(found, mask_of(found).may_adjust_privileges(), tokens);

@@ -67,7 +67,7 @@ pub fn scope(
     control: &[u64],
 ) -> Outcome
     requires { ⌜ Lent (now tokens) (now dacls) (now control) × (station < stationCount) ⌝ }
-    ensures { λ r. ⌜ Carried (λ σ. rules.scope σ station (f .handle) (f .value)) (recordsIn (now (handles .entry))) (now (control .entry)) (now (tokens .entry)) (now (dacls .entry)) (now (control .entry)) (now (tokens .exit)) (now (dacls .entry)) r ⌝ }
+    ensures { λ r. ⌜ Carried (λ σ. rules.scope σ station (f .handle) (f .value)) (now (tokens .entry)) (now (dacls .entry)) (recordsIn (now (handles .entry))) (now (control .entry)) (now (tokens .exit)) (now (dacls .entry)) (now (control .entry)) r ⌝ }
 {
     let found = find_handle(station, f.handle, handles);
     let refused = handle_refusal(found, mask_of(found).may_adjust_scope());

@@ -56,7 +56,7 @@ unfolding stationToken cleared withPending streamValid all isPart framed framedB
 cleared-valid σ s v = facts-valid (changeStation s cleared σ) (stream-facts σ s cleared (λ x. refl) (λ x m. refl) (valid-facts σ v))
 
 parts-set : {s n : ℕ} {b : Bool} {hs : List Handle} {cs ts ds cs′ : List ℕ} → StreamSet s n b cs cs′ → (σ : State) (f : Station → Station)
-    → ((x : Station) → stationRow (f x) ≡ streamRow n b (stationRow x)) → PartsIn σ hs cs ts ds → PartsIn (changeStation s f σ) hs cs′ ts ds
+    → ((x : Station) → stationRow (f x) ≡ streamRow n b (stationRow x)) → PartsIn σ ts ds hs cs → PartsIn (changeStation s f σ) ts ds hs cs′
 unfolding changeStation withStations
 parts-set w σ f q p = record {
   handles = record { records = p .handles .records };
@@ -64,7 +64,7 @@ parts-set w σ f q p = record {
   tokens = record { words = p .tokens .words; bytes = p .tokens .bytes };
 }
 
-parts-cleared : {s : ℕ} {hs : List Handle} {cs ts ds cs′ : List ℕ} → StreamSet s 0 false cs cs′ → (σ : State) → PartsIn σ hs cs ts ds → PartsIn (changeStation s cleared σ) hs cs′ ts ds
+parts-cleared : {s : ℕ} {hs : List Handle} {cs ts ds cs′ : List ℕ} → StreamSet s 0 false cs cs′ → (σ : State) → PartsIn σ ts ds hs cs → PartsIn (changeStation s cleared σ) ts ds hs cs′
 unfolding stationRow cleared withPending
 parts-cleared w σ p = parts-set w σ cleared (λ x. refl) p
 
@@ -74,8 +74,8 @@ held-cleared {s} w k = record { state = changeStation s cleared (k .state); isVa
 -- ---- a frame's body is served
 
 pub frame-served : (s start count used : ℕ) (hs : List Handle) {cs ts ds row out cs₁ cs′ ts′ ds′ row′ out′ : List ℕ} (r : Reply) → StreamSet s 0 false cs cs₁
-    → BodyServed s (take (count - start) (drop start row)) hs cs₁ ts ds cs′ ts′ ds′ out out′ r → row′ ≡ zeroed count row
-    → FrameServed s start count used hs cs ts ds row out cs′ ts′ ds′ row′ out′ (record { fed = record { refusal = 0; used = used; answered = r .written }; change = r .change })
+    → BodyServed s (take (count - start) (drop start row)) ts ds hs cs₁ ts′ ds′ cs′ out out′ r → row′ ≡ zeroed count row
+    → FrameServed s start count used ts ds hs cs row out ts′ ds′ cs′ row′ out′ (record { fed = record { refusal = 0; used = used; answered = r .written }; change = r .change })
 frame-served s start count used hs r w b e = record {
   refusal = refl;
   used = refl;
@@ -107,7 +107,7 @@ module _ (σ : State) (v : valid σ ≡ true) where
       set-out hs handleSlots none
       (omega (arith, length-map hs handleOf, ap length (i .records), length-map (σ .handles .slots) slotHandle, valid-facts σ v .loose .handles .sized))
 
-  parts-kept : {hs : List Handle} {cs ts ds : List ℕ} → PartsIn σ hs cs ts ds → PartsIn σ (set hs handleSlots none) cs ts ds
+  parts-kept : {hs : List Handle} {cs ts ds : List ℕ} → PartsIn σ ts ds hs cs → PartsIn σ ts ds (set hs handleSlots none) cs
   parts-kept p = rw (none-changed (p .handles)) p
 
   module _ (s : ℕ) (h : s < stationCount) where
@@ -134,7 +134,7 @@ module _ (σ : State) (v : valid σ ≡ true) where
 
 -- ---- what join asks
 
-module _ {s : ℕ} {hs : List Handle} {cs ts ds row : List ℕ} (k : RowHeld s hs cs ts ds row) where
+module _ {s : ℕ} {hs : List Handle} {cs ts ds row : List ℕ} (k : RowHeld s ts ds hs cs row) where
   pub held-row : Held hs cs ts ds
   held-row = record { state = k .state; isValid = k .isValid; parts = k .parts }
 
@@ -154,7 +154,7 @@ module _ {chunk row row₁ : List ℕ} {n : ℕ} {r : Stopped} (j : Joined chunk
 
 module _ (s : ℕ) (chunk : List ℕ) {hs : List Handle} {cs ts ds row : List ℕ} (g : Stream) (h : s < stationCount) (i : StreamGiven s cs g) where
   -- the stream is broken
-  pub chunk-eaten : {out : List ℕ} {u : Turn} → g .broken ≡ true → u ≡ quiet 0 (length chunk) handleSlots → RowFed s chunk hs cs ts ds row out cs ts ds row out u
+  pub chunk-eaten : {out : List ℕ} {u : Turn} → g .broken ≡ true → u ≡ quiet 0 (length chunk) handleSlots → RowFed s chunk ts ds hs cs row out ts ds cs row out u
   unfolding buffer
   chunk-eaten b q = record {
     fed = λ σ v p e. rw (stream-eaten σ s chunk (sym (i .broken σ (p .control)) ∙ b), q) (record {
@@ -168,7 +168,7 @@ module _ (s : ℕ) (chunk : List ℕ) {hs : List Handle} {cs ts ds row : List �
   }
 
   module _ (intact : g .broken ≡ false) {row₁ : List ℕ} (r : Stopped) (j : Joined chunk row (g .count) row₁ r) (l : length row₁ ≡ length row) where
-    module _ (σ : State) (v : valid σ ≡ true) (p : PartsIn σ hs cs ts ds) (e : row ≡ pendingRow (stationAt σ s)) where
+    module _ (σ : State) (v : valid σ ≡ true) (p : PartsIn σ ts ds hs cs) (e : row ≡ pendingRow (stationAt σ s)) where
       unbroken : stationAt σ s .isBroken ≡ false
       unbroken = sym (i .broken σ (p .control)) ∙ intact
 
@@ -196,7 +196,7 @@ module _ (s : ℕ) (chunk : List ℕ) {hs : List Handle} {cs ts ds row : List �
       zeroed-row = row-zeroed (stationAt σ s .pending) (stopAt σ s chunk .joined) row₁ (r .count) (joined-longer (stationAt σ s .pending) chunk) joined-count (j .fits) after
 
     pub chunk-joins : r .what ≡ code.Part → {cs′ out : List ℕ} {u : Turn} → PartKept s (r .count) (r .used) cs cs′ u
-        → RowFed s chunk hs cs ts ds row out cs′ ts ds row₁ out u
+        → RowFed s chunk ts ds hs cs row out ts ds cs′ row₁ out u
     unfolding buffer stationRow pendingRow withPending
     chunk-joins q w = record {
       fed = λ σ v p e.
@@ -214,7 +214,7 @@ module _ (s : ℕ) (chunk : List ℕ) {hs : List Handle} {cs ts ds row : List �
     }
 
     pub chunk-breaks : r .what ≡ code.Broken → {out cs′ row′ out′ : List ℕ} {u : Turn} → BrokenOff s (r .count) (r .used) cs row₁ out cs′ row′ out′ u
-        → RowFed s chunk hs cs ts ds row out cs′ ts ds row′ out′ u
+        → RowFed s chunk ts ds hs cs row out ts ds cs′ row′ out′ u
     unfolding buffer frame encode encodeIn lowFirst stationRow brokenOff
     chunk-breaks q w = record {
       fed = λ σ v p e.
@@ -232,8 +232,8 @@ module _ (s : ℕ) (chunk : List ℕ) {hs : List Handle} {cs ts ds row : List �
     }
 
     pub chunk-serves : (start : ℕ) → r .what ≡ code.Whole start → {out cs′ ts′ ds′ row′ out′ : List ℕ} {u : Turn}
-        → FrameServed s start (r .count) (r .used) hs cs ts ds row₁ out cs′ ts′ ds′ row′ out′ u
-        → RowFed s chunk hs cs ts ds row out cs′ ts′ ds′ row′ out′ u
+        → FrameServed s start (r .count) (r .used) ts ds hs cs row₁ out ts′ ds′ cs′ row′ out′ u
+        → RowFed s chunk ts ds hs cs row out ts′ ds′ cs′ row′ out′ u
     unfolding buffer cleared withPending
     chunk-serves start q w = record {
       fed = λ σ v p e.
@@ -274,11 +274,11 @@ module _ (s : ℕ) (chunk : List ℕ) (hs : List Handle) (ts ds cs ps : List ℕ
   pub lent-long : length lent ≡ pendingBytes
   lent-long = ap length lent-row ∙ length-pendingRow (stationAt held s)
 
-  pub row-held : RowHeld s hs cs ts ds lent
+  pub row-held : RowHeld s ts ds hs cs lent
   row-held = record { state = held; isValid = state-valid; parts = held-parts ts ds hs cs ps v; pending = lent-row }
 
-  pub accepts : {out cs′ ts′ ds′ row′ out′ : List ℕ} {u : Turn} → RowFed s chunk hs cs ts ds lent out cs′ ts′ ds′ row′ out′ u
-      → Accepted s chunk hs ts ds cs ps out ts′ ds′ cs′ (take (s * pendingBytes) ps ++ (row′ ++ drop (s * pendingBytes + pendingBytes - s * pendingBytes) (drop (s * pendingBytes) ps))) out′ u
+  pub accepts : {out cs′ ts′ ds′ row′ out′ : List ℕ} {u : Turn} → RowFed s chunk ts ds hs cs lent out ts′ ds′ cs′ row′ out′ u
+      → Accepted s chunk ts ds hs cs ps out ts′ ds′ cs′ (take (s * pendingBytes) ps ++ (row′ ++ drop (s * pendingBytes + pendingBytes - s * pendingBytes) (drop (s * pendingBytes) ps))) out′ u
   unfolding written
   accepts {out} {cs′} {ts′} {ds′} {row′} {out′} {u} r =
       let f = r .fed held state-valid (held-parts ts ds hs cs ps v) lent-row in

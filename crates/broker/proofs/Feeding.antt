@@ -77,7 +77,7 @@ module _ (s : ℕ) (chunk : List ℕ) (count : ℕ) (items : List Handle) (ts ds
       feed-invalid f q = refuses invalidMemory q (λ hs k e. invalid (memoryOf ts ds hs cs ps) s chunk (length out) h l (sym (t .means hs k e) ∙ not-true b f))
 
       -- the chunk is of bytes
-      pub feeds-with : ((i : ℕ) → Fits w8 (getD chunk i 0)) → not b ≡ false → {ts′ ds′ cs′ ps′ out′ : List ℕ} {u : Turn} → Accepted s chunk items ts ds cs ps out ts′ ds′ cs′ ps′ out′ u
+      pub feeds-with : ((i : ℕ) → Fits w8 (getD chunk i 0)) → not b ≡ false → {ts′ ds′ cs′ ps′ out′ : List ℕ} {u : Turn} → Accepted s chunk ts ds items cs ps out ts′ ds′ cs′ ps′ out′ u
           → FeedsWith s chunk count items ts ds cs ps out ts′ ds′ cs′ ps′ out′ u
       feeds-with w f {ts′} {ds′} {cs′} {ps′} {out′} {u} a =
           let m = memoryOf ts ds items cs ps in

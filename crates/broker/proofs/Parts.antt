@@ -24,7 +24,7 @@ module _ (ts ds : List ℕ) (hs : List Handle) (cs ps : List ℕ) where
   abbrev memory : Memory
   memory = memoryOf ts ds hs cs ps
 
-  pub written-as : (τ : State) → PartsIn τ hs cs ts ds → PendingIn τ ps → memory ≡ encode τ
+  pub written-as : (τ : State) → PartsIn τ ts ds hs cs → PendingIn τ ps → memory ≡ encode τ
   unfolding encode control
   written-as τ p q = cc (p .tokens .words, p .tokens .bytes, p .handles .records, p .control .words .words, q .rows)
 
@@ -32,7 +32,7 @@ module _ (ts ds : List ℕ) (hs : List Handle) (cs ps : List ℕ) where
     back : encode (decode memory) ≡ memory
     back = valid-written memory v
 
-    pub held-parts : PartsIn (decode memory) hs cs ts ds
+    pub held-parts : PartsIn (decode memory) ts ds hs cs
     unfolding encode
     held-parts = record {
       handles = record { records = sym (ap (λ m. m .handles) back) };

@@ -60,7 +60,7 @@ module _ (s count : ℕ) (items : List Handle) (ts ds cs ps : List ℕ) where
           let m : Memory = memoryOf ts ds hs cs ps in
           let v : valid m ≡ true = sym (t .means hs l e) ∙ not-false b f in
           let σ : State = decode m in
-          let p : PartsIn σ hs cs ts ds = held-parts ts ds hs cs ps v in
+          let p : PartsIn σ ts ds hs cs = held-parts ts ds hs cs ps v in
           record {
             refusal = sym (reconnects-0 m s h v);
             memory =

@@ -97,7 +97,7 @@ fn serve_frame(
     out: &mut [u8],
 ) -> Turn
     requires { ⌜ Lent (now tokens) (now dacls) (now control) × (station < stationCount) × (maxAnswer ≤ length (now out)) × Held (recordsIn (now handles)) (now control) (now tokens) (now dacls) × (start ≤ count) × (count ≤ length (now row)) ⌝ }
-    ensures { λ r. ⌜ FrameServed station start count used (recordsIn (now (handles .entry))) (now (control .entry)) (now (tokens .entry)) (now (dacls .entry)) (now (row .entry)) (now (out .entry)) (now (control .exit)) (now (tokens .exit)) (now (dacls .exit)) (now (row .exit)) (now (out .exit)) r ⌝ }
+    ensures { λ r. ⌜ FrameServed station start count used (now (tokens .entry)) (now (dacls .entry)) (recordsIn (now (handles .entry))) (now (control .entry)) (now (row .entry)) (now (out .entry)) (now (tokens .exit)) (now (dacls .exit)) (now (control .exit)) (now (row .exit)) (now (out .exit)) r ⌝ }
 {
     stations::set_stream(station, 0, false, control);
     let reply = serve::serve(
@@ -132,8 +132,8 @@ fn accept_row(
     row: &mut [u8],
     out: &mut [u8],
 ) -> Turn
-    requires { ⌜ Lent (now tokens) (now dacls) (now control) × (station < stationCount) × (maxAnswer ≤ length (now out)) × (length (now row) ≡ pendingBytes) × RowHeld station (recordsIn (now handles)) (now control) (now tokens) (now dacls) (now row) ⌝ }
-    ensures { λ r. ⌜ RowFed station (now (chunk .entry)) (recordsIn (now (handles .entry))) (now (control .entry)) (now (tokens .entry)) (now (dacls .entry)) (now (row .entry)) (now (out .entry)) (now (control .exit)) (now (tokens .exit)) (now (dacls .exit)) (now (row .exit)) (now (out .exit)) r ⌝ }
+    requires { ⌜ Lent (now tokens) (now dacls) (now control) × (station < stationCount) × (maxAnswer ≤ length (now out)) × (length (now row) ≡ pendingBytes) × RowHeld station (now tokens) (now dacls) (recordsIn (now handles)) (now control) (now row) ⌝ }
+    ensures { λ r. ⌜ RowFed station (now (chunk .entry)) (now (tokens .entry)) (now (dacls .entry)) (recordsIn (now (handles .entry))) (now (control .entry)) (now (row .entry)) (now (out .entry)) (now (tokens .exit)) (now (dacls .exit)) (now (control .exit)) (now (row .exit)) (now (out .exit)) r ⌝ }
 {
     let before = stations::stream_of(station, control);
     if before.broken {
@@ -172,7 +172,7 @@ pub fn accept(
     out: &mut [u8],
 ) -> Turn
     requires { ⌜ Sizes.Lent (now tokens) (now dacls) (now control) (now pending) × (Memory.valid (memoryOf (now tokens) (now dacls) (recordsIn (now handles)) (now control) (now pending)) ≡ true) × (station < stationCount) × (maxAnswer ≤ length (now out)) ⌝ }
-    ensures { λ r. ⌜ Accepted station (now (chunk .entry)) (recordsIn (now (handles .entry))) (now (tokens .entry)) (now (dacls .entry)) (now (control .entry)) (now (pending .entry)) (now (out .entry)) (now (tokens .exit)) (now (dacls .exit)) (now (control .exit)) (now (pending .exit)) (now (out .exit)) r ⌝ }
+    ensures { λ r. ⌜ Accepted station (now (chunk .entry)) (now (tokens .entry)) (now (dacls .entry)) (recordsIn (now (handles .entry))) (now (control .entry)) (now (pending .entry)) (now (out .entry)) (now (tokens .exit)) (now (dacls .exit)) (now (control .exit)) (now (pending .exit)) (now (out .exit)) r ⌝ }
 {
     let at = station as usize * PENDING_BYTES;
     let end = at + PENDING_BYTES;

@@ -35,7 +35,7 @@ pub issues-made : (f : ℕ → rules.Token → rules.Token) {n i s mask : ℕ} {
     → i < tokenSlots → NextGiven tokenCounter cs n
     → ((t : rules.Token) → tokenValid t ≡ true → record-at tokenWords i ts ≡ tokenRow t → ws ≡ tokenRow (f n t))
     → ((t : rules.Token) → record-at maxDacl i ds ≡ daclRow t → bs ≡ daclRow (f n t))
-    → RowIssued s mask ws bs hs cs ts ds cs′ ts′ ds′ r → CopyIssued f i s mask hs cs ts ds cs′ ts′ ds′ r
+    → RowIssued s mask ws bs ts ds hs cs ts′ ds′ cs′ r → CopyIssued f i s mask ts ds hs cs ts′ ds′ cs′ r
 issues-made f l k w b e = record {
   carried = λ j at. ends-issuing (λ σ. f (σ .tokens .next) (state.tokenOf σ j)) (λ σ. σ) e (λ σ v p.
       let t = state.tokenOf σ j in
@@ -52,9 +52,9 @@ issues-made f l k w b e = record {
 -- a request on the handle that was found, and its token
 module _ {s n right : ℕ} {hs : List Handle} {cs ts ds : List ℕ} {token held : ℕ} {x : Located} (g : TokenLocated s n right hs ts token held x) (z : x .refusal ≡ 0) where
   pub on-located : (go : State → rules-handle.Handle → rules.Token → Decision) → {cs′ ts′ ds′ : List ℕ} {r : Outcome}
-      → ((h : State → rules-handle.Handle) → ((σ : State) → valid σ ≡ true → PartsIn σ hs cs ts ds → held ≡ h σ .mask)
-      → Carried (λ σ. go σ (h σ) (state.tokenOf σ token)) hs cs ts ds cs′ ts′ ds′ r)
-      → Carried (λ σ. withHandle σ s n right (go σ)) hs cs ts ds cs′ ts′ ds′ r
+      → ((h : State → rules-handle.Handle) → ((σ : State) → valid σ ≡ true → PartsIn σ ts ds hs cs → held ≡ h σ .mask)
+      → Carried (λ σ. go σ (h σ) (state.tokenOf σ token)) ts ds hs cs ts′ ds′ cs′ r)
+      → Carried (λ σ. withHandle σ s n right (go σ)) ts ds hs cs ts′ ds′ cs′ r
   on-located go c = carried-as (λ σ v p.
       goes-on σ s n right (go σ) (g .refusal σ v (p .handles) (p .tokens)) z
       ∙ ap (λ (k : ℕ). carriedOut σ (go σ (state.handleOf σ s n) (state.tokenOf σ k))) (sym (g .token σ v (p .handles))))

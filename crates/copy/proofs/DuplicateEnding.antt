@@ -57,33 +57,33 @@ anonymousRow n used = set (set (set (set (set (set (replicate tokenWords 0) 0 n)
 
 module _ {n i s mask : ℕ} {hs : List Handle} {cs ts ds cs′ ts′ ds′ : List ℕ} {r : Outcome} (k : NextGiven tokenCounter cs n) where
   pub issues-copy : (type level : ℕ) {ws ws′ bs : List ℕ} → RowCopied tokenWords i ts ws → Remade (copied n type level) ws ws′ → RowCopied maxDacl i ds bs
-      → RowIssued s mask ws′ bs hs cs ts ds cs′ ts′ ds′ r → CopyIssued (copiedAs type level) i s mask hs cs ts ds cs′ ts′ ds′ r
+      → RowIssued s mask ws′ bs ts ds hs cs ts′ ds′ cs′ r → CopyIssued (copiedAs type level) i s mask ts ds hs cs ts′ ds′ cs′ r
   unfolding copiedAs copied daclRow
   issues-copy type level w c b e = issues-made (copiedAs type level) (w .inside) k (λ t v q. c .made .row t (w .row ∙ q)) (λ t q. b .row ∙ q) e
 
   pub issues-anonymous : (p : Privileges) → i < tokenSlots → p ≡ privilegesIn (lent i ts)
-      → RowIssued s mask (anonymousRow n (p .used)) (replicate maxDacl 0) hs cs ts ds cs′ ts′ ds′ r → CopyIssued anonymousCopy i s mask hs cs ts ds cs′ ts′ ds′ r
+      → RowIssued s mask (anonymousRow n (p .used)) (replicate maxDacl 0) ts ds hs cs ts′ ds′ cs′ r → CopyIssued anonymousCopy i s mask ts ds hs cs ts′ ds′ cs′ r
   unfolding anonymousCopy newToken noLimits noDefaults onlyUsed nobody tokenRow head daclRow mark pad
   issues-anonymous p l ep e = issues-made anonymousCopy l k
       (λ t v q. ap (anonymousRow n) (ap (λ (x : Privileges). x .used) ep ∙ ap (λ (w : List ℕ). privilegesIn w .used) (part-at tokenWords i ts ∙ q))) (λ t q. refl) e
 
 module _ (kind level : ℕ) {i s mask : ℕ} {hs : List Handle} {cs ts ds cs′ ts′ ds′ : List ℕ} {r : Outcome} where
   same-copy : (f : ℕ → rules.Token → rules.Token) → ((m : ℕ) (t : rules.Token) → duplicatedAs kind level m t ≡ f m t)
-      → CopyIssued f i s mask hs cs ts ds cs′ ts′ ds′ r → CopyIssued (duplicatedAs kind level) i s mask hs cs ts ds cs′ ts′ ds′ r
+      → CopyIssued f i s mask ts ds hs cs ts′ ds′ cs′ r → CopyIssued (duplicatedAs kind level) i s mask ts ds hs cs ts′ ds′ cs′ r
   same-copy f e c = record { carried = λ n at. carried-as (λ σ v p. ap (λ (t : rules.Token). carriedOut σ (issued s mask t σ)) (e (σ .tokens .next) (state.tokenOf σ n))) (c .carried n at) }
 
-  pub to-primary : kind ≡ 1 → CopyIssued (copiedAs 1 0) i s mask hs cs ts ds cs′ ts′ ds′ r → CopyIssued (duplicatedAs kind level) i s mask hs cs ts ds cs′ ts′ ds′ r
+  pub to-primary : kind ≡ 1 → CopyIssued (copiedAs 1 0) i s mask ts ds hs cs ts′ ds′ cs′ r → CopyIssued (duplicatedAs kind level) i s mask ts ds hs cs ts′ ds′ cs′ r
   unfolding copiedAs duplicatedAs duplicated
   to-primary k c = same-copy (copiedAs 1 0) (λ m t. rw (eq-eqb kind 1 k)) c
 
-  pub to-anonymous : (not (eqb kind 1) && eqb level 0) ≡ true → CopyIssued anonymousCopy i s mask hs cs ts ds cs′ ts′ ds′ r
-      → CopyIssued (duplicatedAs kind level) i s mask hs cs ts ds cs′ ts′ ds′ r
+  pub to-anonymous : (not (eqb kind 1) && eqb level 0) ≡ true → CopyIssued anonymousCopy i s mask ts ds hs cs ts′ ds′ cs′ r
+      → CopyIssued (duplicatedAs kind level) i s mask ts ds hs cs ts′ ds′ cs′ r
   unfolding copiedAs duplicatedAs duplicated
   to-anonymous b c = same-copy anonymousCopy
       (λ m t. rw (not-true (eqb kind 1) (and-l (not (eqb kind 1)) (eqb level 0) b), and-r (not (eqb kind 1)) (eqb level 0) b)) c
 
-  pub to-impersonation : (kind ≡ 1 → ⊥) → (not (eqb kind 1) && eqb level 0) ≡ false → CopyIssued (copiedAs 2 level) i s mask hs cs ts ds cs′ ts′ ds′ r
-      → CopyIssued (duplicatedAs kind level) i s mask hs cs ts ds cs′ ts′ ds′ r
+  pub to-impersonation : (kind ≡ 1 → ⊥) → (not (eqb kind 1) && eqb level 0) ≡ false → CopyIssued (copiedAs 2 level) i s mask ts ds hs cs ts′ ds′ cs′ r
+      → CopyIssued (duplicatedAs kind level) i s mask ts ds hs cs ts′ ds′ cs′ r
   unfolding copiedAs duplicatedAs duplicated
   to-impersonation k b c =
       let f = ne-eqb kind 1 k in
@@ -115,29 +115,29 @@ go kind level mask s σ h t =
     issued s mask (duplicated (σ .tokens .next) kind level t) σ
 
 module _ (kind level mask : ℕ) {s n : ℕ} {hs : List Handle} {cs ts ds : List ℕ} {token held : ℕ} {x : Located} (g : TokenLocated s n Mask.duplicate hs ts token held x) where
-  pub duplicate-unknown : {r : Outcome} → (x .refusal ≡ 0 → ⊥) → Ends (answers.Refused (x .refusal)) r → Carried (λ σ. duplicate σ s n kind level mask) hs cs ts ds cs ts ds r
+  pub duplicate-unknown : {r : Outcome} → (x .refusal ≡ 0 → ⊥) → Ends (answers.Refused (x .refusal)) r → Carried (λ σ. duplicate σ s n kind level mask) ts ds hs cs ts ds cs r
   unfolding duplicate
   duplicate-unknown {r} f e = not-located g (go kind level mask s) r e f
 
   module _ (z : x .refusal ≡ 0) (who : Identity) (is : IdentityAt (x .slot) ts who) {own : ℕ} (same : own ≡ held) {ok : Bool} (q : DuplicateJudged own who kind level mask ok) where
     -- the test, in the state
-    judged : (σ : State) (h : rules-handle.Handle) → held ≡ h .mask → valid σ ≡ true → PartsIn σ hs cs ts ds → ok ≡ validDuplicate h (state.tokenOf σ token) kind level mask
+    judged : (σ : State) (h : rules-handle.Handle) → held ≡ h .mask → valid σ ≡ true → PartsIn σ ts ds hs cs → ok ≡ validDuplicate h (state.tokenOf σ token) kind level mask
     judged σ h m v p = q .judged h (state.tokenOf σ token) (same ∙ m) (is .given token (g .slot z) .identity σ v (p .tokens))
 
-    pub duplicate-bad : {r : Outcome} → not ok ≡ true → Ends (answers.Refused 5) r → Carried (λ σ. duplicate σ s n kind level mask) hs cs ts ds cs ts ds r
+    pub duplicate-bad : {r : Outcome} → not ok ≡ true → Ends (answers.Refused 5) r → Carried (λ σ. duplicate σ s n kind level mask) ts ds hs cs ts ds cs r
     unfolding duplicate
     duplicate-bad {r} f e = on-located g z (go kind level mask s) (λ h m. refuses 5 r e (omega arith)
         (λ σ v p. fails (validDuplicate (h σ) (state.tokenOf σ token) kind level mask) σ 5 _ (ap not (sym (judged σ (h σ) (m σ v p) v p)) ∙ f)))
 
-    module _ (t : not ok ≡ false) {room : Bool} (i : IssueRoom hs ts cs room) where
-      pub duplicate-full : {r : Outcome} → not room ≡ true → Ends (answers.Refused 8) r → Carried (λ σ. duplicate σ s n kind level mask) hs cs ts ds cs ts ds r
+    module _ (t : not ok ≡ false) {room : Bool} (i : IssueRoom ts hs cs room) where
+      pub duplicate-full : {r : Outcome} → not room ≡ true → Ends (answers.Refused 8) r → Carried (λ σ. duplicate σ s n kind level mask) ts ds hs cs ts ds cs r
       unfolding duplicate
       duplicate-full {r} f e = on-located g z (go kind level mask s) (λ h m. refuses 8 r e (omega arith) (λ σ v p.
           holds (validDuplicate (h σ) (state.tokenOf σ token) kind level mask) σ badField _ (ap not (sym (judged σ (h σ) (m σ v p) v p)) ∙ t)
           ∙ fails (canIssue σ) σ 8 _ (ap not (sym (i .room σ v p)) ∙ f)))
 
-      pub duplicates : {cs′ ts′ ds′ : List ℕ} {r : Outcome} → not room ≡ false → CopyIssued (duplicatedAs kind level) (x .slot) s mask hs cs ts ds cs′ ts′ ds′ r
-          → Carried (λ σ. duplicate σ s n kind level mask) hs cs ts ds cs′ ts′ ds′ r
+      pub duplicates : {cs′ ts′ ds′ : List ℕ} {r : Outcome} → not room ≡ false → CopyIssued (duplicatedAs kind level) (x .slot) s mask ts ds hs cs ts′ ds′ cs′ r
+          → Carried (λ σ. duplicate σ s n kind level mask) ts ds hs cs ts′ ds′ cs′ r
       unfolding duplicate duplicatedAs
       duplicates f c = on-located g z (go kind level mask s) (λ h m. carried-as (λ σ v p.
           holds (validDuplicate (h σ) (state.tokenOf σ token) kind level mask) σ badField _ (ap not (sym (judged σ (h σ) (m σ v p) v p)) ∙ t)

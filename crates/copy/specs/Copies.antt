@@ -27,5 +27,5 @@ pub record Remade (f : rules.Token → rules.Token) (ws ws′ : List ℕ) : Type
   pub long : length ws′ ≡ tokenWords
 
 -- what f makes of the next number and the token in a slot is issued, whatever number the slot is of
-pub record CopyIssued (f : ℕ → rules.Token → rules.Token) (slot s mask : ℕ) (hs : List Handle) (cs ts ds cs′ ts′ ds′ : List ℕ) (r : Outcome) : Type 0 where
-  pub carried : (n : ℕ) → FoundAt n ts slot → Carried (λ σ. issued s mask (f (σ .tokens .next) (state.tokenOf σ n)) σ) hs cs ts ds cs′ ts′ ds′ r
+pub record CopyIssued (f : ℕ → rules.Token → rules.Token) (slot s mask : ℕ) (ts ds : List ℕ) (hs : List Handle) (cs ts′ ds′ cs′ : List ℕ) (r : Outcome) : Type 0 where
+  pub carried : (n : ℕ) → FoundAt n ts slot → Carried (λ σ. issued s mask (f (σ .tokens .next) (state.tokenOf σ n)) σ) ts ds hs cs ts′ ds′ cs′ r

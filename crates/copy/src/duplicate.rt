@@ -75,7 +75,7 @@ fn issue_copy(
     control: &mut [u64],
 ) -> Outcome
     requires { ⌜ Lent (now tokens) (now dacls) (now control) × (slot < tokenSlots) × NumbersLeft (now control) × (station < stationCount) ⌝ }
-    ensures { λ r. ⌜ CopyIssued (copiedAs kind level) slot station mask (recordsIn (now (handles .entry))) (now (control .entry)) (now (tokens .entry)) (now (dacls .entry)) (now (control .exit)) (now (tokens .exit)) (now (dacls .exit)) r ⌝ }
+    ensures { λ r. ⌜ CopyIssued (copiedAs kind level) slot station mask (now (tokens .entry)) (now (dacls .entry)) (recordsIn (now (handles .entry))) (now (control .entry)) (now (tokens .exit)) (now (dacls .exit)) (now (control .exit)) r ⌝ }
 {
     let n = counters::next(NEXT_TOKEN, control);
     let mut copy = rows::words_at(slot, tokens);
@@ -95,7 +95,7 @@ fn issue_anonymous(
     control: &mut [u64],
 ) -> Outcome
     requires { ⌜ Lent (now tokens) (now dacls) (now control) × (slot < tokenSlots) × NumbersLeft (now control) × (station < stationCount) ⌝ }
-    ensures { λ r. ⌜ CopyIssued rules.anonymousCopy slot station mask (recordsIn (now (handles .entry))) (now (control .entry)) (now (tokens .entry)) (now (dacls .entry)) (now (control .exit)) (now (tokens .exit)) (now (dacls .exit)) r ⌝ }
+    ensures { λ r. ⌜ CopyIssued rules.anonymousCopy slot station mask (now (tokens .entry)) (now (dacls .entry)) (recordsIn (now (handles .entry))) (now (control .entry)) (now (tokens .exit)) (now (dacls .exit)) (now (control .exit)) r ⌝ }
 {
     let at = slot * TOKEN_WORDS;
     let end = at + TOKEN_WORDS;
@@ -125,7 +125,7 @@ fn issue_duplicate(
     control: &mut [u64],
 ) -> Outcome
     requires { ⌜ Lent (now tokens) (now dacls) (now control) × (slot < tokenSlots) × NumbersLeft (now control) × (station < stationCount) ⌝ }
-    ensures { λ r. ⌜ CopyIssued (duplicatedAs kind level) slot station mask (recordsIn (now (handles .entry))) (now (control .entry)) (now (tokens .entry)) (now (dacls .entry)) (now (control .exit)) (now (tokens .exit)) (now (dacls .exit)) r ⌝ }
+    ensures { λ r. ⌜ CopyIssued (duplicatedAs kind level) slot station mask (now (tokens .entry)) (now (dacls .entry)) (recordsIn (now (handles .entry))) (now (control .entry)) (now (tokens .exit)) (now (dacls .exit)) (now (control .exit)) r ⌝ }
 {
     let anonymous = (kind != PRIMARY) & (level == 0);
     if anonymous {
@@ -168,7 +168,7 @@ pub fn duplicate(
     control: &mut [u64],
 ) -> Outcome
     requires { ⌜ Lent (now tokens) (now dacls) (now control) × (station < stationCount) ⌝ }
-    ensures { λ r. ⌜ Carried (λ σ. rules.duplicate σ station (f .handle) (f .kind) (f .level) (f .mask)) (recordsIn (now (handles .entry))) (now (control .entry)) (now (tokens .entry)) (now (dacls .entry)) (now (control .exit)) (now (tokens .exit)) (now (dacls .exit)) r ⌝ }
+    ensures { λ r. ⌜ Carried (λ σ. rules.duplicate σ station (f .handle) (f .kind) (f .level) (f .mask)) (now (tokens .entry)) (now (dacls .entry)) (recordsIn (now (handles .entry))) (now (control .entry)) (now (tokens .exit)) (now (dacls .exit)) (now (control .exit)) r ⌝ }
 {
     let found = find_handle(station, f.handle, handles);
     let mask = mask_of(found);

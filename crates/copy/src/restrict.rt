@@ -39,7 +39,7 @@ fn refusal_of(
     control: &[u64],
 ) -> u64
     requires { ⌜ (counts .groups ≤ maxGroups) × (counts .restricting ≤ maxRestricting) × (length (now tokens) ≡ tokenSlots * tokenWords) × (length (now control) ≡ controlWords) ⌝ }
-    ensures { λ r. ⌜ RestrictRefusal counts (f .mark) (f .removed) (now (s .entry)) (f .«deny_at») (f .«deny_count») (f .«sid_count») (recordsIn (now (handles .entry))) (now (control .entry)) (now (tokens .entry)) r ⌝ }
+    ensures { λ r. ⌜ RestrictRefusal counts (f .mark) (f .removed) (now (s .entry)) (f .«deny_at») (f .«deny_count») (f .«sid_count») (now (tokens .entry)) (recordsIn (now (handles .entry))) (now (control .entry)) r ⌝ }
 {
     let indexes = valid_indexes(counts.groups, s, f.deny_at, f.deny_count as u64);
     let valid = (f.mark <= 1) & words::within(f.removed, Privileges::EXISTING) & indexes;
@@ -69,7 +69,7 @@ fn issue_restricted(
     control: &mut [u64],
 ) -> Outcome
     requires { ⌜ Lent (now tokens) (now dacls) (now control) × (slot < tokenSlots) × NumbersLeft (now control) × (station < stationCount) × (counts .groups ≤ maxGroups) × (counts .restricting + f .«sid_count» ≤ maxRestricting) ⌝ }
-    ensures { λ r. ⌜ RestrictedIssued slot counts (f .mark) (f .removed) (now (s .entry)) (f .«deny_at») (f .«deny_count») (f .«sid_at») (f .«sid_count») station mask (recordsIn (now (handles .entry))) (now (control .entry)) (now (tokens .entry)) (now (dacls .entry)) (now (control .exit)) (now (tokens .exit)) (now (dacls .exit)) r ⌝ }
+    ensures { λ r. ⌜ RestrictedIssued slot counts (f .mark) (f .removed) (now (s .entry)) (f .«deny_at») (f .«deny_count») (f .«sid_at») (f .«sid_count») station mask (now (tokens .entry)) (now (dacls .entry)) (recordsIn (now (handles .entry))) (now (control .entry)) (now (tokens .exit)) (now (dacls .exit)) (now (control .exit)) r ⌝ }
 {
     let n = counters::next(NEXT_TOKEN, control);
     let mut copy = rows::words_at(slot, tokens);
@@ -88,7 +88,7 @@ pub fn restrict(
     control: &mut [u64],
 ) -> Outcome
     requires { ⌜ Lent (now tokens) (now dacls) (now control) × (station < stationCount) ⌝ }
-    ensures { λ r. ⌜ RestrictCarried station (f .handle) (f .mark) (f .removed) (now (s .entry)) (f .«deny_at») (f .«deny_count») (f .«sid_at») (f .«sid_count») (recordsIn (now (handles .entry))) (now (control .entry)) (now (tokens .entry)) (now (dacls .entry)) (now (control .exit)) (now (tokens .exit)) (now (dacls .exit)) r ⌝ }
+    ensures { λ r. ⌜ RestrictCarried station (f .handle) (f .mark) (f .removed) (now (s .entry)) (f .«deny_at») (f .«deny_count») (f .«sid_at») (f .«sid_count») (now (tokens .entry)) (now (dacls .entry)) (recordsIn (now (handles .entry))) (now (control .entry)) (now (tokens .exit)) (now (dacls .exit)) (now (control .exit)) r ⌝ }
 {
     let found = find_handle(station, f.handle, handles);
     let x = locate(found, mask_of(found).may_duplicate(), tokens);

@@ -73,12 +73,12 @@ no-dacl : (u : rules.Token) → u .defaults .dacl ≡ [] → replicate maxDacl 0
 unfolding daclRow pad
 no-dacl u e = sym (ap (pad maxDacl) e)
 
-module _ (s : ℕ) {ws : List ℕ} {hs : List Handle} {cs ts ds : List ℕ} {b : Bool} (i : IssueRoom hs ts cs b) where
-  pub create-no-room : {r : Outcome} → not b ≡ true → Ends (answers.Refused 8) r → RowCreated s ws hs cs ts ds cs ts ds r
+module _ (s : ℕ) {ws : List ℕ} {hs : List Handle} {cs ts ds : List ℕ} {b : Bool} (i : IssueRoom ts hs cs b) where
+  pub create-no-room : {r : Outcome} → not b ≡ true → Ends (answers.Refused 8) r → RowCreated s ws ts ds hs cs ts ds cs r
   create-no-room f e = record { carried = λ u w d. room-refuses i (λ σ. issued s allRights u (used createToken s σ)) f e }
 
   pub create-issues : {ts₁ cs′ ts′ ds′ : List ℕ} {r : Outcome} → not b ≡ false → s < stationCount → Used createToken s ts cs ts₁
-      → RowIssued s allRights ws (replicate maxDacl 0) hs cs ts₁ ds cs′ ts′ ds′ r → RowCreated s ws hs cs ts ds cs′ ts′ ds′ r
+      → RowIssued s allRights ws (replicate maxDacl 0) ts₁ ds hs cs ts′ ds′ cs′ r → RowCreated s ws ts ds hs cs ts′ ds′ cs′ r
   unfolding has
   create-issues f in8 m k = record {
     carried = λ u w d. ends-issuing (λ σ. u) (λ σ. used createToken s σ) k λ σ v p. record {
@@ -97,15 +97,15 @@ module _ (s : ℕ) {ws : List ℕ} {hs : List Handle} {cs ts ds : List ℕ} {b :
 -- ---- the request
 
 module _ (s user session integrity present byDefault : ℕ) (body : List ℕ) (at count : ℕ) {hs : List Handle} {cs ts ds : List ℕ} {b : Bool} (h : Held createToken s ts cs b) where
-  is-held : {c : Bool} → not b ≡ c → (σ : State) → valid σ ≡ true → PartsIn σ hs cs ts ds → not (held σ s createToken) ≡ c
+  is-held : {c : Bool} → not b ≡ c → (σ : State) → valid σ ≡ true → PartsIn σ ts ds hs cs → not (held σ s createToken) ≡ c
   is-held f σ v p = ap not (sym (h .held σ v (p .tokens) (p .control))) ∙ f
 
-  pub create-not-held : {r : Outcome} → not b ≡ true → Ends (answers.Refused 4) r → CreateCarried s user session integrity present byDefault body at count hs cs ts ds cs ts ds r
+  pub create-not-held : {r : Outcome} → not b ≡ true → Ends (answers.Refused 4) r → CreateCarried s user session integrity present byDefault body at count ts ds hs cs ts ds cs r
   unfolding create
   create-not-held {r} f e = record { carried = λ gs later q. refuses 4 r e (omega arith) (λ σ v p. fails (held σ s createToken) σ 4 _ (is-held f σ v p)) }
 
   module _ (f : not b ≡ false) {n : ℕ} {ws : List ℕ} {ok : Bool} (g : RowMade n user session integrity present byDefault body at count ws ok) where
-    pub create-refused : {r : Outcome} → not ok ≡ true → Ends (answers.Refused 5) r → CreateCarried s user session integrity present byDefault body at count hs cs ts ds cs ts ds r
+    pub create-refused : {r : Outcome} → not ok ≡ true → Ends (answers.Refused 5) r → CreateCarried s user session integrity present byDefault body at count ts ds hs cs ts ds cs r
     unfolding create
     create-refused {r} k e = record {
       carried = λ gs later q. refuses 5 r e (omega arith) λ σ v p.
@@ -113,8 +113,8 @@ module _ (s user session integrity present byDefault : ℕ) (body : List ℕ) (a
           ∙ fails (validCreate user integrity present byDefault gs) σ 5 _ (ap not (sym (g .valid gs later q)) ∙ k);
     }
 
-    pub creates : {cs′ ts′ ds′ : List ℕ} {r : Outcome} → not ok ≡ false → NextGiven tokenCounter cs n → RowCreated s ws hs cs ts ds cs′ ts′ ds′ r
-        → CreateCarried s user session integrity present byDefault body at count hs cs ts ds cs′ ts′ ds′ r
+    pub creates : {cs′ ts′ ds′ : List ℕ} {r : Outcome} → not ok ≡ false → NextGiven tokenCounter cs n → RowCreated s ws ts ds hs cs ts′ ds′ cs′ r
+        → CreateCarried s user session integrity present byDefault body at count ts ds hs cs ts′ ds′ cs′ r
     unfolding create newToken noDefaults
     creates k next c = record {
       carried = λ gs later q.

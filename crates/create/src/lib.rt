@@ -69,7 +69,7 @@ fn issue_created(
     control: &mut [u64],
 ) -> Outcome
     requires { ⌜ Lent (now tokens) (now dacls) (now control) × (station < stationCount) × (length (now row) ≡ tokenWords) ⌝ }
-    ensures { λ r. ⌜ RowCreated station (now (row .entry)) (recordsIn (now (handles .entry))) (now (control .entry)) (now (tokens .entry)) (now (dacls .entry)) (now (control .exit)) (now (tokens .exit)) (now (dacls .exit)) r ⌝ }
+    ensures { λ r. ⌜ RowCreated station (now (row .entry)) (now (tokens .entry)) (now (dacls .entry)) (recordsIn (now (handles .entry))) (now (control .entry)) (now (tokens .exit)) (now (dacls .exit)) (now (control .exit)) r ⌝ }
 {
     if !can_issue(handles, tokens, control) {
         return outcome::refused(refusal::TABLE_FULL);
@@ -99,7 +99,7 @@ pub fn create(
     control: &mut [u64],
 ) -> Outcome
     requires { ⌜ Lent (now tokens) (now dacls) (now control) × (station < stationCount) ⌝ }
-    ensures { λ r. ⌜ CreateCarried station (f .user) (f .session) (f .integrity) (f .present) (f .«by_default») (now (s .entry)) (f .at) (f .count) (recordsIn (now (handles .entry))) (now (control .entry)) (now (tokens .entry)) (now (dacls .entry)) (now (control .exit)) (now (tokens .exit)) (now (dacls .exit)) r ⌝ }
+    ensures { λ r. ⌜ CreateCarried station (f .user) (f .session) (f .integrity) (f .present) (f .«by_default») (now (s .entry)) (f .at) (f .count) (now (tokens .entry)) (now (dacls .entry)) (recordsIn (now (handles .entry))) (now (control .entry)) (now (tokens .exit)) (now (dacls .exit)) (now (control .exit)) r ⌝ }
 {
     if !held(Privileges::CREATE_TOKEN, station, tokens, control) {
         return outcome::refused(refusal::PRIVILEGE_NOT_HELD);

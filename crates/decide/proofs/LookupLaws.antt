@@ -110,5 +110,5 @@ module _ {s n right : ℕ} {hs : List Handle} {h : Handle} {k : ℕ} (l : Looked
 
   -- the refusal of any request that begins with the handle
   pub handle-refuses : {cs ts ds : List ℕ} (go : State → rules.Handle → Token → Decision) (r : Outcome) → Ends (answers.Refused (k)) r → (k ≡ 0 → ⊥)
-      → Carried (λ σ. withHandle σ s n right (go σ)) hs cs ts ds cs ts ds r
+      → Carried (λ σ. withHandle σ s n right (go σ)) ts ds hs cs ts ds cs r
   handle-refuses go r e f = refuses (k) r e (l .small) (λ σ v p. looked-up-refused σ v (p .handles) (go σ) f)

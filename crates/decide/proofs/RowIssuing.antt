@@ -40,16 +40,16 @@ module _ {s mask : ℕ} {ws bs : List ℕ} {hs : List Handle} {cs ts ds cs₁ ts
   unfolding withTokens
   stepped-formed σ f = record { token-slots = f .token-slots; handle-slots = f .handle-slots; tokens = f .tokens; handles = f .handles }
 
-  handles-after : (u : Token) (σ : State) → valid σ ≡ true → PartsIn σ hs cs ts ds → HandlesIn (addHandle s (getD ws 0 0) mask (addToken u σ)) (changed hs c)
+  handles-after : (u : Token) (σ : State) → valid σ ≡ true → PartsIn σ ts ds hs cs → HandlesIn (addHandle s (getD ws 0 0) mask (addToken u σ)) (changed hs c)
   unfolding addToken withTokens added addHandle withHandles sections
   handles-after u σ v p = record {
     records = h .handles (stepped σ) (stepped-formed σ (valid-formed σ v)) (record { records = p .handles .records }) (control-same refl (a .control u σ (p .control))) .records;
   }
 
-  pub row-issues : RowIssued s mask ws bs hs cs ts ds cs′ ts′ ds′ (record { answer = answers.Value (c .handle .number); change = c })
+  pub row-issues : RowIssued s mask ws bs ts ds hs cs ts′ ds′ cs′ (record { answer = answers.Value (c .handle .number); change = c })
   unfolding addToken withTokens addHandle
   row-issues = record {
-    parts = λ u w b σ v p. subst (λ (k : ℕ). PartsIn (addHandle s k mask (addToken u σ)) (changed hs c) cs′ ts′ ds′) (number-in ws u w) (record {
+    parts = λ u w b σ v p. subst (λ (k : ℕ). PartsIn (addHandle s k mask (addToken u σ)) ts′ ds′ (changed hs c) cs′) (number-in ws u w) (record {
       handles = handles-after u σ v p;
       control = h .control (addToken u σ) (a .control u σ (p .control));
       tokens = with-handles (a .tokens u w b σ v (p .tokens)) _;
@@ -60,17 +60,17 @@ module _ {s mask : ℕ} {ws bs : List ℕ} {hs : List Handle} {cs ts ds cs₁ ts
 -- ---- how a request that issues is decided
 
 -- in the state before, or in the one where a used bit is set; u is the new token
-pub record Ready (x : Decision) (s mask : ℕ) (u : Token) (ws bs : List ℕ) (hs : List Handle) (cs ts ds : List ℕ) (σ τ : State) : Type 0 where
+pub record Ready (x : Decision) (s mask : ℕ) (u : Token) (ws bs ts ds : List ℕ) (hs : List Handle) (cs : List ℕ) (σ τ : State) : Type 0 where
   pub valid : valid τ ≡ true
-  pub parts : PartsIn τ hs cs ts ds
+  pub parts : PartsIn τ ts ds hs cs
   pub words : ws ≡ tokenRow u
   pub bytes : bs ≡ daclRow u
   pub decided : carriedOut σ x ≡ carriedOut σ (issued s mask u τ)
 
 pub ends-issuing : {x : State → Decision} {s mask : ℕ} {ws bs : List ℕ} {hs : List Handle} {cs ts ds cs₁ ts₁ ds₁ cs′ ts′ ds′ : List ℕ} {r : Outcome} (u : State → Token) (τ : State → State)
-    → RowIssued s mask ws bs hs cs₁ ts₁ ds₁ cs′ ts′ ds′ r
-    → ((σ : State) → valid σ ≡ true → PartsIn σ hs cs ts ds → Ready (x σ) s mask (u σ) ws bs hs cs₁ ts₁ ds₁ σ (τ σ))
-    → Carried x hs cs ts ds cs′ ts′ ds′ r
+    → RowIssued s mask ws bs ts₁ ds₁ hs cs₁ ts′ ds′ cs′ r
+    → ((σ : State) → valid σ ≡ true → PartsIn σ ts ds hs cs → Ready (x σ) s mask (u σ) ws bs ts₁ ds₁ hs cs₁ σ (τ σ))
+    → Carried x ts ds hs cs ts′ ds′ cs′ r
 unfolding carriedOut issued
 ends-issuing {ts′ = ts′} {ds′ = ds′} u τ i d = record {
   parts = λ σ v p. let k = d σ v p in rw (k .decided) (i .parts (u σ) (k .words) (k .bytes) (τ σ) (k .valid) (k .parts));

@@ -21,13 +21,13 @@ pub record NumbersLeft (cs : List ℕ) : Type 0 where
   pub token : nextToken cs < max64
   pub handle : nextHandle cs < max32
 
-pub record IssueRoom (hs : List Handle) (ts cs : List ℕ) (r : Bool) : Type 0 where
-  pub room : (σ : State) → valid σ ≡ true → {ds : List ℕ} → PartsIn σ hs cs ts ds → r ≡ canIssue σ
+pub record IssueRoom (ts : List ℕ) (hs : List Handle) (cs : List ℕ) (r : Bool) : Type 0 where
+  pub room : (σ : State) → valid σ ≡ true → {ds : List ℕ} → PartsIn σ ts ds hs cs → r ≡ canIssue σ
   -- what issue asks
   pub left : r ≡ true → NumbersLeft cs
 
 -- a token by its rows, whatever token they are of
-pub record RowIssued (s mask : ℕ) (ws bs : List ℕ) (hs : List Handle) (cs ts ds cs′ ts′ ds′ : List ℕ) (r : Outcome) : Type 0 where
-  pub parts : (u : rules.Token) → ws ≡ tokenRow u → bs ≡ daclRow u → (σ : State) → valid σ ≡ true → PartsIn σ hs cs ts ds
-      → PartsIn (addHandle s (u .number) mask (addToken u σ)) (changed hs (r .change)) cs′ ts′ ds′
+pub record RowIssued (s mask : ℕ) (ws bs ts ds : List ℕ) (hs : List Handle) (cs ts′ ds′ cs′ : List ℕ) (r : Outcome) : Type 0 where
+  pub parts : (u : rules.Token) → ws ≡ tokenRow u → bs ≡ daclRow u → (σ : State) → valid σ ≡ true → PartsIn σ ts ds hs cs
+      → PartsIn (addHandle s (u .number) mask (addToken u σ)) ts′ ds′ (changed hs (r .change)) cs′
   pub answer : (σ : State) → ControlIn σ cs → r .answer ≡ answers.Value (σ .handles .next)

@@ -20,7 +20,7 @@ use token::layout::NUMBER;
 // Both tables have a free slot and a number left.
 pub fn can_issue(handles: &[u64; HANDLE_WORDS], tokens: &[u64], control: &[u64]) -> bool
     requires { ⌜ (length (now tokens) ≡ tokenSlots * tokenWords) × (length (now control) ≡ controlWords) ⌝ }
-    ensures { λ r. ⌜ IssueRoom (recordsIn (now (handles .entry))) (now (tokens .entry)) (now (control .entry)) r ⌝ }
+    ensures { λ r. ⌜ IssueRoom (now (tokens .entry)) (recordsIn (now (handles .entry))) (now (control .entry)) r ⌝ }
 {
     let handle = can_add_handle(handles, control);
     let token = can_add_token(tokens, control);
@@ -39,7 +39,7 @@ pub fn issue_row(
     control: &mut [u64],
 ) -> Outcome
     requires { ⌜ Lent (now tokens) (now dacls) (now control) × (length (now words) ≡ tokenWords) × (length (now bytes) ≡ maxDacl) × NumbersLeft (now control) × (station < stationCount) ⌝ }
-    ensures { λ r. ⌜ RowIssued station mask (now (words .entry)) (now (bytes .entry)) (recordsIn (now (handles .entry))) (now (control .entry)) (now (tokens .entry)) (now (dacls .entry)) (now (control .exit)) (now (tokens .exit)) (now (dacls .exit)) r ⌝ }
+    ensures { λ r. ⌜ RowIssued station mask (now (words .entry)) (now (bytes .entry)) (now (tokens .entry)) (now (dacls .entry)) (recordsIn (now (handles .entry))) (now (control .entry)) (now (tokens .exit)) (now (dacls .exit)) (now (control .exit)) r ⌝ }
 {
     add_row(words, bytes, tokens, dacls, control);
     let change = add_handle(station, words[NUMBER], mask, handles, control);

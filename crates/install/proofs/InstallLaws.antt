@@ -72,17 +72,17 @@ module _ {same : Bool} {token s : ℕ} {ts cs : List ℕ} {may : Bool} (a : Held
 
 -- ---- the used bits
 
-used-parts : {n s : ℕ} {hs : List Handle} {cs ts ds ts′ : List ℕ} (σ : State) → valid σ ≡ true → Used n s ts cs ts′ → PartsIn σ hs cs ts ds
-    → PartsIn (used n s σ) hs cs ts′ ds
+used-parts : {n s : ℕ} {hs : List Handle} {cs ts ds ts′ : List ℕ} (σ : State) → valid σ ≡ true → Used n s ts cs ts′ → PartsIn σ ts ds hs cs
+    → PartsIn (used n s σ) ts′ ds hs cs
 used-parts {n} {s} σ v u p =
     record { handles = used-handles (p .handles) n s; control = used-control (p .control) n s; tokens = u .tokens σ v (p .tokens) (p .control) }
 
 module _ {same : Bool} {s : ℕ} {cs ts ts′ : List ℕ} (a : Used assignPrimaryToken s ts cs ts′) where
-  pub marks-one : not same ≡ false → MarksUsed same s cs ts ts′
+  pub marks-one : not same ≡ false → MarksUsed same s ts cs ts′
   unfolding marked
   marks-one f = record { parts = λ σ v t e p. rw (sym e ∙ not-false same f) (used-parts σ v a p) }
 
-  pub marks-both : not same ≡ true → s < stationCount → {ts″ : List ℕ} → Used tcb s ts′ cs ts″ → MarksUsed same s cs ts ts″
+  pub marks-both : not same ≡ true → s < stationCount → {ts″ : List ℕ} → Used tcb s ts′ cs ts″ → MarksUsed same s ts cs ts″
   unfolding marked has
   marks-both f in8 b = record {
     parts = λ σ v t e p.
@@ -94,7 +94,7 @@ module _ {same : Bool} {s : ℕ} {cs ts ts′ : List ℕ} (a : Used assignPrimar
 -- ---- the effect: the marks leave the token what it was
 
 pub placed : {same : Bool} {token s : ℕ} {hs : List Handle} {cs ts ds ts₁ cs′ ts′ ds′ : List ℕ} → s < stationCount
-    → MarksUsed same s cs ts ts₁ → Installed s token hs cs ts₁ ds cs′ ts′ ds′ → Placed same token s hs cs ts ds cs′ ts′ ds′
+    → MarksUsed same s ts cs ts₁ → Installed s token ts₁ ds hs cs ts′ ds′ cs′ → Placed same token s ts ds hs cs ts′ ds′ cs′
 placed {token = token} {s = s} in8 u w = record {
   parts = λ σ v p e was number type.
       let f = valid-facts σ v in
@@ -128,12 +128,12 @@ passes σ true false c rest e = absurd (omega arith)
 passes σ false b c rest e = absurd (omega arith)
 
 module _ {s n : ℕ} {hs : List Handle} {cs ts ds : List ℕ} {h : Handle} {j : ℕ} (l : LookedUp s n assignPrimary hs h j) where
-  pub no-handle : (j ≡ 0 → ⊥) → (r : Outcome) → Ends (answers.Refused j) r → Carried (λ σ. install σ s n) hs cs ts ds cs ts ds r
+  pub no-handle : (j ≡ 0 → ⊥) → (r : Outcome) → Ends (answers.Refused j) r → Carried (λ σ. install σ s n) ts ds hs cs ts ds cs r
   unfolding install
   no-handle f r e = handle-refuses l _ r e f
 
   module _ (z : j ≡ 0) {same : Bool} (m : Matching (h .token) s ts cs same) {k : ℕ} (c : Checked same (h .token) s ts cs k) where
-    module _ (σ : State) (v : valid σ ≡ true) (p : PartsIn σ hs cs ts ds) where
+    module _ (σ : State) (v : valid σ ≡ true) (p : PartsIn σ ts ds hs cs) where
       abbrev new : rules.Token
       new = state.tokenOf σ (h .token)
 
@@ -156,15 +156,15 @@ module _ {s n : ℕ} {hs : List Handle} {cs ts ds : List ℕ} {h : Handle} {j : 
           let q = passes σ (held σ s assignPrimaryToken) (eqb (new .identity .type) primary) (same || held σ s tcb) (success after []) (sym checked ∙ e) in
           (decided ∙ q .0, q .1)
 
-      after-parts : k ≡ 0 → {cs′ ts′ ds′ : List ℕ} → Placed same (h .token) s hs cs ts ds cs′ ts′ ds′ → PartsIn after hs cs′ ts′ ds′
+      after-parts : k ≡ 0 → {cs′ ts′ ds′ : List ℕ} → Placed same (h .token) s ts ds hs cs ts′ ds′ cs′ → PartsIn after ts′ ds′ hs cs′
       after-parts e w =
           let i = looked-up-found l σ v (p .handles) z .token in
           w .parts σ v p (m .same σ v (p .tokens) (p .control)) (i .was) (i .number) (eqb-true (new .identity .type) primary (passed e .1))
 
-    pub not-allowed : (k ≡ 0 → ⊥) → (r : Outcome) → Ends (answers.Refused k) r → Carried (λ σ. install σ s n) hs cs ts ds cs ts ds r
+    pub not-allowed : (k ≡ 0 → ⊥) → (r : Outcome) → Ends (answers.Refused k) r → Carried (λ σ. install σ s n) ts ds hs cs ts ds cs r
     not-allowed f r e = refuses k r e (c .small) (λ σ v p. refused σ v p f)
 
-    pub installed : k ≡ 0 → {cs′ ts′ ds′ : List ℕ} → Placed same (h .token) s hs cs ts ds cs′ ts′ ds′ → (r : Outcome) → Ends answers.Done r
-        → Carried (λ σ. install σ s n) hs cs ts ds cs′ ts′ ds′ r
+    pub installed : k ≡ 0 → {cs′ ts′ ds′ : List ℕ} → Placed same (h .token) s ts ds hs cs ts′ ds′ cs′ → (r : Outcome) → Ends answers.Done r
+        → Carried (λ σ. install σ s n) ts ds hs cs ts′ ds′ cs′ r
     installed e w r d =
         ends-with answers.Done r d (λ σ v p. tt) (λ σ v p. rw (passed σ v p e .0) (after-parts σ v p e w)) (λ σ v p. rw (passed σ v p e .0))

@@ -29,12 +29,12 @@ pub record Checked (same : Bool) (token s : ℕ) (ts cs : List ℕ) (r : ℕ) : 
   pub refusal : (σ : State) → valid σ ≡ true → {ds : List ℕ} → TokensIn σ ts ds → ControlIn σ cs
       → r ≡ refusalNumber (held σ s assignPrimaryToken) (eqb (tokenOf σ token .identity .type) primary) (same || held σ s tcb)
 
-pub record MarksUsed (same : Bool) (s : ℕ) (cs ts ts′ : List ℕ) : Type 0 where
-  pub parts : (σ : State) → valid σ ≡ true → (t : Token) → same ≡ matches t (caller σ s) → {hs : List Handle} {ds : List ℕ} → PartsIn σ hs cs ts ds
-      → PartsIn (marked s t σ) hs cs ts′ ds
+pub record MarksUsed (same : Bool) (s : ℕ) (ts cs ts′ : List ℕ) : Type 0 where
+  pub parts : (σ : State) → valid σ ≡ true → (t : Token) → same ≡ matches t (caller σ s) → {hs : List Handle} {ds : List ℕ} → PartsIn σ ts ds hs cs
+      → PartsIn (marked s t σ) ts′ ds hs cs
 
 -- where the number is that of a live primary token
-pub record Placed (same : Bool) (token s : ℕ) (hs : List Handle) (cs ts ds cs′ ts′ ds′ : List ℕ) : Type 0 where
-  pub parts : (σ : State) → valid σ ≡ true → PartsIn σ hs cs ts ds → same ≡ matches (tokenOf σ token) (caller σ s)
+pub record Placed (same : Bool) (token s : ℕ) (ts ds : List ℕ) (hs : List Handle) (cs ts′ ds′ cs′ : List ℕ) : Type 0 where
+  pub parts : (σ : State) → valid σ ≡ true → PartsIn σ ts ds hs cs → same ≡ matches (tokenOf σ token) (caller σ s)
       → Mem (tokenOf σ token) (lives (σ .tokens .slots)) → tokenOf σ token .number ≡ token → tokenOf σ token .identity .type ≡ primary
-      → PartsIn (released (setToken s token (marked s (tokenOf σ token) σ))) hs cs′ ts′ ds′
+      → PartsIn (released (setToken s token (marked s (tokenOf σ token) σ))) ts′ ds′ hs cs′

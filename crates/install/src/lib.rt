@@ -60,7 +60,7 @@ fn refusal_of(same: bool, token: u64, station: u32, tokens: &[u64], control: &[u
 // The used bits fall on the token that is the caller's primary one now; Tcb counts only where the tokens don't match.
 fn mark(same: bool, station: u32, tokens: &mut [u64], control: &[u64])
     requires { ⌜ (length (now tokens) ≡ tokenSlots * tokenWords) × (length (now control) ≡ controlWords) × (station < stationCount) ⌝ }
-    ensures { λ _. ⌜ MarksUsed same station (now (control .entry)) (now (tokens .entry)) (now (tokens .exit)) ⌝ }
+    ensures { λ _. ⌜ MarksUsed same station (now (tokens .entry)) (now (control .entry)) (now (tokens .exit)) ⌝ }
 {
     used(Privileges::ASSIGN_PRIMARY, station, tokens, control);
     if !same {
@@ -79,7 +79,7 @@ fn place(
     control: &mut [u64],
 )
     requires { ⌜ Lent (now tokens) (now dacls) (now control) × (station < stationCount) ⌝ }
-    ensures { λ _. ⌜ Placed same token station (recordsIn (now (handles .entry))) (now (control .entry)) (now (tokens .entry)) (now (dacls .entry)) (now (control .exit)) (now (tokens .exit)) (now (dacls .exit)) ⌝ }
+    ensures { λ _. ⌜ Placed same token station (now (tokens .entry)) (now (dacls .entry)) (recordsIn (now (handles .entry))) (now (control .entry)) (now (tokens .exit)) (now (dacls .exit)) (now (control .exit)) ⌝ }
 {
     mark(same, station, tokens, control);
     release::install(station, token, handles, tokens, dacls, control);
@@ -94,7 +94,7 @@ pub fn install(
     control: &mut [u64],
 ) -> Outcome
     requires { ⌜ Lent (now tokens) (now dacls) (now control) × (station < stationCount) ⌝ }
-    ensures { λ r. ⌜ Carried (λ σ. rules.install σ station number) (recordsIn (now (handles .entry))) (now (control .entry)) (now (tokens .entry)) (now (dacls .entry)) (now (control .exit)) (now (tokens .exit)) (now (dacls .exit)) r ⌝ }
+    ensures { λ r. ⌜ Carried (λ σ. rules.install σ station number) (now (tokens .entry)) (now (dacls .entry)) (recordsIn (now (handles .entry))) (now (control .entry)) (now (tokens .exit)) (now (dacls .exit)) (now (control .exit)) r ⌝ }
 {
     let found = find_handle(station, number, handles);
     let refused = handle_refusal(found, mask_of(found).may_assign_primary());

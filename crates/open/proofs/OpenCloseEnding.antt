@@ -27,20 +27,20 @@ use Rattle.decide.proofs.Deciding.{refuses}
 -- ---- open own
 
 module _ (s mask : ℕ) {b : Bool} (q : b ≡ validMask mask) {hs : List Handle} {cs ts ds : List ℕ} where
-  pub bad-mask : not b ≡ true → (r : Outcome) → Ends (answers.Refused 5) r → Carried (λ σ. openOwn σ s mask) hs cs ts ds cs ts ds r
+  pub bad-mask : not b ≡ true → (r : Outcome) → Ends (answers.Refused 5) r → Carried (λ σ. openOwn σ s mask) ts ds hs cs ts ds cs r
   unfolding openOwn carriedOut refusal
   bad-mask f r e = refuses 5 r e (omega arith) (λ σ v p. rw (sym q ∙ not-true b f))
 
   module _ (ok : not b ≡ false) {room : Bool} (k : HandleRoom hs cs room) where
-    pub no-room : not room ≡ true → (r : Outcome) → Ends (answers.Refused 8) r → Carried (λ σ. openOwn σ s mask) hs cs ts ds cs ts ds r
+    pub no-room : not room ≡ true → (r : Outcome) → Ends (answers.Refused 8) r → Carried (λ σ. openOwn σ s mask) ts ds hs cs ts ds cs r
     unfolding openOwn carriedOut refusal
     no-room f r e = refuses 8 r e (omega arith) (λ σ v p. rw (sym q ∙ not-false b ok, sym (k .room σ v (p .handles) (p .control)) ∙ not-true room f))
 
     pub opened : not room ≡ false → {own : ℕ} {cs′ : List ℕ} (x : Change) → CallerNumber s cs own → HandleAdded s own mask hs cs cs′ x
-        → Carried (λ σ. openOwn σ s mask) hs cs ts ds cs′ ts ds (record { answer = answers.Value (x .handle .number); change = x })
+        → Carried (λ σ. openOwn σ s mask) ts ds hs cs ts ds cs′ (record { answer = answers.Value (x .handle .number); change = x })
     unfolding openOwn carriedOut addHandle withHandles
     opened t {own} x c a =
-        let served : (σ : State) → valid σ ≡ true → PartsIn σ hs cs ts ds
+        let served : (σ : State) → valid σ ≡ true → PartsIn σ ts ds hs cs
         → carriedOut σ (openOwn σ s mask) ≡ record { state = addHandle s own mask σ; answer = 0 ∷ encode (σ .handles .next) } =
         λ σ v p. rw (sym q ∙ not-false b ok, sym (k .room σ v (p .handles) (p .control)) ∙ not-false room t, sym (c .number σ (p .control))) in
         record {
@@ -56,15 +56,15 @@ module _ (s mask : ℕ) {b : Bool} (q : b ≡ validMask mask) {hs : List Handle}
 -- ---- close
 
 module _ {s n : ℕ} {hs : List Handle} {cs ts ds : List ℕ} {h : Handle} (g : HandleGiven s n hs h) where
-  pub not-live : h .number ≡ 0 → (r : Outcome) → Ends (answers.Refused 2) r → Carried (λ σ. close σ s n) hs cs ts ds cs ts ds r
+  pub not-live : h .number ≡ 0 → (r : Outcome) → Ends (answers.Refused 2) r → Carried (λ σ. close σ s n) ts ds hs cs ts ds cs r
   unfolding close carriedOut refusal
   not-live z r e = refuses 2 r e (omega arith) (λ σ v p. rw (g .live σ v (p .handles) ∙ ap not (eq-eqb (h .number) 0 z)))
 
-  pub closed : (h .number ≡ 0 → ⊥) → {ts′ ds′ : List ℕ} (x : Change) → Closed s n hs cs ts ds ts′ ds′ x
-      → Carried (λ σ. close σ s n) hs cs ts ds cs ts′ ds′ (record { answer = answers.Done; change = x })
+  pub closed : (h .number ≡ 0 → ⊥) → {ts′ ds′ : List ℕ} (x : Change) → Closed s n ts ds hs cs ts′ ds′ x
+      → Carried (λ σ. close σ s n) ts ds hs cs ts′ ds′ cs (record { answer = answers.Done; change = x })
   unfolding close carriedOut
   closed z x c =
-      let live : (σ : State) → valid σ ≡ true → PartsIn σ hs cs ts ds → isLive (findHandle σ s n) ≡ true = λ σ v p. g .live σ v (p .handles) ∙ ap not (ne-eqb (h .number) 0 z) in
+      let live : (σ : State) → valid σ ≡ true → PartsIn σ ts ds hs cs → isLive (findHandle σ s n) ≡ true = λ σ v p. g .live σ v (p .handles) ∙ ap not (ne-eqb (h .number) 0 z) in
       record {
         parts = λ σ v p. rw (live σ v p) (c .parts σ v p (live σ v p));
         answer = λ σ v p. rw (live σ v p);

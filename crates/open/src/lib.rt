@@ -27,7 +27,7 @@ pub fn open_own(
     control: &mut [u64],
 ) -> Outcome
     requires { ⌜ Lent (now tokens) (now dacls) (now control) × (station < stationCount) ⌝ }
-    ensures { λ r. ⌜ Carried (λ σ. openOwn σ station mask) (recordsIn (now (handles .entry))) (now (control .entry)) (now (tokens .entry)) (now (dacls .entry)) (now (control .exit)) (now (tokens .exit)) (now (dacls .exit)) r ⌝ }
+    ensures { λ r. ⌜ Carried (λ σ. openOwn σ station mask) (now (tokens .entry)) (now (dacls .entry)) (recordsIn (now (handles .entry))) (now (control .entry)) (now (tokens .exit)) (now (dacls .exit)) (now (control .exit)) r ⌝ }
 {
     let asked = Mask(mask);
     if !asked.valid() {
@@ -54,7 +54,7 @@ pub fn close(
     control: &mut [u64],
 ) -> Outcome
     requires { ⌜ Lent (now tokens) (now dacls) (now control) × (station < stationCount) ⌝ }
-    ensures { λ r. ⌜ Carried (λ σ. close σ station number) (recordsIn (now (handles .entry))) (now (control .entry)) (now (tokens .entry)) (now (dacls .entry)) (now (control .exit)) (now (tokens .exit)) (now (dacls .exit)) r ⌝ }
+    ensures { λ r. ⌜ Carried (λ σ. close σ station number) (now (tokens .entry)) (now (dacls .entry)) (recordsIn (now (handles .entry))) (now (control .entry)) (now (tokens .exit)) (now (dacls .exit)) (now (control .exit)) r ⌝ }
 {
     let found = find_handle(station, number, handles);
     if found.number == 0 {

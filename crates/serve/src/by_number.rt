@@ -24,7 +24,7 @@ pub fn open_own(
     control: &mut [u64],
 ) -> Outcome
     requires { ⌜ Lent (now tokens) (now dacls) (now control) × (station < stationCount) ⌝ }
-    ensures { λ r. ⌜ LayoutCarried (numberLayout rules.openOwn) station (now (s .entry)) c (recordsIn (now (handles .entry))) (now (control .entry)) (now (tokens .entry)) (now (dacls .entry)) (now (control .exit)) (now (tokens .exit)) (now (dacls .exit)) r ⌝ }
+    ensures { λ r. ⌜ LayoutCarried (numberLayout rules.openOwn) station (now (s .entry)) c (now (tokens .entry)) (now (dacls .entry)) (recordsIn (now (handles .entry))) (now (control .entry)) (now (tokens .exit)) (now (dacls .exit)) (now (control .exit)) r ⌝ }
 {
     let f = layout::number(s, c);
     if !f.ok {
@@ -43,7 +43,7 @@ pub fn close(
     control: &mut [u64],
 ) -> Outcome
     requires { ⌜ Lent (now tokens) (now dacls) (now control) × (station < stationCount) ⌝ }
-    ensures { λ r. ⌜ LayoutCarried (numberLayout rules.close) station (now (s .entry)) c (recordsIn (now (handles .entry))) (now (control .entry)) (now (tokens .entry)) (now (dacls .entry)) (now (control .exit)) (now (tokens .exit)) (now (dacls .exit)) r ⌝ }
+    ensures { λ r. ⌜ LayoutCarried (numberLayout rules.close) station (now (s .entry)) c (now (tokens .entry)) (now (dacls .entry)) (recordsIn (now (handles .entry))) (now (control .entry)) (now (tokens .exit)) (now (dacls .exit)) (now (control .exit)) r ⌝ }
 {
     let f = layout::number(s, c);
     if !f.ok {
@@ -62,7 +62,7 @@ pub fn create(
     control: &mut [u64],
 ) -> Outcome
     requires { ⌜ Lent (now tokens) (now dacls) (now control) × (station < stationCount) ⌝ }
-    ensures { λ r. ⌜ LayoutCarried createLayout station (now (s .entry)) c (recordsIn (now (handles .entry))) (now (control .entry)) (now (tokens .entry)) (now (dacls .entry)) (now (control .exit)) (now (tokens .exit)) (now (dacls .exit)) r ⌝ }
+    ensures { λ r. ⌜ LayoutCarried createLayout station (now (s .entry)) c (now (tokens .entry)) (now (dacls .entry)) (recordsIn (now (handles .entry))) (now (control .entry)) (now (tokens .exit)) (now (dacls .exit)) (now (control .exit)) r ⌝ }
 {
     let f = layout::create(s, c);
     if !f.ok {
@@ -81,7 +81,7 @@ pub fn query(
     control: &mut [u64],
 ) -> Outcome
     requires { ⌜ Lent (now tokens) (now dacls) (now control) × (station < stationCount) ⌝ }
-    ensures { λ r. ⌜ LayoutCarried queryLayout station (now (s .entry)) c (recordsIn (now (handles .entry))) (now (control .entry)) (now (tokens .entry)) (now (dacls .entry)) (now (control .exit)) (now (tokens .exit)) (now (dacls .exit)) r ⌝ }
+    ensures { λ r. ⌜ LayoutCarried queryLayout station (now (s .entry)) c (now (tokens .entry)) (now (dacls .entry)) (recordsIn (now (handles .entry))) (now (control .entry)) (now (tokens .exit)) (now (dacls .exit)) (now (control .exit)) r ⌝ }
 {
     let f = layout::query(s, c);
     if !f.ok {
@@ -100,7 +100,7 @@ pub fn privileges(
     control: &mut [u64],
 ) -> Outcome
     requires { ⌜ Lent (now tokens) (now dacls) (now control) × (station < stationCount) ⌝ }
-    ensures { λ r. ⌜ LayoutCarried (entriesLayout rules.privileges) station (now (s .entry)) c (recordsIn (now (handles .entry))) (now (control .entry)) (now (tokens .entry)) (now (dacls .entry)) (now (control .exit)) (now (tokens .exit)) (now (dacls .exit)) r ⌝ }
+    ensures { λ r. ⌜ LayoutCarried (entriesLayout rules.privileges) station (now (s .entry)) c (now (tokens .entry)) (now (dacls .entry)) (recordsIn (now (handles .entry))) (now (control .entry)) (now (tokens .exit)) (now (dacls .exit)) (now (control .exit)) r ⌝ }
 {
     let f = layout::entries(s, c);
     if !f.ok {
@@ -119,7 +119,7 @@ pub fn groups(
     control: &mut [u64],
 ) -> Outcome
     requires { ⌜ Lent (now tokens) (now dacls) (now control) × (station < stationCount) ⌝ }
-    ensures { λ r. ⌜ LayoutCarried (entriesLayout rules.groups) station (now (s .entry)) c (recordsIn (now (handles .entry))) (now (control .entry)) (now (tokens .entry)) (now (dacls .entry)) (now (control .exit)) (now (tokens .exit)) (now (dacls .exit)) r ⌝ }
+    ensures { λ r. ⌜ LayoutCarried (entriesLayout rules.groups) station (now (s .entry)) c (now (tokens .entry)) (now (dacls .entry)) (recordsIn (now (handles .entry))) (now (control .entry)) (now (tokens .exit)) (now (dacls .exit)) (now (control .exit)) r ⌝ }
 {
     let f = layout::entries(s, c);
     if !f.ok {
@@ -138,7 +138,7 @@ pub fn scope(
     control: &mut [u64],
 ) -> Outcome
     requires { ⌜ Lent (now tokens) (now dacls) (now control) × (station < stationCount) ⌝ }
-    ensures { λ r. ⌜ LayoutCarried scopeLayout station (now (s .entry)) c (recordsIn (now (handles .entry))) (now (control .entry)) (now (tokens .entry)) (now (dacls .entry)) (now (control .exit)) (now (tokens .exit)) (now (dacls .exit)) r ⌝ }
+    ensures { λ r. ⌜ LayoutCarried scopeLayout station (now (s .entry)) c (now (tokens .entry)) (now (dacls .entry)) (recordsIn (now (handles .entry))) (now (control .entry)) (now (tokens .exit)) (now (dacls .exit)) (now (control .exit)) r ⌝ }
 {
     let f = layout::scope(s, c);
     if !f.ok {
@@ -157,7 +157,7 @@ pub fn defaults(
     control: &mut [u64],
 ) -> Outcome
     requires { ⌜ Lent (now tokens) (now dacls) (now control) × (station < stationCount) × (c .at ≤ length (now s)) ⌝ }
-    ensures { λ r. ⌜ LayoutCarried defaultsLayout station (now (s .entry)) c (recordsIn (now (handles .entry))) (now (control .entry)) (now (tokens .entry)) (now (dacls .entry)) (now (control .exit)) (now (tokens .exit)) (now (dacls .exit)) r ⌝ }
+    ensures { λ r. ⌜ LayoutCarried defaultsLayout station (now (s .entry)) c (now (tokens .entry)) (now (dacls .entry)) (recordsIn (now (handles .entry))) (now (control .entry)) (now (tokens .exit)) (now (dacls .exit)) (now (control .exit)) r ⌝ }
 {
     let f = layout::defaults(s, c);
     if !f.ok {
@@ -176,7 +176,7 @@ pub fn duplicate(
     control: &mut [u64],
 ) -> Outcome
     requires { ⌜ Lent (now tokens) (now dacls) (now control) × (station < stationCount) ⌝ }
-    ensures { λ r. ⌜ LayoutCarried duplicateLayout station (now (s .entry)) c (recordsIn (now (handles .entry))) (now (control .entry)) (now (tokens .entry)) (now (dacls .entry)) (now (control .exit)) (now (tokens .exit)) (now (dacls .exit)) r ⌝ }
+    ensures { λ r. ⌜ LayoutCarried duplicateLayout station (now (s .entry)) c (now (tokens .entry)) (now (dacls .entry)) (recordsIn (now (handles .entry))) (now (control .entry)) (now (tokens .exit)) (now (dacls .exit)) (now (control .exit)) r ⌝ }
 {
     let f = layout::duplicate(s, c);
     if !f.ok {
@@ -195,7 +195,7 @@ pub fn restrict(
     control: &mut [u64],
 ) -> Outcome
     requires { ⌜ Lent (now tokens) (now dacls) (now control) × (station < stationCount) ⌝ }
-    ensures { λ r. ⌜ LayoutCarried restrictLayout station (now (s .entry)) c (recordsIn (now (handles .entry))) (now (control .entry)) (now (tokens .entry)) (now (dacls .entry)) (now (control .exit)) (now (tokens .exit)) (now (dacls .exit)) r ⌝ }
+    ensures { λ r. ⌜ LayoutCarried restrictLayout station (now (s .entry)) c (now (tokens .entry)) (now (dacls .entry)) (recordsIn (now (handles .entry))) (now (control .entry)) (now (tokens .exit)) (now (dacls .exit)) (now (control .exit)) r ⌝ }
 {
     let f = layout::restrict(s, c);
     if !f.ok {
@@ -214,7 +214,7 @@ pub fn install(
     control: &mut [u64],
 ) -> Outcome
     requires { ⌜ Lent (now tokens) (now dacls) (now control) × (station < stationCount) ⌝ }
-    ensures { λ r. ⌜ LayoutCarried (numberLayout rules.install) station (now (s .entry)) c (recordsIn (now (handles .entry))) (now (control .entry)) (now (tokens .entry)) (now (dacls .entry)) (now (control .exit)) (now (tokens .exit)) (now (dacls .exit)) r ⌝ }
+    ensures { λ r. ⌜ LayoutCarried (numberLayout rules.install) station (now (s .entry)) c (now (tokens .entry)) (now (dacls .entry)) (recordsIn (now (handles .entry))) (now (control .entry)) (now (tokens .exit)) (now (dacls .exit)) (now (control .exit)) r ⌝ }
 {
     let f = layout::number(s, c);
     if !f.ok {

@@ -31,7 +31,7 @@ fn carry_out(
     control: &mut [u64],
 ) -> Outcome
     requires { ⌜ Lent (now tokens) (now dacls) (now control) × (station < stationCount) ⌝ }
-    ensures { λ r. ⌜ BodyCarried station (now (body .entry)) (recordsIn (now (handles .entry))) (now (control .entry)) (now (tokens .entry)) (now (dacls .entry)) (now (control .exit)) (now (tokens .exit)) (now (dacls .exit)) r ⌝ }
+    ensures { λ r. ⌜ BodyCarried station (now (body .entry)) (now (tokens .entry)) (now (dacls .entry)) (recordsIn (now (handles .entry))) (now (control .entry)) (now (tokens .exit)) (now (dacls .exit)) (now (control .exit)) r ⌝ }
 {
     let first = layout::request_number(body);
     let n = first.value;
@@ -61,8 +61,8 @@ pub fn serve(
     control: &mut [u64],
     out: &mut [u8],
 ) -> Reply
-    requires { ⌜ Lent (now tokens) (now dacls) (now control) × (station < stationCount) × (maxAnswer ≤ length (now out)) × Held (recordsIn (now handles)) (now control) (now tokens) (now dacls) ⌝ }
-    ensures { λ r. ⌜ BodyServed station (now (body .entry)) (recordsIn (now (handles .entry))) (now (control .entry)) (now (tokens .entry)) (now (dacls .entry)) (now (control .exit)) (now (tokens .exit)) (now (dacls .exit)) (now (out .entry)) (now (out .exit)) r ⌝ }
+    requires { ⌜ Lent (now tokens) (now dacls) (now control) × (station < stationCount) × (maxAnswer ≤ length (now out)) × Held (now tokens) (now dacls) (recordsIn (now handles)) (now control) ⌝ }
+    ensures { λ r. ⌜ BodyServed station (now (body .entry)) (now (tokens .entry)) (now (dacls .entry)) (recordsIn (now (handles .entry))) (now (control .entry)) (now (tokens .exit)) (now (dacls .exit)) (now (control .exit)) (now (out .entry)) (now (out .exit)) r ⌝ }
 {
     let done = carry_out(station, body, handles, tokens, dacls, control);
     let a = done.answer;

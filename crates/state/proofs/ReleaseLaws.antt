@@ -48,24 +48,24 @@ member-append n (x ∷ xs) ys = next (eqb n x) (member-append n xs ys)
     next false e = e
 
 module _ {token : ℕ} {hs : List Handle} {cs ts ds : List ℕ} {a b : Bool} (by-handle : a ≡ isReferred token hs) (by-station : StationsRefer token cs b) where
-  referred : (σ : State) → Formed σ → PartsIn σ hs cs ts ds → (a || b) ≡ member token (references σ)
+  referred : (σ : State) → Formed σ → PartsIn σ ts ds hs cs → (a || b) ≡ member token (references σ)
   unfolding references
   referred σ f p =
       ap₂ _||_ (by-handle ∙ ap (λ ps. member token (map handleToken (lives ps))) (handles-back σ f hs (p .handles))) (by-station .refer σ (p .control))
       ∙ member-append token (map handleToken (lives (σ .handles .slots))) (map stationToken (σ .stations))
 
-  pub token-kept : (a || b) ≡ true → TokenFreed token hs cs ts ds ts ds
+  pub token-kept : (a || b) ≡ true → TokenFreed token ts ds hs cs ts ds
   unfolding freedOne
   token-kept t = record { tokens = λ σ f p. rw (sym (referred σ f p) ∙ t) (p .tokens) }
 
   module _ {i : ℕ} (unreferred : (a || b) ≡ false) (found : (bs : List ℕ) → i ≡ foundIndex (isNumbered token) (slotsOf ts bs)) where
-    index : (σ : State) → Formed σ → PartsIn σ hs cs ts ds → exchanged (isNumbered token) free (σ .tokens .slots) ≡ set (σ .tokens .slots) i free
+    index : (σ : State) → Formed σ → PartsIn σ ts ds hs cs → exchanged (isNumbered token) free (σ .tokens .slots) ≡ set (σ .tokens .slots) i free
     index σ f p =
         exchanged-set (isNumbered token) free (σ .tokens .slots)
         ∙ ap (λ (k : ℕ). set (σ .tokens .slots) k free) (sym (found ds ∙ ap (foundIndex (isNumbered token)) (tokens-back σ f ts ds (p .tokens))))
 
     pub token-freed : {ts′ ds′ : List ℕ} → i < tokenSlots → ts′ ≡ put-record tokenWords i (slotRow free) ts → ds′ ≡ put-record maxDacl i (slotDacl free) ds
-        → TokenFreed token hs cs ts ds ts′ ds′
+        → TokenFreed token ts ds hs cs ts′ ds′
     unfolding freedOne withTokens withSlots
     token-freed h ew ed = record {
       tokens = λ σ f p.
@@ -77,7 +77,7 @@ module _ {token : ℕ} {hs : List Handle} {cs ts ds : List ℕ} {a b : Bool} (by
           }));
     }
 
-    pub token-missing : tokenSlots ≤ i → TokenFreed token hs cs ts ds ts ds
+    pub token-missing : tokenSlots ≤ i → TokenFreed token ts ds hs cs ts ds
     unfolding freedOne withTokens withSlots
     token-missing h = record {
       tokens = λ σ f p.
@@ -89,7 +89,7 @@ module _ {token : ℕ} {hs : List Handle} {cs ts ds : List ℕ} {a b : Bool} (by
 
 -- what is freed in the middle state is what the sweep frees
 swept : {token : ℕ} {hs : List Handle} {cs ts ds ts′ ds′ : List ℕ} (σ : State) → Loose σ → released σ ≡ freedOne token σ
-    → TokenFreed token hs cs ts ds ts′ ds′ → PartsIn σ hs cs ts ds → PartsIn (released σ) hs cs ts′ ds′
+    → TokenFreed token ts ds hs cs ts′ ds′ → PartsIn σ ts ds hs cs → PartsIn (released σ) ts′ ds′ hs cs
 unfolding released withTokens withSlots sections
 swept {ts′ = ts′} {ds′ = ds′} σ l e f p = record {
   handles = handles-same refl (p .handles);
@@ -98,8 +98,8 @@ swept {ts′ = ts′} {ds′ = ds′} σ l e f p = record {
 }
 
 pub closed : (s n : ℕ) (hs : List Handle) {cs ts ds ts′ ds′ : List ℕ} {i : ℕ} {h : Handle}
-    → i ≡ findIndex s n hs → h ≡ getD hs i none → TokenFreed (h .token) (set hs i none) cs ts ds ts′ ds′
-    → Closed s n hs cs ts ds ts′ ds′ (record { slot = i; handle = none })
+    → i ≡ findIndex s n hs → h ≡ getD hs i none → TokenFreed (h .token) ts ds (set hs i none) cs ts′ ds′
+    → Closed s n ts ds hs cs ts′ ds′ (record { slot = i; handle = none })
 unfolding state.handleOf dropHandle withHandles withSlots sections handleToken
 closed s n hs {i = i} {h = h} e q f = record {
   parts = λ σ v p known.
@@ -112,8 +112,8 @@ closed s n hs {i = i} {h = h} e q f = record {
 
 -- no slot is freed
 pub installed : (s n : ℕ) (ws : List ℕ) {cs ts ds cs′ ts′ ds′ : List ℕ} {before : ℕ}
-    → CallerNumber s cs before → TokenSet s n cs cs′ → TokenFreed before (set (recordsIn ws) handleSlots none) cs′ ts ds ts′ ds′
-    → Installed s n (recordsIn ws) cs ts ds cs′ ts′ ds′
+    → CallerNumber s cs before → TokenSet s n cs cs′ → TokenFreed before ts ds (set (recordsIn ws) handleSlots none) cs′ ts′ ds′
+    → Installed s n ts ds (recordsIn ws) cs ts′ ds′ cs′
 unfolding setToken changeStation withStations
 installed s n ws g k f = record {
   parts = λ σ v p t m number type.

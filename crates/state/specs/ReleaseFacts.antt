@@ -17,20 +17,20 @@ use Rattle.state.specs.HandleFacts.{changed}
 use Rattle.state.specs.declared.handles.Change.{Change}
 
 -- the parts that a request works on hold one state; it reads no pending bytes
-pub record PartsIn (σ : State) (hs : List Handle) (cs ts ds : List ℕ) : Type 0 where
+pub record PartsIn (σ : State) (ts ds : List ℕ) (hs : List Handle) (cs : List ℕ) : Type 0 where
   pub handles : HandlesIn σ hs
   pub control : ControlIn σ cs
   pub tokens : TokensIn σ ts ds
 
-pub record TokenFreed (token : ℕ) (hs : List Handle) (cs ts ds ts′ ds′ : List ℕ) : Type 0 where
-  pub tokens : (σ : State) → Formed σ → PartsIn σ hs cs ts ds → TokensIn (freedOne token σ) ts′ ds′
+pub record TokenFreed (token : ℕ) (ts ds : List ℕ) (hs : List Handle) (cs ts′ ds′ : List ℕ) : Type 0 where
+  pub tokens : (σ : State) → Formed σ → PartsIn σ ts ds hs cs → TokensIn (freedOne token σ) ts′ ds′
 
-pub record Closed (station number : ℕ) (hs : List Handle) (cs ts ds ts′ ds′ : List ℕ) (r : Change) : Type 0 where
-  pub parts : (σ : State) → valid σ ≡ true → PartsIn σ hs cs ts ds → isLive (findHandle σ station number) ≡ true
-      → PartsIn (released (dropHandle station number σ)) (changed hs r) cs ts′ ds′
+pub record Closed (station number : ℕ) (ts ds : List ℕ) (hs : List Handle) (cs ts′ ds′ : List ℕ) (r : Change) : Type 0 where
+  pub parts : (σ : State) → valid σ ≡ true → PartsIn σ ts ds hs cs → isLive (findHandle σ station number) ≡ true
+      → PartsIn (released (dropHandle station number σ)) ts′ ds′ (changed hs r) cs
 
 -- where the number is that of a live primary token
-pub record Installed (station number : ℕ) (hs : List Handle) (cs ts ds cs′ ts′ ds′ : List ℕ) : Type 0 where
-  pub parts : (σ : State) → valid σ ≡ true → PartsIn σ hs cs ts ds
+pub record Installed (station number : ℕ) (ts ds : List ℕ) (hs : List Handle) (cs ts′ ds′ cs′ : List ℕ) : Type 0 where
+  pub parts : (σ : State) → valid σ ≡ true → PartsIn σ ts ds hs cs
       → (t : Token) → Mem t (lives (σ .tokens .slots)) → t .number ≡ number → t .identity .type ≡ primary
-      → PartsIn (released (setToken station number σ)) hs cs′ ts′ ds′
+      → PartsIn (released (setToken station number σ)) ts′ ds′ hs cs′

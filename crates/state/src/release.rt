@@ -24,7 +24,7 @@ pub fn free_unreferenced(
     control: &[u64],
 )
     requires { ⌜ Lent (now tokens) (now dacls) (now control) ⌝ }
-    ensures { λ _. ⌜ TokenFreed token (set (recordsIn (now (handles .entry))) freed none) (now (control .entry)) (now (tokens .entry)) (now (dacls .entry)) (now (tokens .exit)) (now (dacls .exit)) ⌝ }
+    ensures { λ _. ⌜ TokenFreed token (now (tokens .entry)) (now (dacls .entry)) (set (recordsIn (now (handles .entry))) freed none) (now (control .entry)) (now (tokens .exit)) (now (dacls .exit)) ⌝ }
 {
     let by_handle = handle::refers(handles, freed, token);
     let by_station = stations::refers(token, control);
@@ -47,7 +47,7 @@ pub fn close(
     control: &[u64],
 ) -> Change
     requires { ⌜ Lent (now tokens) (now dacls) (now control) ⌝ }
-    ensures { λ r. ⌜ Closed station number (recordsIn (now (handles .entry))) (now (control .entry)) (now (tokens .entry)) (now (dacls .entry)) (now (tokens .exit)) (now (dacls .exit)) r ⌝ }
+    ensures { λ r. ⌜ Closed station number (now (tokens .entry)) (now (dacls .entry)) (recordsIn (now (handles .entry))) (now (control .entry)) (now (tokens .exit)) (now (dacls .exit)) r ⌝ }
 {
     let slot = handle::find(handles, station, number);
     let closed = handle::at(handles, slot);
@@ -68,7 +68,7 @@ pub fn install(
     control: &mut [u64],
 )
     requires { ⌜ (station < stationCount) × Lent (now tokens) (now dacls) (now control) ⌝ }
-    ensures { λ _. ⌜ Installed station number (recordsIn (now (handles .entry))) (now (control .entry)) (now (tokens .entry)) (now (dacls .entry)) (now (control .exit)) (now (tokens .exit)) (now (dacls .exit)) ⌝ }
+    ensures { λ _. ⌜ Installed station number (now (tokens .entry)) (now (dacls .entry)) (recordsIn (now (handles .entry))) (now (control .entry)) (now (tokens .exit)) (now (dacls .exit)) (now (control .exit)) ⌝ }
 {
     let before = stations::caller_number(station, control);
     stations::set_token(station, number, control);
