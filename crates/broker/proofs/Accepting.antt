@@ -68,7 +68,7 @@ parts-cleared : {s : ℕ} {hs : List Handle} {cs ts ds cs′ : List ℕ} → Str
 unfolding stationRow cleared withPending
 parts-cleared w σ p = parts-set w σ cleared (λ x. refl) p
 
-pub held-cleared : {s : ℕ} {hs : List Handle} {cs ts ds cs′ : List ℕ} → StreamSet s 0 false cs cs′ → Held hs cs ts ds → Held hs cs′ ts ds
+pub held-cleared : {s : ℕ} {hs : List Handle} {cs ts ds cs′ : List ℕ} → StreamSet s 0 false cs cs′ → Held ts ds hs cs → Held ts ds hs cs′
 held-cleared {s} w k = record { state = changeStation s cleared (k .state); isValid = cleared-valid (k .state) s (k .isValid); parts = parts-cleared w (k .state) (k .parts) }
 
 -- ---- a frame's body is served
@@ -135,7 +135,7 @@ module _ (σ : State) (v : valid σ ≡ true) where
 -- ---- what join asks
 
 module _ {s : ℕ} {hs : List Handle} {cs ts ds row : List ℕ} (k : RowHeld s ts ds hs cs row) where
-  pub held-row : Held hs cs ts ds
+  pub held-row : Held ts ds hs cs
   held-row = record { state = k .state; isValid = k .isValid; parts = k .parts }
 
   pub count-short : (g : Stream) → s < stationCount → StreamGiven s cs g → g .count < pendingBytes

@@ -96,7 +96,7 @@ fn serve_frame(
     row: &mut [u8],
     out: &mut [u8],
 ) -> Turn
-    requires { ⌜ Lent (now tokens) (now dacls) (now control) × (station < stationCount) × (maxAnswer ≤ length (now out)) × Held (recordsIn (now handles)) (now control) (now tokens) (now dacls) × (start ≤ count) × (count ≤ length (now row)) ⌝ }
+    requires { ⌜ Lent (now tokens) (now dacls) (now control) × (station < stationCount) × (maxAnswer ≤ length (now out)) × Held (now tokens) (now dacls) (recordsIn (now handles)) (now control) × (start ≤ count) × (count ≤ length (now row)) ⌝ }
     ensures { λ r. ⌜ FrameServed station start count used (now (tokens .entry)) (now (dacls .entry)) (recordsIn (now (handles .entry))) (now (control .entry)) (now (row .entry)) (now (out .entry)) (now (tokens .exit)) (now (dacls .exit)) (now (control .exit)) (now (row .exit)) (now (out .exit)) r ⌝ }
 {
     stations::set_stream(station, 0, false, control);
