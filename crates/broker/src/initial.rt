@@ -26,7 +26,7 @@ fn write_tokens(tokens: &mut [u64], dacls: &mut [u8])
     let identity = Identity {
         user: 18,
         session: 999,
-        kind: 1,
+        kind: Identity::PRIMARY,
         level: 0,
         integrity: 16384,
     };

@@ -30,9 +30,9 @@ use token::Identity;
 use token::layout::*;
 use token::row;
 
-const PRIMARY: u32 = 1;
+const PRIMARY: u32 = Identity::PRIMARY as u32;
 
-const IMPERSONATION: u32 = 2;
+const IMPERSONATION: u32 = Identity::IMPERSONATION as u32;
 
 const ANONYMOUS: u32 = 7;
 

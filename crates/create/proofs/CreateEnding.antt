@@ -2,13 +2,13 @@
 use Prim.Native.Nat.{ℕ, _<_}
 use native.Mathlib.Omega.{arith}
 use mathlib.Core.Path.{_≡_, refl, sym, ap, ap₂, _∙_}
-use mathlib.Core.Bool.{Bool, true, false, not, _&&_, _||_, and-assoc}
+use mathlib.Core.Bool.{Bool, true, false, not, _&&_, and-assoc}
 use mathlib.Core.List.{List, [], map}
-use lib.Dec.{eqb, leb}
+use lib.Dec.{leb}
 use lib.ListN.{length, replicate}
 use borrow.Author.Tests.{not-false}
 use Rattle.table.specs.Lists.{pad}
-use Rattle.rules.specs.Basic.{all, member}
+use Rattle.rules.specs.Basic.{all}
 use Rattle.rules.specs.Bits.{has, within}
 use Rattle.rules.specs.Mask.{allRights}
 use Rattle.rules.specs.Refusal.{privilegeNotHeld, badField, tableFull}
@@ -44,14 +44,6 @@ use Rattle.create.specs.NewGroups.{GroupsRead}
 use Rattle.create.specs.Create.{RowMade, RowCreated, CreateCarried}
 
 -- ---- the token
-
-pub integrity-valid : (i : ℕ) → (eqb i 0 || (eqb i 4096 || (eqb i 8192 || (eqb i 12288 || eqb i 16384)))) ≡ validIntegrity i
-unfolding validIntegrity member
-integrity-valid i = ap (λ (b : Bool). eqb i 0 || (eqb i 4096 || (eqb i 8192 || (eqb i 12288 || b)))) (or-none (eqb i 16384))
-  where
-    or-none : (b : Bool) → b ≡ (b || false)
-    or-none true = refl
-    or-none false = refl
 
 pub row-made : (n user session integrity present byDefault : ℕ) (s : List ℕ) (at count : ℕ) {a b c : Bool} (g : Groups) (p : Privileges) {ws ws′ : List ℕ}
     → GroupsRead user s at count ws g → a ≡ validIntegrity integrity → b ≡ within byDefault present → c ≡ within present existing

@@ -4,7 +4,6 @@ ghost use Prim.Native.Nat.{_<_};
 ghost use lib.ListN.{length, replicate};
 ghost use Rattle.rules.specs.State.{stationCount};
 ghost use Rattle.rules.specs.Memory.{tokenWords};
-ghost use Rattle.rules.specs.Create.{validIntegrity};
 ghost use Rattle.handle.specs.Words.{recordsIn};
 ghost use Rattle.state.specs.Parts.{Lent};
 ghost use Rattle.create.specs.Create.{RowMade, RowCreated, CreateCarried};
@@ -30,14 +29,6 @@ use token::row;
 
 mod groups;
 
-const PRIMARY: u8 = 1;
-
-fn valid_integrity(i: u32) -> bool
-    ensures { λ r. ⌜ r ≡ validIntegrity i ⌝ }
-{
-    (i == 0) | ((i == 4096) | ((i == 8192) | ((i == 12288) | (i == 16384))))
-}
-
 // The new token's row, where every field is good. Its groups stand in the body.
 fn make(n: u64, f: CreateFields, s: &[u8], row: &mut [u64]) -> bool
     requires { ⌜ now row ≡ replicate tokenWords 0 ⌝ }
@@ -47,13 +38,13 @@ fn make(n: u64, f: CreateFields, s: &[u8], row: &mut [u64]) -> bool
     let identity = Identity {
         user: f.user,
         session: f.session,
-        kind: PRIMARY,
+        kind: Identity::PRIMARY,
         level: 0,
         integrity: f.integrity,
     };
     let granted = Privileges::granted(f.present, f.by_default);
     row::set_head(row, n, identity, granted, read.count);
-    valid_integrity(f.integrity)
+    token::valid_integrity(f.integrity as u64)
         & words::within(f.by_default, f.present)
         & words::within(f.present, Privileges::EXISTING)
         & read.ok

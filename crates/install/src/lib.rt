@@ -23,9 +23,7 @@ use state::release;
 use state::tokens::held;
 use state::tokens::identity_of;
 use state::tokens::used;
-
-// The type of a primary token.
-const PRIMARY: u8 = 1;
+use token::Identity;
 
 // The token is of the caller's user and session.
 fn matching(token: u64, station: u32, tokens: &[u64], control: &[u64]) -> bool
@@ -47,7 +45,7 @@ fn refusal_of(same: bool, token: u64, station: u32, tokens: &[u64], control: &[u
         return refusal::PRIVILEGE_NOT_HELD;
     }
     let new = identity_of(token, tokens);
-    if new.kind != PRIMARY {
+    if new.kind != Identity::PRIMARY {
         return refusal::BAD_FIELD;
     }
     let trusted = held(Privileges::TCB, station, tokens, control);

@@ -35,7 +35,7 @@ pub fn identity_at(slot: usize, tokens: &[u64]) -> Identity
     Identity {
         user: 0,
         session: 0,
-        kind: 1,
+        kind: Identity::PRIMARY,
         level: 0,
         integrity: 0,
     }

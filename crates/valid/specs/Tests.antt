@@ -90,7 +90,6 @@ headTest ws =
     && ltb (getD ws 7 0) 2
     && ltb (getD ws 8 0) 2
     && isNarrow (getD ws 11 0)
-    && (eqb (getD ws 12 0) 0 || (eqb (getD ws 12 0) 4096 || (eqb (getD ws 12 0) 8192 || (eqb (getD ws 12 0) 12288 || eqb (getD ws 12 0) 16384))))
     && (eqb (bitAnd (getD ws 15 0) (getD ws 13 0)) (getD ws 15 0)
     && eqb (bitAnd (getD ws 14 0) (getD ws 13 0)) (getD ws 14 0)
     && eqb (bitAnd (getD ws 13 0) existing) (getD ws 13 0)

@@ -1,12 +1,12 @@
 -- The bit of the rule. Assumes nothing.
 use borrow.Author.Needs.{needs}
 use Rattle.rules.specs.Group.{isEnabled}
-use Rattle.token.proofs.attributes.is_on.Statement.{statement}
-use Rattle.token.proofs.attributes.is_on.Tie as tie
+use Rattle.token.proofs.attributes.is_enabled.Statement.{statement}
+use Rattle.token.proofs.attributes.is_enabled.Tie as tie
 
-pub is-on-spec : {M : Type 1} → statement M
+pub is-enabled-spec : {M : Type 1} → statement M
 unfolding isEnabled
-is-on-spec =
+is-enabled-spec =
     tie.close
     (tie.spec
     (λ c. search needs)

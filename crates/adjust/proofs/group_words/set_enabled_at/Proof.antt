@@ -1,11 +1,11 @@
 -- The word of that index, if there is one. Assumes nothing.
 use borrow.Author.Needs.{needs}
 use Rattle.adjust.proofs.GroupEntries.{word-set, word-past}
-use Rattle.adjust.proofs.group_words.switch_at.Statement.{statement}
-use Rattle.adjust.proofs.group_words.switch_at.Tie as tie
+use Rattle.adjust.proofs.group_words.set_enabled_at.Statement.{statement}
+use Rattle.adjust.proofs.group_words.set_enabled_at.Tie as tie
 
-pub switch-at-spec : {M : Type 1} → statement M
-switch-at-spec =
+pub set-enabled-at-spec : {M : Type 1} → statement M
+set-enabled-at-spec =
     tie.close
     (tie.spec
     (λ c. search needs)

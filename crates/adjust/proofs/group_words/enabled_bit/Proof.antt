@@ -1,11 +1,11 @@
 -- The bit of the rule. Assumes nothing.
 use borrow.Author.Needs.{needs}
 use Rattle.adjust.proofs.GroupReport.{bit-on, bit-off}
-use Rattle.adjust.proofs.group_words.on_bit.Statement.{statement}
-use Rattle.adjust.proofs.group_words.on_bit.Tie as tie
+use Rattle.adjust.proofs.group_words.enabled_bit.Statement.{statement}
+use Rattle.adjust.proofs.group_words.enabled_bit.Tie as tie
 
-pub on-bit-spec : {M : Type 1} → statement M
-on-bit-spec =
+pub enabled-bit-spec : {M : Type 1} → statement M
+enabled-bit-spec =
     tie.close
     (tie.spec
     (λ c κs. search needs)

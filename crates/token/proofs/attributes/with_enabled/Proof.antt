@@ -1,11 +1,11 @@
 -- The attributes of the rule. Assumes nothing.
 use borrow.Author.Needs.{needs}
 use Rattle.token.proofs.Regrouped.{turned-on, turned-off}
-use Rattle.token.proofs.attributes.switched.Statement.{statement}
-use Rattle.token.proofs.attributes.switched.Tie as tie
+use Rattle.token.proofs.attributes.with_enabled.Statement.{statement}
+use Rattle.token.proofs.attributes.with_enabled.Tie as tie
 
-pub switched-spec : {M : Type 1} → statement M
-switched-spec =
+pub with-enabled-spec : {M : Type 1} → statement M
+with-enabled-spec =
     tie.close
     (tie.spec
     (λ c κs. search needs)
