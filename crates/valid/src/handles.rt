@@ -14,8 +14,7 @@ use crate::layout::STATIONS;
 use handle::HANDLE_WORDS;
 use handle::Handle;
 use handle::SLOTS;
-
-const ALL_RIGHTS: u16 = 0x1EF;
+use privilege::mask::Mask;
 
 // Whether the fields of all are valid; of the live ones, the first `count` of each list, their numbers and their tokens'. Behind these in
 // `referred` stand the stations' tokens, so that all references are counted in one list.
@@ -33,7 +32,7 @@ fn fields_valid(h: Handle) -> bool
     if h.number == 0 {
         return (h.station == 0) & (token == 0) & (h.mask == 0);
     }
-    (h.station < STATIONS as u16) & ((h.mask != 0) & ((h.mask & ALL_RIGHTS) == h.mask))
+    (h.station < STATIONS as u16) & Mask(h.mask as u32).valid()
 }
 
 fn number_of(h: Handle) -> u32

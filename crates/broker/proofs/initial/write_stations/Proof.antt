@@ -11,4 +11,4 @@ write-stations-spec =
     (λ c. search needs)
     (λ c κs. search needs)
     (λ c. search needs)
-    (λ c. search (needs, stations-begun)))
+    (λ c. search stations-begun))

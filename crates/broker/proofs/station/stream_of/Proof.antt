@@ -17,4 +17,4 @@ stream-of-spec =
     (λ c. search needs)
     (λ c. search needs)
     (λ c. search needs)
-    (λ c. search (needs, stream-given)))
+    (λ c. search stream-given))
