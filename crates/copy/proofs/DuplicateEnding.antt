@@ -76,11 +76,10 @@ module _ (kind level : ℕ) {i s mask : ℕ} {hs : List Handle} {cs ts ds cs′ 
   unfolding copiedAs duplicatedAs duplicated
   to-primary k c = same-copy (copiedAs 1 0) (λ m t. rw (eq-eqb kind 1 k)) c
 
-  pub to-anonymous : (not (eqb kind 1) && eqb level 0) ≡ true → CopyIssued anonymousCopy i s mask ts ds hs cs ts′ ds′ cs′ r
+  pub to-anonymous : not (eqb kind 1) ≡ true → eqb level 0 ≡ true → CopyIssued anonymousCopy i s mask ts ds hs cs ts′ ds′ cs′ r
       → CopyIssued (duplicatedAs kind level) i s mask ts ds hs cs ts′ ds′ cs′ r
   unfolding copiedAs duplicatedAs duplicated
-  to-anonymous b c = same-copy anonymousCopy
-      (λ m t. rw (not-true (eqb kind 1) (and-l (not (eqb kind 1)) (eqb level 0) b), and-r (not (eqb kind 1)) (eqb level 0) b)) c
+  to-anonymous k l c = same-copy anonymousCopy (λ m t. rw (not-true (eqb kind 1) k, l)) c
 
   pub to-impersonation : (kind ≡ 1 → ⊥) → (not (eqb kind 1) && eqb level 0) ≡ false → CopyIssued (copiedAs 2 level) i s mask ts ds hs cs ts′ ds′ cs′ r
       → CopyIssued (duplicatedAs kind level) i s mask ts ds hs cs ts′ ds′ cs′ r

@@ -216,7 +216,7 @@ fn run(
     pending: &mut [u8],
 ) -> Ended
     requires { ⌜ Ready (now buffer) (now answer) (memoryOf (now tokens) (now dacls) (recordsIn (handles .words)) (now control) (now pending)) ⌝ }
-    ensures { λ r. ⌜ Ends (memoryOf (now (tokens .exit)) (now (dacls .exit)) (recordsIn (r .handles .words)) (now (control .exit)) (now (pending .exit))) r ⌝ }
+    ensures { λ r. ⌜ Ends (now (buffer .entry)) (now (buffer .exit)) (memoryOf (now (tokens .entry)) (now (dacls .entry)) (recordsIn (handles .words)) (now (control .entry)) (now (pending .entry))) (memoryOf (now (tokens .exit)) (now (dacls .exit)) (recordsIn (r .handles .words)) (now (control .exit)) (now (pending .exit))) r ⌝ }
 {
     let mut held = handles;
     let mut chunks: u64 = 0;

@@ -23,7 +23,7 @@ use Rattle.broker.proofs.Freeing.{of-bytes}
 use Rattle.session.specs.Program.{fed}
 use Rattle.session.specs.Turns.{Starts, Turns}
 use Rattle.session.specs.declared.turn.Turned.{Turned}
-use Rattle.session.proofs.Feeding.{call-goes, call-valid, call-taken, call-skipped}
+use Rattle.session.proofs.Feeding.{call-goes, call-refused, call-valid, call-taken, call-skipped}
 
 -- ---- start
 
@@ -62,6 +62,7 @@ module _ (s : ℕ) (chunk : List ℕ) (bytes : (i : ℕ) → getD chunk i 0 < 25
         feeds = f;
         inside = omega (arith, f .used, g .inside);
         fits = omega (arith, f .answered, ap length (f .answer), length-append (d .answer) (drop (length (d .answer)) out));
+        refusal = λ v fits z. f .refusal ∙ call-refused m v s chunk (length out) fits (λ e. z (f .refusal ∙ e));
         forward = λ e h. omega (arith, f .used, g .forward (sym (f .refusal) ∙ e) h);
         stays = λ v. rw (f .memory) (call-valid m v s chunk (length out) (of-bytes chunk bytes));
         taken = λ v fits some e. rw (answer, f .memory, f .used) (call-taken m v s chunk (length out) (of-bytes chunk bytes) fits some (sym (f .refusal) ∙ e));

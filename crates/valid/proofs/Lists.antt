@@ -8,14 +8,11 @@ use native.Mathlib.Nat.{zero-mul, suc-mul, add-comm, add-sub-cancel-left, not-su
 use native.Mathlib.Numerals.{add-one}
 use native.Mathlib.Omega.{arith}
 use borrow.Author.Tests.{eqb-false, leb-true, le-leb, ltb-true, lt-ltb}
-use lib.Bits.{bitAnd}
 use lib.Dec.{eqb, leb, ltb}
 use lib.ListN.{length, take, drop, getD, set, length-set, length-drop}
 use lib.Seq.{drop-drop, take-all, take-suc, take-set-le, take-suc-set, drop-set-add}
 use Rattle.table.specs.Rows.{readRows}
 use Rattle.rules.specs.Basic.{if_then_else_, all, member, distinct, implies}
-use Rattle.rules.specs.Bits.{within}
-use Rattle.rules.specs.Mask.{validMask}
 use Rattle.rules.specs.Token.{Token, maxDacl, primary}
 use Rattle.rules.specs.Table.{Slot, free, live, lives}
 use Rattle.rules.specs.Handle.{Handle, noHandle}
@@ -232,7 +229,7 @@ same-handles [] = refl
 same-handles (h ∷ hs) = ap (λ b. sameHandle (slotHandle (handleAt h)) h && b) (same-handles hs)
 
 fields-test : (h : Handle) → (sameHandle (slotHandle (handleAt h)) h && slotTest handleValid (handleAt h)) ≡ fieldsTest h
-unfolding sameHandle slotHandle handleAt noHandle slotTest handleValid validMask within
+unfolding sameHandle slotHandle handleAt noHandle slotTest
 fields-test h = by (eqb (h .number) 0) refl
   where
     at : Bool → Slot Handle
@@ -240,8 +237,7 @@ fields-test h = by (eqb (h .number) 0) refl
 
     by : (b : Bool) → eqb (h .number) 0 ≡ b
         → (sameHandle (slotHandle (at b)) h && slotTest handleValid (at b))
-        ≡ (if_then_else_ b (eqb (h .station) 0 && eqb (h .token) 0 && eqb (h .mask) 0)
-        (ltb (h .station) 8 && (not (eqb (h .mask) 0) && eqb (bitAnd (h .mask) 0x1EF) (h .mask))))
+        ≡ (if_then_else_ b (eqb (h .station) 0 && eqb (h .token) 0 && eqb (h .mask) 0) (handleValid h))
     by true e = rw (eqb-flip 0 (h .station), eqb-flip 0 (h .number), e, eqb-flip 0 (h .token), eqb-flip 0 (h .mask), and-true, and-true)
     by false e = rw (eqb-same (h .station), eqb-same (h .number), eqb-same (h .token), eqb-same (h .mask))
 

@@ -11,12 +11,11 @@ use Rattle.table.specs.Rows.{testRows}
 use Rattle.rules.specs.Basic.{if_then_else_, all}
 use Rattle.rules.specs.Number.{max32}
 use Rattle.rules.specs.Privileges.{existing}
-use Rattle.rules.specs.Mask.{allRights}
 use Rattle.rules.specs.Token.{maxGroups, maxRestricting, maxDacl, primary}
 use Rattle.rules.specs.Table.{Slot, free, live}
 use Rattle.rules.specs.Handle.{Handle}
 use Rattle.rules.specs.State.{handleNumber, handleToken, tokenSlots, handleSlots, stationCount}
-use Rattle.rules.specs.Valid.{groupValid, tokenValid, streamValid}
+use Rattle.rules.specs.Valid.{groupValid, tokenValid, handleValid, streamValid}
 use Rattle.rules.specs.Memory.{Memory, same, slotRow, slotDacl, slotAt, tokenRow, daclRow, tokenAt, stationRow, pendingRow, stationAt, unpack, word32, headWords, tokenWords, stationWords, primaryWord, countWord, brokenWord, nextToken, nextHandle, stationsIn, pendingBytes}
 
 abbrev pub isZero : ℕ → Bool
@@ -188,9 +187,7 @@ refsTest ns rs = all (isReferred rs) ns && eqb (tally ns rs) (length rs)
 
 -- a free slot is zero, and a live handle's fields are within their ranges
 abbrev pub fieldsTest : Handle → Bool
-fieldsTest h =
-    if eqb h.number 0 then eqb h.station 0 && eqb h.token 0 && eqb h.mask 0
-    else ltb h.station stationCount && (not (eqb h.mask 0) && eqb (bitAnd h.mask allRights) h.mask)
+fieldsTest h = if eqb h.number 0 then eqb h.station 0 && eqb h.token 0 && eqb h.mask 0 else handleValid h
 
 -- ---- all of it
 

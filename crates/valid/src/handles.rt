@@ -16,8 +16,6 @@ use handle::Handle;
 use handle::SLOTS;
 use privilege::mask::Mask;
 
-const ALL_RIGHTS: u16 = Mask::ALL.0 as u16;
-
 // Whether the fields of all are valid; of the live ones, the first `count` of each list, their numbers and their tokens'. Behind these in
 // `referred` stand the stations' tokens, so that all references are counted in one list.
 pub struct Held {
@@ -34,7 +32,7 @@ fn fields_valid(h: Handle) -> bool
     if h.number == 0 {
         return (h.station == 0) & (token == 0) & (h.mask == 0);
     }
-    (h.station < STATIONS as u16) & ((h.mask != 0) & ((h.mask & ALL_RIGHTS) == h.mask))
+    (h.station < STATIONS as u16) & Mask(h.mask as u32).valid()
 }
 
 fn number_of(h: Handle) -> u32

@@ -10,10 +10,10 @@ start-spec =
     tie.close
     (tie.spec
     (λ c κs. search needs)
-    (λ c. search (needs, start-refused))
+    (λ c. search start-refused)
     (λ c κs. search (needs, right-lent))
     (λ c. search needs)
     (λ c. search needs)
     (λ c. search needs)
     (λ c. search needs)
-    (λ c. search (needs, starts)))
+    (λ c. search starts))

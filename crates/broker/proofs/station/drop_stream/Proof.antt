@@ -17,4 +17,4 @@ drop-stream-spec =
     (λ c κs. search needs)
     (λ c. search needs)
     (λ c. search needs)
-    (λ c. search (needs, stream-dropped)))
+    (λ c. search stream-dropped))
