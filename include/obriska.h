@@ -4,13 +4,13 @@
  * The host lends the broker its memory, as five arrays, on each call. The broker keeps nothing
  * anywhere else, allocates nothing, never calls back and always returns. A host
  *
- *   1. sets aside a `struct obriska_memory` (34,016 bytes) and starts it once;
+ *   1. sets aside a `struct obriska_memory` (OBRISKA_MEMORY_BYTES) and starts it once;
  *   2. feeds each station's bytes as they come, in chunks of any length, until the chunk is used
  *      up, and sends each answer to that station;
  *   3. reconnects a station when its line was cut.
  *
  * What every call returns and every lent byte after it are proved for any input, refusals too
- * (docs/CLAIMS.md): nothing of the stack and no padding is in them. What the host owes:
+ * (docs/CLAIMS.md): nothing of the stack and no padding is in the lent bytes. What the host owes:
  *
  *   - each pointer is not null, also before a length of 0, is aligned for its type, and has as many
  *     elements behind it as the length says;
@@ -29,29 +29,19 @@
 extern "C" {
 #endif
 
-/* ---- sizes ---------------------------------------------------------------------------------- */
+/* ---- limits --------------------------------------------------------------------------------- */
 
 #define OBRISKA_STATIONS 8 /* stations 0 to 7 */
 #define OBRISKA_TOKENS 16  /* live tokens at most */
 #define OBRISKA_HANDLES 32 /* live handles at most, of all stations together */
 
+#define OBRISKA_MAX_GROUPS 64      /* of a token */
+#define OBRISKA_MAX_RESTRICTING 16 /* restricting SIDs of a token */
+#define OBRISKA_MAX_DACL 256       /* bytes of a token's default DACL */
+
 #define OBRISKA_ANSWER_LEN 1024 /* the shortest answer buffer, and the longest answer */
 #define OBRISKA_MAX_BODY 2048   /* the longest body of a request */
-
-/* What one token slot or one station has in an array. */
-#define OBRISKA_TOKEN_WORDS 100    /* of a token slot in `tokens` */
-#define OBRISKA_DACL_BYTES 256     /* of a token slot in `dacls` */
-#define OBRISKA_FIRST_STATION 2    /* the word of station 0 in `stations` */
-#define OBRISKA_STATION_WORDS 3    /* of a station in `stations` */
-#define OBRISKA_PENDING_BYTES 2050 /* of a station in `pending` */
-
-/* Elements of each array that the host lends: exactly these lengths, else refusal 13. */
-#define OBRISKA_TOKENS_LEN (OBRISKA_TOKENS * OBRISKA_TOKEN_WORDS) /* 1,600 uint64_t */
-#define OBRISKA_DACLS_LEN (OBRISKA_TOKENS * OBRISKA_DACL_BYTES)   /* 4,096 uint8_t */
-#define OBRISKA_HANDLES_LEN OBRISKA_HANDLES                       /* 32 struct obriska_handle */
-#define OBRISKA_STATIONS_LEN \
-    (OBRISKA_FIRST_STATION + OBRISKA_STATIONS * OBRISKA_STATION_WORDS) /* 26 uint64_t */
-#define OBRISKA_PENDING_LEN (OBRISKA_STATIONS * OBRISKA_PENDING_BYTES) /* 16,400 uint8_t */
+#define OBRISKA_LENGTH_BYTES 2  /* the most bytes that say a body's length */
 
 /* ---- places: docs/MEMORY.md has the values ------------------------------------------------- */
 
@@ -77,29 +67,51 @@ enum obriska_token_word {
     OBRISKA_TOKEN_GROUP_COUNT = 17,
     OBRISKA_TOKEN_RESTRICTING_COUNT = 18,
     OBRISKA_TOKEN_DACL_LENGTH = 19,
-    OBRISKA_TOKEN_GROUPS = 20,     /* the first of 64: SID in the low half, attributes in the high */
-    OBRISKA_TOKEN_RESTRICTING = 84 /* the first of 16 SIDs */
+    OBRISKA_TOKEN_GROUPS, /* the first group: SID in the low half, attributes in the high */
+    OBRISKA_TOKEN_RESTRICTING = OBRISKA_TOKEN_GROUPS + OBRISKA_MAX_GROUPS /* the first SID */
 };
 
-/* Words of `stations` before its first station. */
-enum obriska_next_word {
+/* Words of `control`. */
+enum obriska_control_word {
     OBRISKA_NEXT_TOKEN = 0,
-    OBRISKA_NEXT_HANDLE = 1
+    OBRISKA_NEXT_HANDLE = 1,
+    OBRISKA_FIRST_STATION /* the row of station 0; the others follow */
 };
 
-/* Words of a station. */
+/* Words of a station's row. */
 enum obriska_station_word {
     OBRISKA_STATION_TOKEN = 0,   /* the number of its primary token */
     OBRISKA_STATION_PENDING = 1, /* how many bytes of a request are pending */
     OBRISKA_STATION_BROKEN = 2   /* 1: its stream is broken */
 };
 
+/* ---- sizes ---------------------------------------------------------------------------------- */
+
+/* What one token slot has in `tokens` and in `dacls`, one station in `control` and in `pending`. */
+#define OBRISKA_TOKEN_WORDS (OBRISKA_TOKEN_RESTRICTING + OBRISKA_MAX_RESTRICTING)
+#define OBRISKA_DACL_BYTES OBRISKA_MAX_DACL
+#define OBRISKA_STATION_WORDS (OBRISKA_STATION_BROKEN + 1)
+#define OBRISKA_PENDING_BYTES (OBRISKA_LENGTH_BYTES + OBRISKA_MAX_BODY)
+
+/* Elements of each array that the host lends: exactly these lengths, else refusal 13. */
+#define OBRISKA_TOKENS_LEN (OBRISKA_TOKENS * OBRISKA_TOKEN_WORDS)
+#define OBRISKA_DACLS_LEN (OBRISKA_TOKENS * OBRISKA_DACL_BYTES)
+#define OBRISKA_HANDLES_LEN OBRISKA_HANDLES
+#define OBRISKA_CONTROL_LEN (OBRISKA_FIRST_STATION + OBRISKA_STATIONS * OBRISKA_STATION_WORDS)
+#define OBRISKA_PENDING_LEN (OBRISKA_STATIONS * OBRISKA_PENDING_BYTES)
+
+/* Bytes of a handle, and of all arrays together. */
+#define OBRISKA_HANDLE_BYTES 16
+#define OBRISKA_MEMORY_BYTES \
+    (sizeof(uint64_t) * (OBRISKA_TOKENS_LEN + OBRISKA_CONTROL_LEN) + OBRISKA_DACLS_LEN + \
+     OBRISKA_HANDLE_BYTES * OBRISKA_HANDLES_LEN + OBRISKA_PENDING_LEN)
+
 /* ---- records -------------------------------------------------------------------------------- */
 
-/* A handle: what lets a station use a token. A free slot has zero in all its 16 bytes, which the
- * four fields fill. */
+/* A handle: what lets a station use a token. A free slot has zero in all its bytes, which the four
+ * fields fill. */
 struct obriska_handle {
-    uint16_t station; /* whose it is, 0 to 7 */
+    uint16_t station; /* whose it is */
     uint16_t mask;    /* the rights that it grants, OBRISKA_RIGHT_.. */
     uint32_t number;  /* from 1, given upward and never twice; 0: the slot is free */
     uint64_t token;   /* the number of its token */
@@ -118,7 +130,7 @@ struct obriska_memory {
     uint64_t tokens[OBRISKA_TOKENS_LEN];
     uint8_t dacls[OBRISKA_DACLS_LEN];
     struct obriska_handle handles[OBRISKA_HANDLES_LEN];
-    uint64_t stations[OBRISKA_STATIONS_LEN];
+    uint64_t control[OBRISKA_CONTROL_LEN];
     uint8_t pending[OBRISKA_PENDING_LEN];
 };
 
@@ -128,13 +140,13 @@ struct obriska_memory {
 #define OBRISKA_ASSERT_ _Static_assert
 #endif
 OBRISKA_ASSERT_(sizeof(size_t) == 8, "the library is for 64-bit hosts");
-OBRISKA_ASSERT_(sizeof(struct obriska_handle) == 16, "a handle has 16 bytes, no padding");
+OBRISKA_ASSERT_(sizeof(struct obriska_handle) == OBRISKA_HANDLE_BYTES, "a handle has no padding");
 OBRISKA_ASSERT_(offsetof(struct obriska_handle, station) == 0, "the station is at byte 0");
 OBRISKA_ASSERT_(offsetof(struct obriska_handle, mask) == 2, "the mask is at byte 2");
 OBRISKA_ASSERT_(offsetof(struct obriska_handle, number) == 4, "the number is at byte 4");
 OBRISKA_ASSERT_(offsetof(struct obriska_handle, token) == 8, "the token is at byte 8");
 OBRISKA_ASSERT_(sizeof(struct obriska_fed) == 24, "what a feed returns has 24 bytes");
-OBRISKA_ASSERT_(sizeof(struct obriska_memory) == 34016, "the memory has 34,016 bytes, no padding");
+OBRISKA_ASSERT_(sizeof(struct obriska_memory) == OBRISKA_MEMORY_BYTES, "the memory has no padding");
 #undef OBRISKA_ASSERT_
 
 /* ---- refusals ------------------------------------------------------------------------------- */
@@ -151,11 +163,11 @@ enum obriska_refusal {
                                        that is not primary */
     OBRISKA_REFUSED_PROTECTED = 6,  /* a protected group */
     OBRISKA_REFUSED_MISMATCH = 7,   /* installing a token of another user or session */
-    OBRISKA_REFUSED_FULL = 8,       /* no free slot, no number left, or over 16 restricting SIDs */
+    OBRISKA_REFUSED_FULL = 8,       /* no free slot, no number left, or too many restricting SIDs */
     OBRISKA_REFUSED_CAPACITY = 9,   /* the report is larger than the capacity; its size follows */
     OBRISKA_REFUSED_BROKEN = 10,    /* a bad length: the stream is broken until a reconnect */
     OBRISKA_REFUSED_STATION = 11,   /* there is no such station */
-    OBRISKA_REFUSED_BUFFER = 12,    /* the answer buffer has under 1,024 bytes */
+    OBRISKA_REFUSED_BUFFER = 12,    /* the answer buffer is shorter than OBRISKA_ANSWER_LEN */
     OBRISKA_REFUSED_MEMORY = 13     /* the memory is not valid, or not of its sizes */
 };
 
@@ -183,28 +195,28 @@ enum obriska_refusal {
 /* ---- the calls ------------------------------------------------------------------------------ */
 
 /* Writes the start's memory over whatever the arrays hold: token 1 (user 18, session 999, all
- * privileges) is the primary token of all eight stations, there are no handles, the next token is
- * 2 and the next handle 1.
+ * privileges) is the primary token of all stations, there are no handles, the next token is 2 and
+ * the next handle 1.
  * Returns 0, or 13 where a length is wrong; then nothing is written. */
 uint32_t obriska_start(uint64_t *tokens, size_t tokens_len, uint8_t *dacls, size_t dacls_len,
-                       struct obriska_handle *handles, size_t handles_len, uint64_t *stations,
-                       size_t stations_len, uint8_t *pending, size_t pending_len);
+                       struct obriska_handle *handles, size_t handles_len, uint64_t *control,
+                       size_t control_len, uint8_t *pending, size_t pending_len);
 
 /* Feeds a chunk of a station's stream. Uses its bytes up to the end of the first request, or to
  * the byte that breaks the stream, or all of them. A request is served whole, at its last byte.
  *
  * refusal 0: `used` bytes were used; if `answered` is not 0, the answer to the request that ended
- *   there, or 01 0A for the break, is the first `answered` bytes of the buffer (at most 1,024).
- *   The bytes after it stay. Feed again with the rest of the chunk until all of it is used: a
- *   chunk that is not empty has at least one byte used. How a stream is cut into chunks changes
- *   nothing. A broken stream uses all bytes and answers nothing until the station is reconnected.
+ *   there, or 01 0A for the break, is the first `answered` bytes of the buffer. The bytes after it
+ *   stay. Feed again with the rest of the chunk until all of it is used: a chunk that is not empty
+ *   has at least one byte used. How a stream is cut into chunks changes nothing. A broken stream
+ *   uses all bytes and answers nothing until the station is reconnected.
  * refusal 11, 12 or 13: `used` and `answered` are 0, and nothing is written. 13 never comes on
  *   memory that was started and then written by these calls alone. */
 struct obriska_fed obriska_feed(uint32_t station, const uint8_t *data, size_t data_len,
                                 uint8_t *answer, size_t answer_len, uint64_t *tokens,
                                 size_t tokens_len, uint8_t *dacls, size_t dacls_len,
                                 struct obriska_handle *handles, size_t handles_len,
-                                uint64_t *stations, size_t stations_len, uint8_t *pending,
+                                uint64_t *control, size_t control_len, uint8_t *pending,
                                 size_t pending_len);
 
 /* Drops the station's part of a request and its break, and nothing else: tokens and handles stay.
@@ -212,11 +224,11 @@ struct obriska_fed obriska_feed(uint32_t station, const uint8_t *data, size_t da
 uint32_t obriska_reconnect(uint32_t station, const uint64_t *tokens, size_t tokens_len,
                            const uint8_t *dacls, size_t dacls_len,
                            const struct obriska_handle *handles, size_t handles_len,
-                           uint64_t *stations, size_t stations_len, uint8_t *pending,
+                           uint64_t *control, size_t control_len, uint8_t *pending,
                            size_t pending_len);
 
-/* The slot of the station's live handle of this number, or 32 (OBRISKA_HANDLES) if there is none.
- * Writes nothing. */
+/* The slot of the station's live handle of this number, or OBRISKA_HANDLES if there is none. Writes
+ * nothing. */
 size_t obriska_find(const struct obriska_handle *handles, size_t handles_len, uint32_t station,
                     uint32_t number);
 
@@ -225,7 +237,7 @@ size_t obriska_find(const struct obriska_handle *handles, size_t handles_len, ui
 static inline uint32_t obriska_memory_start(struct obriska_memory *m)
 {
     return obriska_start(m->tokens, OBRISKA_TOKENS_LEN, m->dacls, OBRISKA_DACLS_LEN, m->handles,
-                         OBRISKA_HANDLES_LEN, m->stations, OBRISKA_STATIONS_LEN, m->pending,
+                         OBRISKA_HANDLES_LEN, m->control, OBRISKA_CONTROL_LEN, m->pending,
                          OBRISKA_PENDING_LEN);
 }
 
@@ -234,14 +246,14 @@ static inline struct obriska_fed obriska_memory_feed(struct obriska_memory *m, u
                                                      uint8_t *answer, size_t answer_len)
 {
     return obriska_feed(station, data, data_len, answer, answer_len, m->tokens, OBRISKA_TOKENS_LEN,
-                        m->dacls, OBRISKA_DACLS_LEN, m->handles, OBRISKA_HANDLES_LEN, m->stations,
-                        OBRISKA_STATIONS_LEN, m->pending, OBRISKA_PENDING_LEN);
+                        m->dacls, OBRISKA_DACLS_LEN, m->handles, OBRISKA_HANDLES_LEN, m->control,
+                        OBRISKA_CONTROL_LEN, m->pending, OBRISKA_PENDING_LEN);
 }
 
 static inline uint32_t obriska_memory_reconnect(struct obriska_memory *m, uint32_t station)
 {
     return obriska_reconnect(station, m->tokens, OBRISKA_TOKENS_LEN, m->dacls, OBRISKA_DACLS_LEN,
-                             m->handles, OBRISKA_HANDLES_LEN, m->stations, OBRISKA_STATIONS_LEN,
+                             m->handles, OBRISKA_HANDLES_LEN, m->control, OBRISKA_CONTROL_LEN,
                              m->pending, OBRISKA_PENDING_LEN);
 }
 

@@ -95,11 +95,14 @@ static void print_handle(const struct obriska_memory *memory, uint32_t station, 
         printf("token %" PRIu64 ", mask 0x%" PRIX16 "\n", handle->token, handle->mask);
 }
 
+/* Bytes of the longest chunk in the list below. */
+enum { LONGEST_STEP = 7 };
+
 struct step {
     const char *title;
     uint32_t station;
     size_t len;
-    uint8_t data[16];
+    uint8_t data[LONGEST_STEP];
 };
 
 static const struct step first_steps[] = {
@@ -131,7 +134,7 @@ static bool play_steps(struct obriska_memory *memory)
 
 static bool play_longest_request(struct obriska_memory *memory)
 {
-    static const uint8_t longest[2 + OBRISKA_MAX_BODY] = {0x80, 0x10};
+    static const uint8_t longest[OBRISKA_LENGTH_BYTES + OBRISKA_MAX_BODY] = {0x80, 0x10};
     printf("E: length 2,048 is whole; request 0 is unknown\n");
     return send_chunk(memory, 0, longest, sizeof longest);
 }
@@ -162,8 +165,9 @@ int main(void)
     print_handle(&memory, 0, 2);
     print_handle(&memory, 1, 1);
 
-    printf("There is no station 8\n");
-    bool refused = !send_chunk(&memory, 8, first_steps[0].data, first_steps[0].len);
+    printf("There is no station %d\n", OBRISKA_STATIONS);
+    bool refused =
+        !send_chunk(&memory, OBRISKA_STATIONS, first_steps[0].data, first_steps[0].len);
     if (!refused || fflush(stdout) != 0 || ferror(stdout))
         return EXIT_FAILURE;
     return EXIT_SUCCESS;

@@ -35,7 +35,18 @@ static const uint8_t open_own[] = {0x02, 0x01, 0x28};
 static const uint64_t *station_word(size_t station, enum obriska_station_word word)
 {
     size_t row = OBRISKA_FIRST_STATION + station * OBRISKA_STATION_WORDS;
-    return &memory.stations[row + word];
+    return &memory.control[row + word];
+}
+
+/* The arrays that a host lends. */
+enum { ARRAYS = 5 };
+
+/* docs/MEMORY.md, the first table. */
+static void the_memory_has_the_sizes_of_the_docs(void)
+{
+    EXPECT(sizeof memory.tokens == 12800 && sizeof memory.dacls == 4096);
+    EXPECT(sizeof memory.handles == 512 && sizeof memory.control == 208);
+    EXPECT(sizeof memory.pending == 16400 && sizeof memory == 34016);
 }
 
 static void start_asks_for_the_sizes_only(void)
@@ -43,12 +54,12 @@ static void start_asks_for_the_sizes_only(void)
     struct obriska_memory *m = &memory;
     memset(m, 0xAA, sizeof *m);
     before = *m;
-    for (size_t part = 0; part < 5; part++) {
-        size_t less[5] = {0};
+    for (size_t part = 0; part < ARRAYS; part++) {
+        size_t less[ARRAYS] = {0};
         less[part] = 1;
         EXPECT(obriska_start(m->tokens, OBRISKA_TOKENS_LEN - less[0], m->dacls,
                              OBRISKA_DACLS_LEN - less[1], m->handles, OBRISKA_HANDLES_LEN - less[2],
-                             m->stations, OBRISKA_STATIONS_LEN - less[3], m->pending,
+                             m->control, OBRISKA_CONTROL_LEN - less[3], m->pending,
                              OBRISKA_PENDING_LEN - less[4]) == OBRISKA_REFUSED_MEMORY);
         EXPECT(unchanged());
     }
@@ -56,7 +67,7 @@ static void start_asks_for_the_sizes_only(void)
     EXPECT(m->tokens[OBRISKA_TOKEN_NUMBER] == 1 && m->tokens[OBRISKA_TOKEN_SESSION] == 999);
     EXPECT(m->tokens[OBRISKA_TOKEN_USER] == 18 && m->tokens[OBRISKA_TOKEN_PRESENT] == 0x1FFFFFFFFC);
     EXPECT(m->tokens[OBRISKA_TOKEN_WORDS] == 0 && m->tokens[OBRISKA_TOKENS_LEN - 1] == 0);
-    EXPECT(m->stations[OBRISKA_NEXT_TOKEN] == 2 && m->stations[OBRISKA_NEXT_HANDLE] == 1);
+    EXPECT(m->control[OBRISKA_NEXT_TOKEN] == 2 && m->control[OBRISKA_NEXT_HANDLE] == 1);
     for (size_t station = 0; station < OBRISKA_STATIONS; station++) {
         EXPECT(*station_word(station, OBRISKA_STATION_TOKEN) == 1);
         EXPECT(*station_word(station, OBRISKA_STATION_PENDING) == 0);
@@ -200,6 +211,7 @@ static void a_copy_goes_on_where_the_memory_was(void)
 
 int main(void)
 {
+    the_memory_has_the_sizes_of_the_docs();
     start_asks_for_the_sizes_only();
     every_byte_is_the_same_whatever_was_there_before();
     a_free_handle_slot_is_zero_in_every_byte();

@@ -2,228 +2,189 @@
 use Prim.Native.Nat.{ℕ}
 use native.Mathlib.Omega.{arith}
 use mathlib.Core.Path.{_≡_, refl, sym, ap, ap₂, _∙_, subst}
-use mathlib.Core.Bool.{Bool, true, false}
+use mathlib.Core.Bool.{true}
+use mathlib.Core.Logic.{⊎-elim}
 use mathlib.Core.List.{List, [], _∷_, _++_, map}
 use lib.ListN.{length, take, drop, replicate, length-replicate}
 use lib.Seq.{take-append-seam, drop-append-seam}
-use lib.Dec.{leb, eqb}
-use Rattle.rules.specs.Basic.{if_then_else_, all}
-use Rattle.rules.specs.Refusal.{noStation, invalidMemory}
-use Rattle.rules.specs.State.{State, start, stationCount, changeStation}
-use Rattle.rules.specs.Station.{cleared}
+use lib.Dec.{leb}
+use Rattle.rules.specs.Basic.{all}
+use Rattle.rules.specs.State.{State, start, stationCount}
+use Rattle.rules.specs.Valid as Valid
 use Rattle.rules.specs.Memory.{Memory, sized, valid, encode}
 use Rattle.rules.specs.Model as Model
 use Rattle.rules.specs.Model.{Result, refused}
-use Rattle.rules.specs.Run.{Call, feeds, reconnects, returned, after, ofBytes, noted, answered, reconnected, eventsOf, events}
+use Rattle.rules.specs.Run.{Call, feeds, reconnects, returned, after, ofBytes, noted, answered, eventsOf, events}
 use Rattle.rules.specs.Growth.{Mem}
 use Rattle.rules.specs.Calls.{Done, refusedOn, written, startOn, feedOn, reconnectOn, buffer}
-use Rattle.rules.specs.WholeList.{Return, doneBy, memoryAfter, returnsOn, returnsOf}
-use Rattle.rules.proofs.Logic.{and-l, and-r, and-i}
+use Rattle.rules.specs.WholeList.{doneBy, memoryAfter, returnsOn, returnsOf}
+use Rattle.rules.proofs.Logic.{either}
 use Rattle.rules.proofs.Tables.{on-if}
+use Rattle.rules.proofs.Always.{start-valid}
 use Rattle.rules.proofs.WholeList.{whole-list}
 use Rattle.broker.specs.Promise.{StartPromise}
-use Rattle.broker.specs.WholeRun.{FeedCall, ReconnectCall, Link, feed, reconnect, Chain, none, link, Ran, memories, RestStays, AllStay, answersIn, happened, eventsIn, states, WholeRun, CanRun}
+use Rattle.broker.specs.WholeRun.{FeedCall, ReconnectCall, Link, feed, reconnect, Chain, none, link, RestStays, AllStay, answersIn, happened, eventsIn, WholeRun, CanRun, FromStart, WholeStart, CanStart}
 
--- ---- one call: what it left and returned is what `Calls` says
+-- ---- one call: what it returned and left is what `Calls` says
 
-returnOf : Done → Return
-returnOf d = record { refusal = d .refusal; used = d .used; answer = d .answer }
+same-done : {d e : Done} → d .refusal ≡ e .refusal → d .used ≡ e .used → d .answer ≡ e .answer → d .after ≡ e .after → d ≡ e
+same-done n u a m = λ i. record { refusal = n i; used = u i; answer = a i; after = m i }
 
-record DoesAs (d : Done) (m′ : Memory) (r : Return) : Type 0 where
-  pub memory : m′ ≡ d .memory
-  pub returns : r ≡ returnOf d
+module _ {m : Memory} {s : ℕ} {chunk : List ℕ} {bufferLength : ℕ} {r : Done} (f : FeedCall m s chunk bufferLength r) where
+  said : r .answer ≡ feedOn m s chunk (length (f .out)) .answer
+  unfolding buffer
+  said = let p = f .promise in f .answer ∙ ap₂ take (p .answered) (p .answer) ∙ take-append-seam (feedOn m s chunk (length (f .out)) .answer) _
 
-module _ {m : Memory} {s : ℕ} {chunk : List ℕ} {room : ℕ} {m′ : Memory} {r : Return} (f : FeedCall m s chunk room m′ r) where
-  fed-done : Done
-  fed-done = feedOn m s chunk (length (f .out))
-
-  fed-same : DoesAs fed-done m′ r
-  unfolding buffer fed-done returnOf
-  fed-same =
+  fed-as : r ≡ feedOn m s chunk bufferLength
+  fed-as =
       let p = f .promise in
-      let said = ap₂ take (p .answered) (p .answer) ∙ take-append-seam (fed-done .answer) _ in
-      record { memory = p .memory; returns = f .returned ∙ cc }
-
-  fed-as : DoesAs (feedOn m s chunk room) m′ r
-  unfolding fed-done
-  fed-as = subst (λ (n : ℕ). DoesAs (feedOn m s chunk n) m′ r) (f .size) fed-same
+      same-done (f .refusal ∙ p .refusal) (f .used ∙ p .used) said (p .memory) ∙ ap (feedOn m s chunk) (f .size)
 
   fed-rest : drop (length (r .answer)) (f .out′) ≡ drop (length (r .answer)) (f .out)
-  unfolding buffer fed-done returnOf
-  fed-rest =
-      let a = ap (λ (q : Return). q .answer) (fed-same .returns) in
-      ap₂ (λ (x y : List ℕ). drop (length x) y) a (f .promise .answer) ∙ drop-append-seam (fed-done .answer) _ ∙ ap (λ (x : List ℕ). drop (length x) (f .out)) (sym a)
+  unfolding buffer
+  fed-rest = let a = feedOn m s chunk (length (f .out)) .answer in rw said (ap (drop (length a)) (f .promise .answer) ∙ drop-append-seam a _)
 
 -- a reconnect uses and answers nothing
 Quiet : Done → Type 0
-Quiet d = record { refusal = d .refusal; used = 0; answer = [] } ≡ returnOf d
+Quiet d = (d .used ≡ 0) × (d .answer ≡ [])
 
 reconnect-quiet : (m : Memory) (s : ℕ) → Quiet (reconnectOn m s)
-unfolding Quiet returnOf reconnectOn refusedOn written refused Model.reconnect
+unfolding Quiet reconnectOn refusedOn written refused Model.reconnect
 reconnect-quiet m s =
-    on-if Quiet (leb stationCount s) _ _ (λ t. refl)
-    (λ t. on-if Quiet (valid m) _ _ (λ v. on-if (λ (x : Result). Quiet (written x)) (leb stationCount s) _ _ (λ u. refl) (λ u. refl)) (λ v. refl))
+    on-if Quiet (leb stationCount s) _ _ (λ t. (refl, refl))
+    (λ t. on-if Quiet (valid m) _ _ (λ v. on-if (λ (x : Result). Quiet (written x)) (leb stationCount s) _ _ (λ u. (refl, refl)) (λ u. (refl, refl))) (λ v. (refl, refl)))
 
-reconnected-as : (m : Memory) (s : ℕ) (m′ : Memory) (r : Return) → ReconnectCall m s m′ r → DoesAs (reconnectOn m s) m′ r
+reconnected-as : {m : Memory} {s : ℕ} {r : Done} → ReconnectCall m s r → r ≡ reconnectOn m s
 unfolding Quiet
-reconnected-as m s m′ r f =
-    record {
-      memory = f .promise .memory;
-      returns = f .returned ∙ ap (λ (k : ℕ). record { refusal = k; used = 0; answer = [] }) (f .promise .refusal) ∙ reconnect-quiet m s;
-    }
+reconnected-as {m} {s} f =
+    let q = reconnect-quiet m s in same-done (f .promise .refusal) (f .used ∙ sym (q .0)) (f .answer ∙ sym (q .1)) (f .promise .memory)
 
-link-as : {m : Memory} {c : Call} {m′ : Memory} {r : Return} → Link m c m′ r → DoesAs (doneBy m c) m′ r
+link-as : {m : Memory} {c : Call} {r : Done} → Link m c r → r ≡ doneBy m c
 unfolding doneBy
 link-as (feed f) = fed-as f
-link-as (reconnect {m} {s} {m′} {r} f) = reconnected-as m s m′ r f
+link-as (reconnect f) = reconnected-as f
 
-link-rest : {m m′ : Memory} {c : Call} {r : Return} (l : Link m c m′ r) → RestStays l
+link-rest : {m : Memory} {c : Call} {r : Done} (l : Link m c r) → RestStays l
 unfolding RestStays
 link-rest (feed f) = fed-rest f
 link-rest (reconnect f) = tt
 
 -- the contracts leave a call something to do
-can-link : (m : Memory) (c : Call) → Link m c (doneBy m c .memory) (returnOf (doneBy m c))
-unfolding doneBy returnOf buffer Quiet
-can-link m (feeds s chunk room) =
-    let out : List ℕ = replicate room 0 in
+can-link : (m : Memory) (c : Call) → Link m c (doneBy m c)
+unfolding doneBy buffer Quiet
+can-link m (feeds s chunk bufferLength) =
+    let out : List ℕ = replicate bufferLength 0 in
     let d = feedOn m s chunk (length out) in
-    let made : FeedCall m s chunk room (d .memory) (returnOf d) = record {
+    let made : FeedCall m s chunk bufferLength d = record {
       out = out;
       out′ = buffer (d .answer) out;
       fed = record { refusal = d .refusal; used = d .used; answered = length (d .answer) };
-      size = length-replicate room 0;
+      size = length-replicate bufferLength 0;
       promise = record { refusal = refl; used = refl; answered = refl; memory = refl; answer = refl };
-      returned = ap (λ (a : List ℕ). record { refusal = d .refusal; used = d .used; answer = a }) (sym (take-append-seam (d .answer) _));
+      refusal = refl;
+      used = refl;
+      answer = sym (take-append-seam (d .answer) _);
     } in
-    feed (subst (λ (n : ℕ). FeedCall m s chunk room (feedOn m s chunk n .memory) (returnOf (feedOn m s chunk n))) (length-replicate room 0) made)
-can-link m (reconnects s) = reconnect (record { refusal = reconnectOn m s .refusal; promise = record { refusal = refl; memory = refl }; returned = sym (reconnect-quiet m s) })
+    feed (subst (λ (n : ℕ). FeedCall m s chunk bufferLength (feedOn m s chunk n)) (length-replicate bufferLength 0) made)
+can-link m (reconnects s) = let q = reconnect-quiet m s in reconnect (record { promise = record { refusal = refl; memory = refl }; used = q .0; answer = q .1 })
 
 -- ---- a chain, from any memory
 
-chain-memory : {m m′ : Memory} {cs : List Call} {rs : List Return} → Chain m cs m′ rs → m′ ≡ memoryAfter cs m
+chain-memory : {m m′ : Memory} {cs : List Call} {rs : List Done} → Chain m cs m′ rs → m′ ≡ memoryAfter cs m
 unfolding memoryAfter
 chain-memory none = refl
-chain-memory (link {cs = cs} l x) = chain-memory x ∙ ap (memoryAfter cs) (link-as l .memory)
+chain-memory (link {cs = cs} l x) = chain-memory x ∙ ap (λ (d : Done). memoryAfter cs (d .after)) (link-as l)
 
-chain-returns : {m m′ : Memory} {cs : List Call} {rs : List Return} → Chain m cs m′ rs → rs ≡ returnsOn cs m
-unfolding returnsOn returnOf
+chain-returns : {m m′ : Memory} {cs : List Call} {rs : List Done} → Chain m cs m′ rs → rs ≡ returnsOn cs m
+unfolding returnsOn
 chain-returns none = refl
-chain-returns (link {cs = cs} l x) =
-    let d = link-as l in ap₂ (λ (q : Return) (qs : List Return). q ∷ qs) (d .returns) (chain-returns x ∙ ap (returnsOn cs) (d .memory))
+chain-returns (link {cs = cs} {r = r} l x) = ap (λ (ds : List Done). r ∷ ds) (chain-returns x) ∙ ap (λ (d : Done). d ∷ returnsOn cs (d .after)) (link-as l)
 
-chain-rest : {m m′ : Memory} {cs : List Call} {rs : List Return} (x : Chain m cs m′ rs) → AllStay x
+chain-rest : {m m′ : Memory} {cs : List Call} {rs : List Done} (x : Chain m cs m′ rs) → AllStay x
 unfolding AllStay
 chain-rest none = tt
 chain-rest (link l x) = (link-rest l, chain-rest x)
 
 can-chain : (m : Memory) (cs : List Call) → Chain m cs (memoryAfter cs m) (returnsOn cs m)
-unfolding returnsOn memoryAfter returnOf
+unfolding returnsOn memoryAfter
 can-chain m [] = none
-can-chain m (c ∷ cs) = link (can-link m c) (can-chain (doneBy m c .memory) cs)
+can-chain m (c ∷ cs) = link (can-link m c) (can-chain (doneBy m c .after) cs)
 
--- m stands for σ now and after any calls
-Stands : State → Memory → Type 0
-Stands σ m = (cs : List Call) → all ofBytes cs ≡ true → memoryAfter cs m ≡ encode (after cs σ)
+-- ---- what the calls returned, of the model
 
-chain-along : {m m′ : Memory} {cs : List Call} {rs : List Return} (σ : State) → all ofBytes cs ≡ true → Stands σ m → (x : Chain m cs m′ rs) → memories x ≡ map encode (states cs σ)
-unfolding memories states Stands memoryAfter after all
-chain-along σ w h none = refl
-chain-along σ w h (link {m₁ = m₁} {c = c} {cs = cs} l x) =
-    let τ = returned σ c .after in
-    let next : Stands τ m₁ = subst (Stands τ) (sym (link-as l .memory)) (λ ds v. h (c ∷ ds) (and-i (and-l (ofBytes c) (all ofBytes cs) w) v)) in
-    ap₂ (λ (n : Memory) (ns : List Memory). n ∷ ns) (next [] refl) (chain-along τ (and-r (ofBytes c) (all ofBytes cs) w) next x)
+said-as : (cs : List Call) (σ : State) → answersIn (map written (returnsOf cs σ)) ≡ answered cs σ
+unfolding answersIn returnsOf answered written
+said-as [] σ = refl
+said-as (c ∷ cs) σ = ap (noted (returned σ c .answer)) (said-as cs (returned σ c .after))
 
--- ---- from start
+happened-as : (c : Call) (σ : State) → happened c (written (returned σ c)) ≡ eventsOf σ c
+unfolding happened eventsOf returned written Model.reconnect refused
+happened-as (feeds s chunk bufferLength) σ = refl
+happened-as (reconnects s) σ = ⊎-elim (λ t. rw t) (λ t. rw t) (either (leb stationCount s))
+
+events-as : (cs : List Call) (σ : State) → eventsIn cs (map written (returnsOf cs σ)) ≡ events cs σ
+unfolding eventsIn returnsOf events
+events-as [] σ = refl
+events-as (c ∷ cs) σ = ap₂ _++_ (happened-as c σ) (events-as cs (returned σ c .after))
+
+-- ---- from any valid state
+
+module _ (σ : State) (v : Valid.valid σ ≡ true) where
+  module _ {m m′ : Memory} {cs : List Call} {rs : List Done} (b : m ≡ encode σ) (w : all ofBytes cs ≡ true) (x : Chain m cs m′ rs) where
+    run-memory : m′ ≡ encode (after cs σ)
+    run-memory = chain-memory x ∙ ap (memoryAfter cs) b ∙ whole-list σ v cs w .memory
+
+    run-on : rs ≡ returnsOn cs (encode σ)
+    run-on = chain-returns x ∙ ap (returnsOn cs) b
+
+    run-returns : rs ≡ map written (returnsOf cs σ)
+    run-returns = run-on ∙ whole-list σ v cs w .returns
+
+    run-answers : answersIn rs ≡ answered cs σ
+    run-answers = ap answersIn run-returns ∙ said-as cs σ
+
+    run-events : eventsIn cs rs ≡ events cs σ
+    run-events = ap (eventsIn cs) run-returns ∙ events-as cs σ
+
+  -- every list of calls; a chunk is of bytes
+  pub whole-run : {m m′ : Memory} {cs : List Call} {rs : List Done} → m ≡ encode σ → all ofBytes cs ≡ true → (x : Chain m cs m′ rs) → WholeRun σ x
+  whole-run {m} {m′} {cs} {rs} b w x =
+      let whole = whole-list σ v cs w in
+      record {
+        begins = b;
+        memory = run-memory b w x;
+        returns = run-returns b w x;
+        rest = chain-rest x;
+        never13 = λ r i. whole .never13 r (subst (Mem r) (run-on b w x) i);
+        alike = λ {n} {n′} {ds} a u y e. (
+            let same = whole .throughout .alike ds (sym (run-events a u y) ∙ e ∙ run-events b w x) in
+            record { answers = run-answers a u y ∙ same .answers ∙ sym (run-answers b w x); memory = run-memory a u y ∙ ap encode (same .end) ∙ sym (run-memory b w x) });
+        throughout = whole .throughout;
+      }
+
+  pub can-run : (cs : List Call) → all ofBytes cs ≡ true → CanRun σ cs
+  unfolding CanRun
+  can-run cs w =
+      let whole = whole-list σ v cs w in
+      subst (Chain (encode σ) cs (encode (after cs σ))) (whole .returns) (subst (λ (m : Memory). Chain (encode σ) cs m (returnsOn cs (encode σ))) (whole .memory) (can-chain (encode σ) cs))
+
+-- ---- from the start
 
 -- a start that returned 0 left the start's memory
 begun-as : (m₀ m : Memory) → StartPromise m₀ m 0 → m ≡ encode start
 unfolding startOn refusedOn
-begun-as m₀ m d = from (sized m₀) (d .refusal) (d .memory)
-  where
-    first : Bool → Done
-    first b = if b then record { refusal = 0; used = 0; answer = []; memory = encode start } else refusedOn invalidMemory m₀
+begun-as m₀ m d =
+    on-if (λ (x : Done). 0 ≡ x .refusal → m ≡ x .after → m ≡ encode start) (sized m₀) _ _ (λ t e h. h) (λ t e h. absurd (omega (arith, e))) (d .refusal) (d .memory)
 
-    from : (b : Bool) → 0 ≡ first b .refusal → m ≡ first b .memory → m ≡ encode start
-    from true e h = h
-    from false e h = absurd (omega (arith, e))
+-- every start that returned 0, and every list of calls after it
+pub whole-start : {m₀ m′ : Memory} {cs : List Call} {rs : List Done} → all ofBytes cs ≡ true → (x : FromStart m₀ cs m′ rs) → WholeStart x
+unfolding WholeStart
+whole-start {m₀} w x = whole-run start start-valid (begun-as m₀ (x .begun) (x .started)) w (x .calls)
 
 can-begin : (m₀ : Memory) → sized m₀ ≡ true → StartPromise m₀ (encode start) 0
 unfolding startOn
 can-begin m₀ h = rw h (record { refusal = refl; memory = refl })
 
--- ---- what the calls returned, of the model
-
-returnedBy : State → Call → Return
-returnedBy σ c = let r = returned σ c in record { refusal = r .refusal; used = r .used; answer = r .answer }
-
-said-as : (cs : List Call) (σ : State) → answersIn (returnsOf cs σ) ≡ answered cs σ
-unfolding answersIn returnsOf answered
-said-as [] σ = refl
-said-as (c ∷ cs) σ = ap (noted (returned σ c .answer)) (said-as cs (returned σ c .after))
-
-happened-as : (c : Call) (σ : State) → happened c (returnedBy σ c) ≡ eventsOf σ c
-unfolding happened returnedBy eventsOf returned Model.reconnect refused
-happened-as (feeds s chunk room) σ = refl
-happened-as (reconnects s) σ = rejoins (leb stationCount s)
-  where
-    rejoins : (b : Bool)
-        → (if eqb ((if b then refused noStation σ else record { refusal = 0; used = 0; answer = []; after = changeStation s cleared σ }) .refusal) 0 then reconnected s ∷ [] else [])
-        ≡ (if b then [] else reconnected s ∷ [])
-    rejoins true = refl
-    rejoins false = refl
-
-events-as : (cs : List Call) (σ : State) → eventsIn cs (returnsOf cs σ) ≡ events cs σ
-unfolding eventsIn returnsOf events returnedBy
-events-as [] σ = refl
-events-as (c ∷ cs) σ = ap₂ _++_ (happened-as c σ) (events-as cs (returned σ c .after))
-
-module _ {cs : List Call} {m′ : Memory} {rs : List Return} (w : all ofBytes cs ≡ true) (x : Ran cs m′ rs) where
-  begun : x .begun ≡ encode start
-  begun = begun-as (x .before) (x .begun) (x .started)
-
-  run-memory : m′ ≡ encode (after cs start)
-  run-memory = chain-memory (x .calls) ∙ ap (memoryAfter cs) begun ∙ whole-list cs w .memory
-
-  run-on : rs ≡ returnsOn cs (encode start)
-  run-on = chain-returns (x .calls) ∙ ap (returnsOn cs) begun
-
-  run-returns : rs ≡ returnsOf cs start
-  run-returns = run-on ∙ whole-list cs w .returns
-
-  run-answers : answersIn rs ≡ answered cs start
-  run-answers = ap answersIn run-returns ∙ said-as cs start
-
-  run-events : eventsIn cs rs ≡ events cs start
-  run-events = ap (eventsIn cs) run-returns ∙ events-as cs start
-
-  run-along : memories (x .calls) ≡ map encode (states cs start)
-  unfolding Stands
-  run-along = chain-along start w (subst (Stands start) (sym begun) (λ ds v. whole-list ds v .memory)) (x .calls)
-
--- every start that returned 0, and every list of calls after it; a chunk is of bytes
-pub whole-run : {cs : List Call} {m′ : Memory} {rs : List Return} → all ofBytes cs ≡ true → (x : Ran cs m′ rs) → WholeRun x
-whole-run {cs} {m′} {rs} w x =
-    let whole = whole-list cs w in
-    record {
-      memory = run-memory w x;
-      along = run-along w x;
-      returns = run-returns w x;
-      rest = chain-rest (x .calls);
-      never13 = λ r i. whole .never13 r (subst (Mem r) (run-on w x) i);
-      alike = λ {ds} v y e. (
-          let same = whole .throughout .alike ds (sym (run-events v y) ∙ e ∙ run-events w x) in
-          record { answers = run-answers v y ∙ same .answers ∙ sym (run-answers w x); memory = run-memory v y ∙ ap encode (same .end) ∙ sym (run-memory w x) });
-      throughout = whole .throughout;
-    }
-
-pub can-run : (cs : List Call) → all ofBytes cs ≡ true → CanRun cs
-unfolding CanRun
-can-run cs w before h =
-    let whole = whole-list cs w in
-    record {
-      before = before;
-      begun = encode start;
-      started = can-begin before h;
-      calls = subst (Chain (encode start) cs (encode (after cs start))) (whole .returns) (subst (λ (m : Memory). Chain (encode start) cs m (returnsOn cs (encode start))) (whole .memory) (can-chain (encode start) cs));
-    }
+pub can-start : (m₀ : Memory) (cs : List Call) → all ofBytes cs ≡ true → CanStart m₀ cs
+unfolding CanStart CanRun
+can-start m₀ cs w h = record { begun = encode start; started = can-begin m₀ h; calls = can-run start start-valid cs w }

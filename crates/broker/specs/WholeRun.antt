@@ -1,5 +1,5 @@
--- Demand 3 of the calls themselves: calls that meet their contracts (`Promise`), one after the other from the memory that start leaves, each
--- with the memory as the last one left it. Assumes nothing.
+-- Demand 3 of the calls themselves: calls that meet their contracts (`Promise`), one after the other, each with the memory as the last one
+-- left it, from the memory of any valid state and so from what start leaves. Assumes nothing.
 use Prim.Native.Nat.{ℕ}
 use mathlib.Core.Path.{_≡_}
 use mathlib.Core.Bool.{true}
@@ -13,100 +13,103 @@ use Rattle.rules.specs.Memory.{Memory, sized, encode}
 use Rattle.rules.specs.Run as Run
 use Rattle.rules.specs.Run.{Call, feeds, reconnects, ofBytes, noted, Event, byte, reconnected}
 use Rattle.rules.specs.Growth.{Mem}
-use Rattle.rules.specs.WholeList.{Return, returnsOf}
+use Rattle.rules.specs.Calls.{Done, written}
+use Rattle.rules.specs.WholeList.{returnsOf}
 use Rattle.rules.specs.Throughout.{Throughout}
 use Rattle.broker.specs.declared.Fed.{Fed}
 use Rattle.broker.specs.Promise.{StartPromise, FeedPromise, ReconnectPromise}
 
--- ---- one call, from the memory m to m′, with what it returned: the contract of obriska_feed or obriska_reconnect
+-- ---- one call on the memory m, with what it returned and left: the contract of obriska_feed or obriska_reconnect
 
-pub record FeedCall (m : Memory) (s : ℕ) (chunk : List ℕ) (room : ℕ) (m′ : Memory) (r : Return) : Type 0 where
+pub record FeedCall (m : Memory) (s : ℕ) (chunk : List ℕ) (bufferLength : ℕ) (r : Done) : Type 0 where
   -- the answer buffer before and after
   pub out : List ℕ
   pub out′ : List ℕ
   pub fed : Fed
-  pub size : length out ≡ room
-  pub promise : FeedPromise m s chunk out m′ out′ fed
-  pub returned : r ≡ record { refusal = fed .refusal; used = fed .used; answer = take (fed .answered) out′ }
+  pub size : length out ≡ bufferLength
+  pub promise : FeedPromise m s chunk out (r .after) out′ fed
+  pub refusal : r .refusal ≡ fed .refusal
+  pub used : r .used ≡ fed .used
+  pub answer : r .answer ≡ take (fed .answered) out′
 
-pub record ReconnectCall (m : Memory) (s : ℕ) (m′ : Memory) (r : Return) : Type 0 where
-  pub refusal : ℕ
-  pub promise : ReconnectPromise m s m′ refusal
-  pub returned : r ≡ record { refusal = refusal; used = 0; answer = [] }
+pub record ReconnectCall (m : Memory) (s : ℕ) (r : Done) : Type 0 where
+  pub promise : ReconnectPromise m s (r .after) (r .refusal)
+  pub used : r .used ≡ 0
+  pub answer : r .answer ≡ []
 
-pub data Link : Memory → Call → Memory → Return → Type 0 where
-  feed : {m : Memory} {s : ℕ} {chunk : List ℕ} {room : ℕ} {m′ : Memory} {r : Return} → FeedCall m s chunk room m′ r → Link m (feeds s chunk room) m′ r
-  reconnect : {m : Memory} {s : ℕ} {m′ : Memory} {r : Return} → ReconnectCall m s m′ r → Link m (reconnects s) m′ r
+pub data Link : Memory → Call → Done → Type 0 where
+  feed : {m : Memory} {s : ℕ} {chunk : List ℕ} {bufferLength : ℕ} {r : Done} → FeedCall m s chunk bufferLength r → Link m (feeds s chunk bufferLength) r
+  reconnect : {m : Memory} {s : ℕ} {r : Done} → ReconnectCall m s r → Link m (reconnects s) r
 
--- ---- calls one after the other
+-- ---- calls one after the other, from the memory m to m′
 
-pub data Chain : Memory → List Call → Memory → List Return → Type 0 where
+pub data Chain : Memory → List Call → Memory → List Done → Type 0 where
   none : {m : Memory} → Chain m [] m []
-  link : {m m₁ m′ : Memory} {c : Call} {cs : List Call} {r : Return} {rs : List Return} → Link m c m₁ r → Chain m₁ cs m′ rs → Chain m (c ∷ cs) m′ (r ∷ rs)
-
--- a start that returned 0 (the contract of obriska_start), then the calls
-pub record Ran (cs : List Call) (m′ : Memory) (rs : List Return) : Type 0 where
-  pub before : Memory
-  pub begun : Memory
-  pub started : StartPromise before begun 0
-  pub calls : Chain begun cs m′ rs
-
--- the memory after each call
-unfoldable pub memories : {m m′ : Memory} {cs : List Call} {rs : List Return} → Chain m cs m′ rs → List Memory
-memories none = []
-memories (link {m₁ = m₁} l x) = m₁ ∷ memories x
+  link : {m m′ : Memory} {c : Call} {cs : List Call} {r : Done} {rs : List Done} → Link m c r → Chain (r .after) cs m′ rs → Chain m (c ∷ cs) m′ (r ∷ rs)
 
 -- the bytes after a feed's answer are those that were there
-unfoldable pub RestStays : {m m′ : Memory} {c : Call} {r : Return} → Link m c m′ r → Type 0
+unfoldable pub RestStays : {m : Memory} {c : Call} {r : Done} → Link m c r → Type 0
 RestStays (feed {r = r} f) = drop (length (r .answer)) (f .out′) ≡ drop (length (r .answer)) (f .out)
 RestStays (reconnect f) = Unit {0}
 
-unfoldable pub AllStay : {m m′ : Memory} {cs : List Call} {rs : List Return} → Chain m cs m′ rs → Type 0
+unfoldable pub AllStay : {m m′ : Memory} {cs : List Call} {rs : List Done} → Chain m cs m′ rs → Type 0
 AllStay none = Unit {0}
 AllStay (link l x) = RestStays l × AllStay x
 
 -- the answers that were returned, in order; a call without one adds none
-unfoldable pub answersIn : List Return → List (List ℕ)
+unfoldable pub answersIn : List Done → List (List ℕ)
 answersIn [] = []
 answersIn (r ∷ rs) = noted (r .answer) (answersIn rs)
 
 -- what happened, as the calls returned it: the used bytes, and the reconnects that were not refused
-unfoldable pub happened : Call → Return → List Event
-happened (feeds s chunk room) r = map (byte s) (take (r .used) chunk)
+unfoldable pub happened : Call → Done → List Event
+happened (feeds s chunk bufferLength) r = map (byte s) (take (r .used) chunk)
 happened (reconnects s) r = if eqb (r .refusal) 0 then reconnected s ∷ [] else []
 
-unfoldable pub eventsIn : List Call → List Return → List Event
+unfoldable pub eventsIn : List Call → List Done → List Event
 eventsIn [] rs = []
 eventsIn (c ∷ cs) [] = []
 eventsIn (c ∷ cs) (r ∷ rs) = happened c r ++ eventsIn cs rs
 
--- the model's state after each call
-unfoldable pub states : List Call → State → List State
-states [] σ = []
-states (c ∷ cs) σ = let τ = Run.returned σ c .after in τ ∷ states cs τ
-
 -- ---- the claim
 
 -- two runs with the same answers and the same end
-pub record SameRun (m′ n′ : Memory) (rs qs : List Return) : Type 0 where
+pub record SameRun (m′ n′ : Memory) (rs qs : List Done) : Type 0 where
   pub answers : answersIn rs ≡ answersIn qs
   pub memory : m′ ≡ n′
 
-pub record WholeRun {cs : List Call} {m′ : Memory} {rs : List Return} (x : Ran cs m′ rs) : Type 0 where
-  -- 'after the list the memory holds what the plain desk holds', and so after each call of it
-  pub memory : m′ ≡ encode (Run.after cs start)
-  pub along : memories (x .calls) ≡ map encode (states cs start)
-  -- 'each call has returned and answered what the plain desk does'
-  pub returns : rs ≡ returnsOf cs start
+pub record WholeRun (σ : State) {m m′ : Memory} {cs : List Call} {rs : List Done} (x : Chain m cs m′ rs) : Type 0 where
+  -- the calls began with what stands for σ
+  pub begins : m ≡ encode σ
+  -- 'after the list the memory holds what the plain desk holds'
+  pub memory : m′ ≡ encode (Run.after cs σ)
+  -- 'each call has returned and answered what the plain desk does', and the memory after it holds what the plain desk then holds
+  pub returns : rs ≡ map written (returnsOf cs σ)
   -- 'bytes after the answer stay'
-  pub rest : AllStay (x .calls)
+  pub rest : AllStay x
   -- '13 never comes'
-  pub never13 : (r : Return) → Mem r rs → r .refusal ≡ invalidMemory → ⊥
+  pub never13 : (r : Done) → Mem r rs → r .refusal ≡ invalidMemory → ⊥
   -- 'two lists alike in the order of reconnects and used bytes, with their stations, give the same answers and the same memory'
-  pub alike : {ds : List Call} {n′ : Memory} {qs : List Return} → all ofBytes ds ≡ true → Ran ds n′ qs → eventsIn ds qs ≡ eventsIn cs rs → SameRun n′ m′ qs rs
+  pub alike : {n n′ : Memory} {ds : List Call} {qs : List Done} → n ≡ encode σ → all ofBytes ds ≡ true → Chain n ds n′ qs → eventsIn ds qs ≡ eventsIn cs rs
+      → SameRun n′ m′ qs rs
   -- the order of serving, cutting, growth, and that answers fit
-  pub throughout : Throughout cs
+  pub throughout : Throughout σ cs
 
--- the contracts leave each list a run, from any memory of the right sizes: the claim is of something
-unfoldable pub CanRun : List Call → Type 0
-CanRun cs = (before : Memory) → sized before ≡ true → Ran cs (encode (Run.after cs start)) (returnsOf cs start)
+-- the contracts leave each list a run: the claim is of something
+unfoldable pub CanRun : State → List Call → Type 0
+CanRun σ cs = Chain (encode σ) cs (encode (Run.after cs σ)) (map written (returnsOf cs σ))
+
+-- ---- 'from the desk's start': a start on the memory m₀ that returned 0 (the contract of obriska_start), then calls
+
+pub record FromStart (m₀ : Memory) (cs : List Call) (m′ : Memory) (rs : List Done) : Type 0 where
+  pub begun : Memory
+  pub started : StartPromise m₀ begun 0
+  pub calls : Chain begun cs m′ rs
+
+-- the claim of every such run: it is one from the state `start`
+unfoldable pub WholeStart : {m₀ m′ : Memory} {cs : List Call} {rs : List Done} → FromStart m₀ cs m′ rs → Type 0
+WholeStart x = WholeRun start (x .calls)
+
+-- and each list has one, from any memory of the right sizes
+unfoldable pub CanStart : Memory → List Call → Type 0
+CanStart m₀ cs = sized m₀ ≡ true → FromStart m₀ cs (encode (Run.after cs start)) (map written (returnsOf cs start))

@@ -1,9 +1,9 @@
--- Over any list of calls from the start: the state is valid, and what lasts of the tokens lasts. Assumes nothing.
+-- Over any list of calls from a valid state: the state stays valid, and what lasts of tokens and handles lasts. Assumes nothing.
 use Prim.Native.Nat.{ℕ, suc, _+_, _*_, _-_, _≤_, _<_}
 use native.Mathlib.Omega.{arith}
 use mathlib.Core.Path.{_≡_, refl, sym, ap, _∙_, subst}
 use mathlib.Core.Bool.{true, _||_}
-use mathlib.Core.Logic.{_⊎_, ⊎-elim}
+use mathlib.Core.Logic.{⊎-elim}
 use mathlib.Core.List.{List, [], _∷_, _++_, map}
 use lib.Dec.{eqb, leb, ltb}
 use lib.ListN.{length, take}
@@ -11,7 +11,7 @@ use borrow.Author.Tests.{leb-false}
 use Rattle.rules.specs.Basic.{if_then_else_, implies, all, isEmpty}
 use Rattle.rules.specs.Bits.{within}
 use Rattle.rules.specs.Frame.{maxBody, maxAnswer, secondOf, lengthOf, framedBy, framed, Length, Framed, unread, invalid, size, part, broken, whole}
-use Rattle.rules.specs.Growth.{Live, LiveHandle, Mem, Follows, Later, HandlesLater, here, there}
+use Rattle.rules.specs.Growth.{Live, LiveHandle, Mem, Follows, here, there}
 use Rattle.rules.specs.Handle.{Handle}
 use Rattle.rules.specs.Number.{max32, max64}
 use Rattle.rules.specs.Model.{joined, byteAt, step, refused, fedFrom, feed, Step, Result, silent, answers}
@@ -25,7 +25,7 @@ use Rattle.rules.proofs.Computes.{computes}
 use Rattle.rules.specs.Throughout.{IsAnswer}
 use Rattle.rules.proofs.Logic.{and-l, and-r, and-i, all-mem, mem-none, mem-append, getD-mem, map-mem, mem-map, all-append}
 use Rattle.rules.proofs.Tables.{on-if, only-one}
-use Rattle.rules.proofs.Facts.{StateFacts, valid-facts, facts-valid}
+use Rattle.rules.proofs.Facts.{StateFacts}
 use Rattle.rules.proofs.Changes.{later-refl, handles-refl, stream-facts}
 use Rattle.rules.proofs.PrivilegesKept.{sound}
 use Rattle.rules.proofs.Steps.{Advance, stays, _then_}
@@ -139,11 +139,11 @@ used-bytes s chunk k in8 w e m =
 
 call-happens : (p : State) (c : Call) → ofBytes c ≡ true → (e : Event) → Mem e (eventsOf p c) → Happens e
 unfolding eventsOf ofBytes feed refused Happens
-call-happens p (feeds s chunk room) w =
+call-happens p (feeds s chunk bufferLength) w =
     let P : Result → Type 0 = λ r. (e : Event) → Mem e (map (byte s) (take (r .used) chunk)) → Happens e in
     let none : (e : Event) → Mem e [] → Happens e = λ e m. absurd (mem-none m) in
-    on-if P (leb stationCount s) (refused noStation p) (if ltb room maxAnswer then refused shortBuffer p else fedFrom 0 s chunk p) (λ t. none)
-    (λ t. on-if P (ltb room maxAnswer) (refused shortBuffer p) (fedFrom 0 s chunk p) (λ u. none) (λ u. used-bytes s chunk (fedFrom 0 s chunk p .used) (leb-false stationCount s t) w))
+    on-if P (leb stationCount s) (refused noStation p) (if ltb bufferLength maxAnswer then refused shortBuffer p else fedFrom 0 s chunk p) (λ t. none)
+    (λ t. on-if P (ltb bufferLength maxAnswer) (refused shortBuffer p) (fedFrom 0 s chunk p) (λ u. none) (λ u. used-bytes s chunk (fedFrom 0 s chunk p .used) (leb-false stationCount s t) w))
 call-happens p (reconnects s) w = on-if (λ es. (e : Event) → Mem e es → Happens e) (leb stationCount s) [] (reconnected s ∷ []) (λ t e m. absurd (mem-none m)) (λ t. rejoins)
   where
     rejoins : (e : Event) → Mem e (reconnected s ∷ []) → Happens e
@@ -159,74 +159,56 @@ run-happens (c ∷ cs) p w e m =
 pub run-step : (cs : List Call) (p : State) → all ofBytes cs ≡ true → StateFacts p → Advance p (after cs p)
 run-step cs p w f = rw (run-end cs p) (events-step (events cs p) p (run-happens cs p w) f)
 
--- ---- from the start
+-- ---- the start is one such state
 
 pub start-valid : valid start ≡ true
 unfolding computes
 start-valid = refl
 
-pub start-facts : StateFacts start
-start-facts = valid-facts start start-valid
+-- ---- from a valid state
 
-started : (cs : List Call) → all ofBytes cs ≡ true → Advance start (after cs start)
-started cs w = run-step cs start w start-facts
+module _ (σ : State) (f : StateFacts σ) where
+  handle-given : (h : Handle) → LiveHandle h σ → (1 ≤ h .number) × (h .number < σ .handles .next)
+  unfolding LiveHandle handleNumber
+  handle-given h m = f .loose .handles .given (h .number) (map-mem handleNumber m)
 
--- refusal 13 never comes
-pub always-valid : (cs : List Call) → all ofBytes cs ≡ true → valid (after cs start) ≡ true
-always-valid cs w = facts-valid (after cs start) (started cs w .facts)
+  token-given : (t : Token) → Live t σ → (1 ≤ t .number) × (t .number < σ .tokens .next)
+  unfolding Live numberOf
+  token-given t m = f .loose .tokens .given (t .number) (map-mem numberOf m)
 
--- a token that is live at two times: all that lasts lasted
-pub lasts : (cs ds : List Call) → all ofBytes cs ≡ true → all ofBytes ds ≡ true
-    → (t u : Token) → Live t (after cs start) → Live u (after ds (after cs start)) → u .number ≡ t .number → Follows t u
-unfolding Live numberOf
-lasts cs ds wc wd t u mt mu e =
-    let p = after cs start in
-    let f = started cs wc .facts .loose in
-    let st = run-step ds p wd (started cs wc .facts) in
-    let below = f .tokens .given (t .number) (map-mem numberOf mt) .1 in
-    let b = st .later .old u mu (omega arith) in
-    let q : b .token ≡ t = only-one numberOf (p .tokens .slots) (f .tokens .apart) (b .was) mt (sym (b .follows .number) ∙ e) in
-    subst (λ (x : Token). Follows x u) q (b .follows)
+  -- numbers are from 1, and the largest of their type is never given
+  pub handle-numbers : (h : Handle) → LiveHandle h σ → (1 ≤ h .number) × (h .number < max32)
+  handle-numbers h m = let g = handle-given h m in let below = g .1 in let high = f .loose .handles .high in (g .0, omega arith)
 
--- and no number is given twice: a token that is live later was there before, or its number had not been given
-pub never-again : (cs ds : List Call) → all ofBytes cs ≡ true → all ofBytes ds ≡ true → Later (after cs start .tokens) (after ds (after cs start) .tokens)
-never-again cs ds wc wd = run-step ds (after cs start) wd (started cs wc .facts) .later
+  pub token-numbers : (t : Token) → Live t σ → (1 ≤ t .number) × (t .number < max64)
+  token-numbers t m = let g = token-given t m in let below = g .1 in let high = f .loose .tokens .high in (g .0, omega arith)
 
--- the same of handles, which never change: a handle that is live at two times is the same one
-pub handles-later : (cs ds : List Call) → all ofBytes cs ≡ true → all ofBytes ds ≡ true → HandlesLater (after cs start .handles) (after ds (after cs start) .handles)
-handles-later cs ds wc wd = run-step ds (after cs start) wd (started cs wc .facts) .handles
+  -- enabled privileges are among the present ones
+  pub enabled-present : (t : Token) → Live t σ → within (t .privileges .enabled) (t .privileges .present) ≡ true
+  unfolding Live
+  enabled-present t m = sound (t .privileges) (f .loose .eachToken t m .privileges) .enabled
 
-handle-given : (cs : List Call) → all ofBytes cs ≡ true → (h : Handle) → LiveHandle h (after cs start) → (1 ≤ h .number) × (h .number < after cs start .handles .next)
-unfolding LiveHandle handleNumber
-handle-given cs w h m = started cs w .facts .loose .handles .given (h .number) (map-mem handleNumber m)
+  pub default-present : (t : Token) → Live t σ → within (t .privileges .byDefault) (t .privileges .present) ≡ true
+  unfolding Live
+  default-present t m = sound (t .privileges) (f .loose .eachToken t m .privileges) .byDefault
 
-pub handle-kept : (cs ds : List Call) → all ofBytes cs ≡ true → all ofBytes ds ≡ true
-    → (h k : Handle) → LiveHandle h (after cs start) → LiveHandle k (after ds (after cs start)) → k .number ≡ h .number → k ≡ h
-unfolding LiveHandle handleNumber
-handle-kept cs ds wc wd h k mh mk e =
-    let below = handle-given cs wc h mh .1 in
-    let was = handles-later cs ds wc wd .old k mk (omega arith) in
-    only-one handleNumber (after cs start .handles .slots) (started cs wc .facts .loose .handles .apart) was mh e
+  module _ (cs : List Call) (w : all ofBytes cs ≡ true) where
+    -- a token that is live at both ends: all that lasts lasted
+    pub lasts : (t u : Token) → Live t σ → Live u (after cs σ) → u .number ≡ t .number → Follows t u
+    unfolding Live numberOf
+    lasts t u mt mu e =
+        let below = token-given t mt .1 in
+        let b = run-step cs σ w f .later .old u mu (omega arith) in
+        let q : b .token ≡ t = only-one numberOf (σ .tokens .slots) (f .loose .tokens .apart) (b .was) mt (sym (b .follows .number) ∙ e) in
+        subst (λ (x : Token). Follows x u) q (b .follows)
 
--- numbers are from 1, and the largest of their type is never given
-pub handle-numbers : (cs : List Call) → all ofBytes cs ≡ true → (h : Handle) → LiveHandle h (after cs start) → (1 ≤ h .number) × (h .number < max32)
-handle-numbers cs w h m =
-    let g = handle-given cs w h m in let below = g .1 in let high = started cs w .facts .loose .handles .high in (g .0, omega arith)
-
-pub token-numbers : (cs : List Call) → all ofBytes cs ≡ true → (t : Token) → Live t (after cs start) → (1 ≤ t .number) × (t .number < max64)
-unfolding Live numberOf
-token-numbers cs w t m =
-    let f = started cs w .facts .loose .tokens in
-    let g = f .given (t .number) (map-mem numberOf m) in let below = g .1 in let high = f .high in (g .0, omega arith)
-
--- enabled privileges are among the present ones
-pub enabled-present : (cs : List Call) → all ofBytes cs ≡ true → (t : Token) → Live t (after cs start) → within (t .privileges .enabled) (t .privileges .present) ≡ true
-unfolding Live
-enabled-present cs w t m = sound (t .privileges) (started cs w .facts .loose .eachToken t m .privileges) .enabled
-
-pub default-present : (cs : List Call) → all ofBytes cs ≡ true → (t : Token) → Live t (after cs start) → within (t .privileges .byDefault) (t .privileges .present) ≡ true
-unfolding Live
-default-present cs w t m = sound (t .privileges) (started cs w .facts .loose .eachToken t m .privileges) .byDefault
+    -- a handle that is live at both ends is the same
+    pub handle-kept : (h k : Handle) → LiveHandle h σ → LiveHandle k (after cs σ) → k .number ≡ h .number → k ≡ h
+    unfolding LiveHandle handleNumber
+    handle-kept h k mh mk e =
+        let below = handle-given h mh .1 in
+        let was = run-step cs σ w f .handles .old k mk (omega arith) in
+        only-one handleNumber (σ .handles .slots) (f .loose .handles .apart) was mh e
 
 -- ---- every answer is one valid frame that fits
 
@@ -261,5 +243,5 @@ events-tell (e ∷ es) p h f =
     heard (happens p e) (answersTo es (stateOf (happens p e))) (event-tells p e f)
     (events-tell es (stateOf (happens p e)) (λ x m. h x (there m)) (event-step p e (h e (here refl)) f .facts))
 
-pub all-fit : (cs : List Call) → all ofBytes cs ≡ true → (a : List ℕ) → Mem a (answered cs start) → IsAnswer a
-all-fit cs w = rw (run-answers cs start) (events-tell (events cs start) start (run-happens cs start w) start-facts)
+pub all-fit : (cs : List Call) (σ : State) → all ofBytes cs ≡ true → StateFacts σ → (a : List ℕ) → Mem a (answered cs σ) → IsAnswer a
+all-fit cs σ w f = rw (run-answers cs σ) (events-tell (events cs σ) σ (run-happens cs σ w) f)

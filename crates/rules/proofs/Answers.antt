@@ -1,5 +1,5 @@
 -- Every answer fits: on a valid state each is one valid frame of at most 1,024 bytes. Assumes nothing.
-use Prim.Native.Nat.{ℕ, zero, suc, _+_, _*_, _-_, _^_, _≤_, _<_}
+use Prim.Native.Nat.{ℕ, zero, suc, _+_, _*_, _^_, _≤_, _<_}
 use native.Mathlib.Omega.{arith}
 use mathlib.Core.Path.{_≡_, refl, ap}
 use mathlib.Core.Bool.{Bool, true, false}
@@ -12,7 +12,7 @@ use lib.ListN.{length, getD, take, drop, length-append, length-take}
 use borrow.Author.Tests.{ltb-true, leb-true}
 use Rattle.rules.specs.AdjustDefaults as AdjustDefaults
 use Rattle.rules.specs.AdjustGroups as AdjustGroups
-use Rattle.rules.specs.AdjustGroups.{onBits, reportWords, onWords}
+use Rattle.rules.specs.AdjustGroups.{enabledBits, reportWords, enabledWords}
 use Rattle.rules.specs.AdjustPrivileges as AdjustPrivileges
 use Rattle.rules.specs.AdjustScope as AdjustScope
 use Rattle.rules.specs.Basic.{implies, bothOrNeither, all}
@@ -23,7 +23,7 @@ use Rattle.rules.specs.Decision.{carriedOut, withHandle, issued, Decisio
 use Rattle.rules.specs.Duplicate as Duplicate
 use Rattle.rules.specs.Entry.{Entry}
 use Rattle.rules.specs.Frame.{maxAnswer, frame}
-use Rattle.rules.specs.Group.{noGroup, isOn, isDenyOnly, Group}
+use Rattle.rules.specs.Group.{noGroup, isEnabled, isDenyOnly, Group}
 use Rattle.rules.specs.Growth.{Mem, here, there}
 use Rattle.rules.specs.Handle.{Handle}
 use Rattle.rules.specs.Install as Install
@@ -38,19 +38,20 @@ use Rattle.rules.specs.Restrict as Restrict
 use Rattle.rules.specs.Run.{after}
 use Rattle.rules.specs.Serve.{rule, decided, decision, serve}
 use Rattle.rules.specs.State.{withTokens, numberOf, tokenOf, putToken, changeToken, used, handleOf, State}
-use Rattle.rules.specs.Token.{primary, impersonation, sidAt, Token}
-use Rattle.rules.specs.Valid.{is32, is64, between, identityValid, groupValid, groupsValid, limitsValid, defaultsValid}
+use Rattle.rules.specs.Token.{primary, impersonation, maxGroups, sidAt, Token}
+use Rattle.rules.specs.Valid.{is32, is64, between, identityValid, groupValid, limitsValid, defaultsValid}
 use Rattle.rules.specs.Ladder.{status}
 use Rattle.rules.specs.Throughout.{IsAnswer}
 use Rattle.rules.specs.AnyMemory.{statusesIn, statuses}
-use Rattle.rules.proofs.Logic.{and-l, and-r, all-mem, map-mem, member-mem}
+use Rattle.rules.proofs.Logic.{and-l, and-r, all-mem, map-mem}
 use Rattle.rules.proofs.Bits.{within-trans, within-le}
 use Rattle.rules.proofs.Numbers.{encode-width}
 use Rattle.rules.proofs.Tables.{on-if}
-use Rattle.rules.proofs.Facts.{TokenFacts, StateFacts}
+use Rattle.rules.proofs.Facts.{TokenFacts, StateFacts, few-groups, each-group, between-high}
 use Rattle.rules.proofs.PrivilegesKept.{sound}
-use Rattle.rules.proofs.Steps.{Found, found-handle}
+use Rattle.rules.proofs.Steps.{token-ok, Found, found-handle}
 use Rattle.rules.proofs.Frames.{frame-whole}
+use Rattle.rules.proofs.Rows.{integrity32}
 
 -- a word takes at most ten bytes, a number of 32 bits at most five
 pub word : (n : ℕ) → n < 2 ^ 64 → length (encode n) ≤ 10
@@ -79,16 +80,8 @@ lt32 : (n : ℕ) → is32 n ≡ true → n < 2 ^ 32
 unfolding is32
 lt32 n h = ltb-true n (2 ^ 32) h
 
-upTo : (low high n : ℕ) → high < 2 ^ 64 → between low high n ≡ true → n < 2 ^ 64
-unfolding between
-upTo low high n l h = let k = leb-true n high (and-r (leb low n) _ h) in omega arith
-
 known : (w : ℕ) → within w existing ≡ true → w < 2 ^ 64
 known w h = omega (arith, within-le w existing h)
-
-integrity-64 : (i : ℕ) → validIntegrity i ≡ true → i < 2 ^ 64
-unfolding validIntegrity all is64
-integrity-64 i h = lt64 i (all-mem is64 (0 ∷ 4096 ∷ 8192 ∷ 12288 ∷ 16384 ∷ []) refl (member-mem i _ h))
 
 getD-all : {A : Type 0} (f : A → Bool) (xs : List A) (z : A) (i : ℕ) → f z ≡ true → all f xs ≡ true → f (getD xs i z) ≡ true
 unfolding all
@@ -154,18 +147,16 @@ module _ (t : Token) (number : t .number < 2 ^ 64) (f : TokenFacts t) where
       record {
         user = omega (arith, lt32 (t .identity .user) u);
         session = lt64 (t .identity .session) s;
-        type = upTo primary impersonation (t .identity .type) (omega arith) y;
+        type = omega (arith, between-high primary impersonation (t .identity .type) y);
         level = omega (arith, leb-true (t .identity .level) 3 l);
-        integrity = integrity-64 (t .identity .integrity) i;
+        integrity = omega (arith, lt32 (t .identity .integrity) (integrity32 (t .identity .integrity) i));
       }
 
-  groups-few : length (t .groups) ≤ 64
-  unfolding groupsValid
-  groups-few = leb-true (length (t .groups)) 64 (and-l _ (all groupValid (t .groups)) (f .groups))
+  groups-few : length (t .groups) ≤ maxGroups
+  groups-few = few-groups (t .groups) (f .groups)
 
   groups-all : all groupValid (t .groups) ≡ true
-  unfolding groupsValid
-  groups-all = and-r (leb (length (t .groups)) 64) _ (f .groups)
+  groups-all = each-group (t .groups) (f .groups)
 
   sid-word : (i : ℕ) → sidAt t i < 2 ^ 64
   unfolding sidAt
@@ -215,7 +206,7 @@ module _ (t : Token) (number : t .number < 2 ^ 64) (f : TokenFacts t) where
   pub class-fits : (class : ℕ) → length (Query.classBytes t class) ≤ most
   unfolding Query.classBytes Query.classes
   class-fits class =
-      let elevation = upTo 1 3 (t .elevation) (omega arith) (f .elevation) in
+      let elevation : t .elevation < 2 ^ 64 = omega (arith, between-high 1 3 (t .elevation) (f .elevation)) in
       let scope = lt32 (t .scope) (f .scope) in
       pick ([] ∷ Query.classes t) class
       ((omega arith) and one _ (numbers .user) and of-groups and (let l = of-words in omega arith)
@@ -228,25 +219,25 @@ module _ (t : Token) (number : t .number < 2 ^ 64) (f : TokenFacts t) where
 
 -- ---- what request 6 answers: sixteen words
 
-pub bits-below : (gs : List Group) → onBits gs < 2 ^ length gs
-unfolding onBits
+pub bits-below : (gs : List Group) → enabledBits gs < 2 ^ length gs
+unfolding enabledBits
 bits-below [] = omega arith
 bits-below (g ∷ gs) =
     let rest = bits-below gs in
-    on-if (λ (b : ℕ). b + 2 * onBits gs < 2 ^ suc (length gs)) (isOn g) 1 0 (λ t. omega (arith, pow-suc 2 (length gs))) (λ t. omega (arith, pow-suc 2 (length gs)))
+    on-if (λ (b : ℕ). b + 2 * enabledBits gs < 2 ^ suc (length gs)) (isEnabled g) 1 0 (λ t. omega (arith, pow-suc 2 (length gs))) (λ t. omega (arith, pow-suc 2 (length gs)))
 
-words-below : (k : ℕ) (gs : List Group) (n : ℕ) → Mem n (onWords k gs) → n < 2 ^ 64
-unfolding onWords
+words-below : (k : ℕ) (gs : List Group) (n : ℕ) → Mem n (enabledWords k gs) → n < 2 ^ 64
+unfolding enabledWords
 words-below (suc k) gs n (here e) = let l = bits-below (take 64 gs) in let short : length (take 64 gs) ≤ 64 = simp length-take (omega arith) in omega (arith, pow-mono short)
 words-below (suc k) gs n (there m) = words-below k (drop 64 gs) n m
 
-length-words : (k : ℕ) (gs : List Group) → length (onWords k gs) ≡ k
-unfolding onWords
+length-words : (k : ℕ) (gs : List Group) → length (enabledWords k gs) ≡ k
+unfolding enabledWords
 length-words zero gs = refl
 length-words (suc k) gs = ap suc (length-words k (drop 64 gs))
 
-words-fit : (gs : List Group) → length (encodeAll (onWords reportWords gs)) ≤ most
-words-fit gs = let l = many 64 9 (omega arith) (onWords reportWords gs) (words-below reportWords gs) in omega (arith, length-words reportWords gs)
+words-fit : (gs : List Group) → length (encodeAll (enabledWords reportWords gs)) ≤ most
+words-fit gs = let l = many 64 9 (omega arith) (enabledWords reportWords gs) (words-below reportWords gs) in omega (arith, length-words reportWords gs)
 
 -- ---- what a request answers
 
@@ -270,10 +261,6 @@ module _ (σ : State) (f : StateFacts σ) (s : ℕ) where
   unfolding withHandle Fits refusal
   on-handle n right go k = (omega arith, λ known. (omega arith, λ permitted. k (found-handle σ s n f known)))
 
-  -- the token of a found handle
-  facts : (n : ℕ) → Found σ (handleOf σ s n) → TokenFacts (tokenOf σ (handleOf σ s n .token))
-  facts n k = f .loose .eachToken (tokenOf σ (handleOf σ s n .token)) (k .token .was)
-
   number-64 : (n : ℕ) → Found σ (handleOf σ s n) → tokenOf σ (handleOf σ s n .token) .number < 2 ^ 64
   unfolding numberOf
   number-64 n k =
@@ -286,7 +273,7 @@ module _ (σ : State) (f : StateFacts σ) (s : ℕ) where
   unfolding Query.query Fits refusal capacityBelow
   queries n class capacity = on-handle n _ _ λ k.
       let t = tokenOf σ (handleOf σ s n .token) in
-      let l = class-fits t (number-64 n k) (facts n k) class in
+      let l = class-fits t (number-64 n k) (token-ok σ (handleOf σ s n .token) f (k .token)) class in
       let report = word (length (Query.classBytes t class)) (omega arith) in
       (omega arith, λ ok. (omega arith, λ enough. l))
 
@@ -294,7 +281,7 @@ module _ (σ : State) (f : StateFacts σ) (s : ℕ) where
   unfolding AdjustPrivileges.adjust AdjustPrivileges.previous Fits refusal
   adjusts-privileges n es = on-handle n _ _ λ k.
       let p = tokenOf σ (handleOf σ s n .token) .privileges in
-      let v = sound p (facts n k .privileges) in
+      let v = sound p (token-ok σ (handleOf σ s n .token) f (k .token) .privileges) in
       let on = known (p .enabled) (within-trans (p .enabled) (p .present) existing (v .enabled) (v .present)) in (
         omega arith,
         λ ok. on-if (λ (w : ℕ). length (encode w) ≤ most) (AdjustPrivileges.isReset es) (p .enabled) (bitAnd (p .enabled) (AdjustPrivileges.named es))

@@ -10,7 +10,7 @@ use lib.ListN.{length}
 use Rattle.table.specs.Table.{flat}
 use Rattle.table.specs.Column.{column}
 use Rattle.rules.specs.Basic.{changeAt}
-use Rattle.rules.specs.Refusal.{streamBroken, noStation, shortBuffer, invalidMemory}
+use Rattle.rules.specs.Refusal.{ranks, streamBroken, noStation, shortBuffer, invalidMemory}
 use Rattle.rules.specs.Table.{Table}
 use Rattle.rules.specs.Token.{Token}
 use Rattle.rules.specs.Handle.{Handle}
@@ -19,7 +19,7 @@ use Rattle.rules.specs.State.{State, start, stationCount, stationAt, wit
 use Rattle.rules.specs.Serve.{serve}
 use Rattle.rules.specs.Frame.{maxAnswer, frame, lengthOf, framedBy, framed, Framed, part, broken, whole}
 use Rattle.rules.specs.Model.{Result, Step, silent, answers, joined, byteAt, step, fedOn, fedFrom, reconnect}
-use Rattle.rules.specs.Memory.{Memory, stationWords, slotRow, slotDacl, slotHandle, stationRow, encode, decode, valid}
+use Rattle.rules.specs.Memory.{Memory, stationWords, slotRow, slotDacl, slotHandle, stationRow, sections, control, encode, decode, valid}
 use Rattle.rules.specs.Run.{Call, feeds, reconnects, returned, ofBytes, SameRights}
 use Rattle.rules.specs.Growth.{Mem, here, there}
 use Rattle.rules.specs.Calls.{Done, refusedOn, written, feedOn, reconnectOn}
@@ -51,16 +51,16 @@ pending-gone p s bytes = ap (λ xs. withStations xs p) (changed-twice s cleared 
 -- an answer, or none; without a status 0 it left all but the streams as in c
 record Ends (c : State) (a : List ℕ) (q : State) : Type 0 where
   isAnswer : (a ≡ []) ⊎ IsAnswer a
-  status : (n : ℕ) → Mem n (statuses a) → n ≤ streamBroken
+  status : (n : ℕ) → Mem n (statuses a) → Mem n (streamBroken ∷ 0 ∷ ranks)
   rights : (Mem 0 (statuses a) → ⊥) → SameRights c q
 
 -- of an answer whose one status is k
-one-status : {c q : State} {a : List ℕ} {k : ℕ} → IsAnswer a → statuses a ≡ k ∷ [] → k ≤ streamBroken → ((k ≡ 0 → ⊥) → SameRights c q) → Ends c a q
-one-status {k = k} i e l h = record { isAnswer = inr i; status = λ n m. only n (subst (Mem n) e m); rights = λ z. h (λ t. z (subst (Mem 0) (sym e) (here (sym t)))) }
+one-status : {c q : State} {a : List ℕ} {k : ℕ} → IsAnswer a → statuses a ≡ k ∷ [] → Mem k (streamBroken ∷ 0 ∷ ranks) → ((k ≡ 0 → ⊥) → SameRights c q) → Ends c a q
+one-status {k = k} i e l h = record { isAnswer = inr i; status = λ n m. only (subst (Mem n) e m); rights = λ z. h (λ t. z (subst (Mem 0) (sym e) (here (sym t)))) }
   where
-    only : (n : ℕ) → Mem n (k ∷ []) → n ≤ streamBroken
-    only n (here t) = omega arith
-    only n (there m) = absurd (mem-none m)
+    only : {n : ℕ} → Mem n (k ∷ []) → Mem n (streamBroken ∷ 0 ∷ ranks)
+    only (here t) = rw t l
+    only (there m) = absurd (mem-none m)
 
 no-status : {c q : State} → SameRights c q → Ends c [] q
 unfolding statuses statusesIn framed framedBy lengthOf
@@ -78,14 +78,13 @@ module _ (s : ℕ) (c : State) (f : StateFacts c) where
   serves : (p : State) (body : List ℕ) → p ≡ c → Ends c (frame (serve p s body .answer)) (serve p s body .state)
   serves p body e =
       let g = subst StateFacts (sym e) f in
-      let low = served-status p s body in
-      one-status (serve-answers p s body g) (serve-status p s body g) (omega arith)
+      one-status (serve-answers p s body g) (serve-status p s body g) (there (served-status p s body))
       (λ z. subst (SameRights c) (sym (ladder p s body .unchanged z ∙ e)) (rights-refl c))
 
   joined-next : (p : State) (bytes : List ℕ) (x : Framed) → changeStation s cleared p ≡ c → Next (joined p s bytes x)
   unfolding joined Next
   joined-next p bytes part e = pending-gone p s bytes ∙ e
-  joined-next p bytes broken e = one-status break-answers break-status (omega arith) (λ z. rights-trans (as-cleared p e) (broken-rights p s))
+  joined-next p bytes broken e = one-status break-answers break-status (here refl) (λ z. rights-trans (as-cleared p e) (broken-rights p s))
   joined-next p bytes (whole body) e = serves (changeStation s cleared p) body e
 
   step-next : (p : State) (b : ℕ) → changeStation s cleared p ≡ c → Next (step p s b)
@@ -109,16 +108,18 @@ module _ (s : ℕ) (c : State) (f : StateFacts c) where
 
 -- ---- the same rights, written
 
-same-primary : (n : ℕ) (xs ys : List Station) → map stationToken xs ≡ map stationToken ys → column stationWords n (flat stationRow xs) ≡ column stationWords n (flat stationRow ys)
+-- whatever stands behind the rows
+same-primary : (n : ℕ) (xs ys : List Station) (behind : List ℕ) → map stationToken xs ≡ map stationToken ys
+    → column stationWords n (flat stationRow xs ++ behind) ≡ column stationWords n (flat stationRow ys ++ behind)
 unfolding column flat stationRow stationToken
-same-primary zero xs ys e = refl
-same-primary (suc n) [] [] e = refl
-same-primary (suc n) [] (y ∷ ys) e = absurd (let z : _≡_ {A = ℕ} 0 1 = cc in omega arith)
-same-primary (suc n) (x ∷ xs) [] e = absurd (let z : _≡_ {A = ℕ} 0 1 = cc in omega arith)
-same-primary (suc n) (x ∷ xs) (y ∷ ys) e = ap₂ (λ k ks. k ∷ ks) (cc) (same-primary n xs ys (cc))
+same-primary zero xs ys behind e = refl
+same-primary (suc n) [] [] behind e = refl
+same-primary (suc n) [] (y ∷ ys) behind e = absurd (let z : _≡_ {A = ℕ} 0 1 = cc in omega arith)
+same-primary (suc n) (x ∷ xs) [] behind e = absurd (let z : _≡_ {A = ℕ} 0 1 = cc in omega arith)
+same-primary (suc n) (x ∷ xs) (y ∷ ys) behind e = ap₂ (λ k ks. k ∷ ks) (cc) (same-primary n xs ys behind (cc))
 
 rights-left : {p q : State} → SameRights p q → LeftAlone (encode p) (encode q)
-unfolding encode counters primaries
+unfolding encode control sections flat counters primaries
 rights-left {p} {q} h =
     let t = sym (h .tokens) in
     record {
@@ -126,7 +127,7 @@ rights-left {p} {q} h =
       dacls = ap (λ (x : Table Token). flat slotDacl (x .slots)) t;
       handles = ap (λ (x : Table Handle). map slotHandle (x .slots)) (sym (h .handles));
       counted = ap₂ (λ (x : Table Token) (y : Table Handle). x .next ∷ y .next ∷ []) t (sym (h .handles));
-      primary = same-primary stationCount (q .stations) (p .stations) (sym (h .primary));
+      primary = same-primary stationCount (q .stations) (p .stations) [] (sym (h .primary));
     }
 
 -- ---- a call
@@ -134,8 +135,8 @@ rights-left {p} {q} h =
 -- what a call did: a refusal did nothing
 record Did (m : Memory) (d : Done) : Type 0 where
   isAnswer : (d .answer ≡ []) ⊎ IsAnswer (d .answer)
-  status : (n : ℕ) → Mem n (statuses (d .answer)) → n ≤ streamBroken
-  leftAlone : (Mem 0 (statuses (d .answer)) → ⊥) → LeftAlone m (d .memory)
+  status : (n : ℕ) → Mem n (statuses (d .answer)) → Mem n (streamBroken ∷ 0 ∷ ranks)
+  leftAlone : (Mem 0 (statuses (d .answer)) → ⊥) → LeftAlone m (d .after)
   listed : Mem (d .refusal) (0 ∷ noStation ∷ shortBuffer ∷ invalidMemory ∷ [])
   refused : (d .refusal ≡ 0 → ⊥) → d ≡ refusedOn (d .refusal) m
 
@@ -169,11 +170,11 @@ module _ (m : Memory) where
   not-in-order : Did m (refusedOn invalidMemory m)
   not-in-order = refuses invalidMemory (there (there (there (here refl))))
 
-  feeding : (s : ℕ) (chunk : List ℕ) (room : ℕ) → Did m (feedOn m s chunk room)
+  feeding : (s : ℕ) (chunk : List ℕ) (bufferLength : ℕ) → Did m (feedOn m s chunk bufferLength)
   unfolding feedOn
-  feeding s chunk room =
+  feeding s chunk bufferLength =
       on-if (Did m) (leb stationCount s) _ _ (λ t. no-station)
-      (λ t. on-if (Did m) (ltb room maxAnswer) _ _ (λ u. refuses shortBuffer (there (there (here refl))))
+      (λ t. on-if (Did m) (ltb bufferLength maxAnswer) _ _ (λ u. refuses shortBuffer (there (there (here refl))))
       (λ u. on-if (Did m) (valid m) _ _
       (λ v. let p = decode m in takes (fedFrom 0 s chunk p) s v (fed-taken chunk 0 s p) (fed-ends s (changeStation s cleared p) (clears p s (valid-facts p (valid-state m v)) .facts) chunk 0 p refl))
       (λ v. not-in-order)))
@@ -186,16 +187,16 @@ module _ (m : Memory) where
 
   did : (c : Call) → Did m (doneBy m c)
   unfolding doneBy
-  did (feeds s chunk room) = feeding s chunk room
+  did (feeds s chunk bufferLength) = feeding s chunk bufferLength
   did (reconnects s) = reconnecting s
 
-  stays-valid : (c : Call) → valid m ≡ true → ofBytes c ≡ true → valid (doneBy m c .memory) ≡ true
+  stays-valid : (c : Call) → valid m ≡ true → ofBytes c ≡ true → valid (doneBy m c .after) ≡ true
   unfolding written
   stays-valid c v w =
       let p = decode m in
       let ok = valid-state m v in
       let e : doneBy m c ≡ written (returned p c) = ap (λ x. doneBy x c) (sym (valid-written m v)) ∙ call-done p ok c in
-      ap (λ (d : Done). valid (d .memory)) e ∙ written-valid (returned p c .after) (facts-valid _ (call-valid p c w (valid-facts p ok)))
+      ap (λ (d : Done). valid (d .after)) e ∙ written-valid (returned p c .after) (facts-valid _ (call-valid p c w (valid-facts p ok)))
 
 short : (a : List ℕ) → (a ≡ []) ⊎ IsAnswer a → length a ≤ maxAnswer
 short a h = ⊎-elim (λ e. rw e (omega arith)) (λ k. k .fits) h

@@ -11,14 +11,14 @@ use Rattle.rules.specs.Basic.{all}
 use Rattle.rules.specs.Growth.{Live, LiveHandle, Mem, Follows, StillHandle}
 use Rattle.rules.specs.Handle.{Handle, isHandle}
 use Rattle.rules.specs.Run.{after, ofBytes, Call}
-use Rattle.rules.specs.State.{State, start, tokenOf, findHandle, handleToken}
+use Rattle.rules.specs.State.{State, tokenOf, findHandle, handleToken}
 use Rattle.rules.specs.Table.{lives, Slot, free, live}
 use Rattle.rules.proofs.Logic.{and-l, map-mem}
 use Rattle.rules.proofs.Tables.{found-in, found-none}
 use Rattle.rules.proofs.Facts.{StateFacts}
 use Rattle.rules.proofs.Changes.{by-handle}
 use Rattle.rules.proofs.Steps.{Is, is-live}
-use Rattle.rules.proofs.Always.{run-step, start-facts, lasts, handles-later, handle-kept}
+use Rattle.rules.proofs.Always.{run-step, lasts, handle-kept}
 
 -- a handle that is found is live, and has the number
 record Here (d : State) (s n : ℕ) (h : Handle) : Type 0 where
@@ -36,38 +36,35 @@ token-here : (d : State) (h : Handle) → StateFacts d → Mem h (lives (d .hand
 unfolding handleToken
 token-here d h f m = is-live d (h .token) (f .loose .live (h .token) (by-handle d (map-mem handleToken m)))
 
-module _ (cs ds : List Call) (wc : all ofBytes cs ≡ true) (wd : all ofBytes ds ≡ true) where
-  same-token : (h : Handle) → LiveHandle h (after cs start) → LiveHandle h (after ds (after cs start)) → Follows (tokenOf (after cs start) (h .token)) (tokenOf (after ds (after cs start)) (h .token))
+module _ (σ : State) (f : StateFacts σ) (cs : List Call) (w : all ofBytes cs ≡ true) where
+  same-token : (h : Handle) → LiveHandle h σ → LiveHandle h (after cs σ) → Follows (tokenOf σ (h .token)) (tokenOf (after cs σ) (h .token))
   unfolding LiveHandle Live
   same-token h m k =
-      let p = after cs start in
-      let q = after ds p in
-      let f = run-step cs start wc start-facts .facts in
-      let i = token-here p h f m in
-      let j = token-here q h (run-step ds p wd f .facts) k in
-      lasts cs ds wc wd (tokenOf p (h .token)) (tokenOf q (h .token)) (i .was) (j .was) (j .number ∙ sym (i .number))
+      let τ = after cs σ in
+      let i = token-here σ h f m in
+      let j = token-here τ h (run-step cs σ w f .facts) k in
+      lasts σ f cs w (tokenOf σ (h .token)) (tokenOf τ (h .token)) (i .was) (j .was) (j .number ∙ sym (i .number))
 
-  pub bound : (s n : ℕ) (h : Handle) → findHandle (after cs start) s n ≡ live h
-      → (findHandle (after ds (after cs start)) s n ≡ free) ⊎ StillHandle (after cs start) (after ds (after cs start)) s n h
+  pub bound : (s n : ℕ) (h : Handle) → findHandle σ s n ≡ live h → (findHandle (after cs σ) s n ≡ free) ⊎ StillHandle σ (after cs σ) s n h
   unfolding LiveHandle
-  bound s n h e = go (findHandle (after ds (after cs start)) s n) refl
+  bound s n h e = go (findHandle (after cs σ) s n) refl
     where
-      go : (x : Slot Handle) → findHandle (after ds (after cs start)) s n ≡ x → (findHandle (after ds (after cs start)) s n ≡ free) ⊎ StillHandle (after cs start) (after ds (after cs start)) s n h
+      go : (x : Slot Handle) → findHandle (after cs σ) s n ≡ x → (findHandle (after cs σ) s n ≡ free) ⊎ StillHandle σ (after cs σ) s n h
       go free k = inl k
       go (live g) k =
-          let a = found-here (after cs start) s n h e in
-          let b = found-here (after ds (after cs start)) s n g k in
-          let same : g ≡ h = handle-kept cs ds wc wd h g (a .was) (b .was) (b .number ∙ sym (a .number)) in
-          let still : findHandle (after ds (after cs start)) s n ≡ live h = k ∙ ap live same in
-          inr (record { found = still; token = same-token h (a .was) (found-here (after ds (after cs start)) s n h still .was) })
+          let a = found-here σ s n h e in
+          let b = found-here (after cs σ) s n g k in
+          let same : g ≡ h = handle-kept σ f cs w h g (a .was) (b .was) (b .number ∙ sym (a .number)) in
+          let still : findHandle (after cs σ) s n ≡ live h = k ∙ ap live same in
+          inr (record { found = still; token = same-token h (a .was) (found-here (after cs σ) s n h still .was) })
 
-  pub closed : (s n : ℕ) → findHandle (after cs start) s n ≡ free → n < after cs start .handles .next → findHandle (after ds (after cs start)) s n ≡ free
+  pub closed : (s n : ℕ) → findHandle σ s n ≡ free → n < σ .handles .next → findHandle (after cs σ) s n ≡ free
   unfolding findHandle
-  closed s n e given = go (findHandle (after ds (after cs start)) s n) refl
+  closed s n e given = go (findHandle (after cs σ) s n) refl
     where
-      go : (x : Slot Handle) → findHandle (after ds (after cs start)) s n ≡ x → findHandle (after ds (after cs start)) s n ≡ free
+      go : (x : Slot Handle) → findHandle (after cs σ) s n ≡ x → findHandle (after cs σ) s n ≡ free
       go free k = k
       go (live g) k =
-          let b = found-here (after ds (after cs start)) s n g k in
+          let b = found-here (after cs σ) s n g k in
           let number = b .number in
-          absurd (found-none (isHandle s n) (after cs start .handles .slots) e (handles-later cs ds wc wd .old g (b .was) (omega arith)) (b .is))
+          absurd (found-none (isHandle s n) (σ .handles .slots) e (run-step cs σ w f .handles .old g (b .was) (omega arith)) (b .is))

@@ -35,5 +35,39 @@ use Rattle.rules.specs.Growth as Growth
 use Rattle.rules.specs.Memory as Memory
 
 unfoldable pub computes : Unit {0}
-unfolding Basic.implies Basic.bothOrNeither Basic.all Basic.member Basic.distinct Basic.isEmpty Basic.changeAt Number.lowFirst Number.encodeIn Number.encode Number.encodeAll Number.longer Number.readNumber Bits.has Bits.without Bits.within Mask.permits Mask.validMask Privileges.exists Privileges.isEnabled Privileges.enable Privileges.disable Privileges.remove Privileges.reset Privileges.markUsed Privileges.onlyUsed Privileges.granted Group.noGroup Group.isMandatory Group.isOnByDefault Group.isOn Group.isOwner Group.isDenyOnly Group.isLogon Group.isFixed Group.switched Group.denied Token.sidAt Token.primaryOf Token.noLimits Token.noDefaults Token.newToken Token.startToken Token.withPrivileges Token.withGroups Token.withDefaults Token.withScope Token.nextModified Table.isLive Table.orElse Table.lives Table.someFree Table.found Table.withSlots Table.placed Table.canAdd Table.added Table.exchanged Table.retained Handle.noHandle Handle.isHandle Station.startStation Station.withToken Station.withPending Station.cleared Station.brokenOff State.start State.withTokens State.withHandles State.withStations State.stationAt State.changeStation State.setToken State.numberOf State.isNumbered State.noToken State.tokenOf State.callerNumber State.caller State.held State.putToken State.changeToken State.usedOn State.used State.canAddToken State.addToken State.handleNumber State.findHandle State.handleOf State.canAddHandle State.addHandle State.dropHandle State.handleToken State.stationToken State.references State.isReferred State.released Index.freeIndex Index.foundIndex Index.freedOne Entry.keyOf Entry.isOnly Entry.validEntries Entry.applyAll Refusal.refusal Refusal.capacityBelow Decision.carriedOut Decision.withHandle Decision.canIssue Decision.issued Request.follow Request._>>=_ Request.give Request.end Request.byte Request.times Request.u16 Request.u32 Request.u64 Request.group Request.entry Request.numberLayout Request.entriesLayout Request.createLayout Request.queryLayout Request.scopeLayout Request.defaultsLayout Request.duplicateLayout Request.restrictLayout Request.unknown Request.layouts Request.parse OpenClose.openOwn OpenClose.close Create.validPair Create.validIntegrity Create.validCreate Create.entered Create.create Query.pairs Query.words Query.classes Query.classBytes Query.query AdjustPrivileges.isReset AdjustPrivileges.validEntry AdjustPrivileges.applied AdjustPrivileges.adjusted AdjustPrivileges.named AdjustPrivileges.previous AdjustPrivileges.adjustedToken AdjustPrivileges.adjust AdjustGroups.isReset AdjustGroups.validEntry AdjustGroups.maySwitch AdjustGroups.unprotected AdjustGroups.applied AdjustGroups.resetGroup AdjustGroups.adjusted AdjustGroups.onBits AdjustGroups.onWords AdjustGroups.adjustedToken AdjustGroups.adjust AdjustScope.scopedToken AdjustScope.scope AdjustDefaults.validOwner AdjustDefaults.validGroup AdjustDefaults.validDacl AdjustDefaults.validDefaults AdjustDefaults.orKept AdjustDefaults.adjusted AdjustDefaults.adjustedToken AdjustDefaults.adjust Duplicate.retyped Duplicate.copied Duplicate.nobody Duplicate.anonymousCopy Duplicate.duplicated Duplicate.validLevel Duplicate.validDuplicate Duplicate.duplicate Restrict.isBelow Restrict.validRestrict Restrict.deniedAll Restrict.limited Restrict.restricted Restrict.restrict Install.matches Install.marked Install.install Serve.rule Serve.decided Serve.decision Serve.serve Frame.frame Frame.secondOf Frame.lengthOf Frame.framedBy Frame.framed Model.joined Model.byteAt Model.step Model.refused Model.fedOn Model.fedFrom Model.feed Model.reconnect Valid.isByte Valid.is32 Valid.is64 Valid.between Valid.identityValid Valid.privilegesValid Valid.groupValid Valid.groupsValid Valid.limitsValid Valid.defaultsValid Valid.tokenValid Valid.handleValid Valid.isPart Valid.streamValid Valid.tableValid Valid.isToken Valid.primaryAtStation Valid.valid Ladder.failing Ladder.lowest Ladder.status Run.returned Run.after Run.noted Run.answered Run.ofBytes Run.eventsOf Run.events Run.happens Run.stateOf Run.told Run.afterEvents Run.answersTo Run.stationOf Run.notedAt Run.timed Run.placeOf Run.toldAt Run.timedTo Run.untilUsed Run.outcomeOf Run.outcomeAt Run.outcomes Run.servedBy Run.answerTo Run.answeredAt Run.answeredFrom Run.OneByOne Growth.sidOf Growth.Live Growth.LiveHandle Growth.tokenAt Growth.sourceOf Growth.NoMore Memory.sized Memory.mark Memory.pack Memory.unpack Memory.head Memory.tokenRow Memory.daclRow Memory.slotRow Memory.slotDacl Memory.slotHandle Memory.stationRow Memory.pendingRow Memory.encode Memory.identityAt Memory.privilegesAt Memory.groupsAt Memory.limitsAt Memory.defaultsAt Memory.tokenAt Memory.slotAt Memory.handleAt Memory.stationAt Memory.decode Memory.same Memory.sameHandle Memory.sameHandles Memory.sameMemory Memory.isImage Memory.valid
+unfolding
+    Basic.implies Basic.bothOrNeither Basic.all Basic.member Basic.distinct Basic.isEmpty Basic.changeAt
+    Number.lowFirst Number.encodeIn Number.encode Number.encodeAll Number.longer Number.readNumber
+    Bits.has Bits.without Bits.within
+    Mask.permits Mask.validMask
+    Privileges.exists Privileges.isEnabled Privileges.enable Privileges.disable Privileges.remove Privileges.reset Privileges.markUsed Privileges.onlyUsed Privileges.granted
+    Group.noGroup Group.isMandatory Group.isEnabledByDefault Group.isEnabled Group.isOwner Group.isDenyOnly Group.isLogon Group.isFixed Group.withEnabled Group.denied
+    Token.sidAt Token.primaryOf Token.noLimits Token.noDefaults Token.newToken Token.startToken Token.withPrivileges Token.withGroups Token.withDefaults Token.withScope Token.nextModified
+    Table.isLive Table.orElse Table.lives Table.someFree Table.found Table.withSlots Table.placed Table.canAdd Table.added Table.exchanged Table.retained
+    Handle.noHandle Handle.isHandle
+    Station.startStation Station.withToken Station.withPending Station.cleared Station.brokenOff
+    State.start State.withTokens State.withHandles State.withStations State.stationAt State.changeStation State.setToken State.numberOf State.isNumbered State.noToken State.tokenOf State.callerNumber State.caller State.held State.putToken State.changeToken State.usedOn State.used State.canAddToken State.addToken State.handleNumber State.findHandle State.handleOf State.canAddHandle State.addHandle State.dropHandle State.handleToken State.stationToken State.references State.isReferred State.released
+    Index.freeIndex Index.foundIndex Index.freedOne
+    Entry.keyOf Entry.isOnly Entry.validEntries Entry.applyAll
+    Refusal.refusal Refusal.capacityBelow
+    Decision.carriedOut Decision.withHandle Decision.canIssue Decision.issued
+    Request.follow Request._>>=_ Request.give Request.end Request.byte Request.times Request.u16 Request.u32 Request.u64 Request.group Request.entry Request.numberLayout Request.entriesLayout Request.createLayout Request.queryLayout Request.scopeLayout Request.defaultsLayout Request.duplicateLayout Request.restrictLayout Request.unknown Request.layouts Request.parse
+    OpenClose.openOwn OpenClose.close
+    Create.validPair Create.validIntegrity Create.validCreate Create.entered Create.create
+    Query.pairs Query.words Query.classes Query.classBytes Query.query
+    AdjustPrivileges.isReset AdjustPrivileges.validEntry AdjustPrivileges.applied AdjustPrivileges.adjusted AdjustPrivileges.named AdjustPrivileges.previous AdjustPrivileges.adjustedToken AdjustPrivileges.adjust
+    AdjustGroups.isReset AdjustGroups.validEntry AdjustGroups.maySwitch AdjustGroups.unprotected AdjustGroups.applied AdjustGroups.resetGroup AdjustGroups.adjusted AdjustGroups.enabledBits AdjustGroups.enabledWords AdjustGroups.adjustedToken AdjustGroups.adjust
+    AdjustScope.scopedToken AdjustScope.scope
+    AdjustDefaults.validOwner AdjustDefaults.validGroup AdjustDefaults.validDacl AdjustDefaults.validDefaults AdjustDefaults.orKept AdjustDefaults.adjusted AdjustDefaults.adjustedToken AdjustDefaults.adjust
+    Duplicate.retyped Duplicate.copied Duplicate.nobody Duplicate.anonymousCopy Duplicate.duplicated Duplicate.validLevel Duplicate.validDuplicate Duplicate.duplicate
+    Restrict.isBelow Restrict.validRestrict Restrict.deniedAll Restrict.limited Restrict.restricted Restrict.restrict
+    Install.matches Install.marked Install.install
+    Serve.rule Serve.decided Serve.decision Serve.serve
+    Frame.frame Frame.secondOf Frame.lengthOf Frame.framedBy Frame.framed
+    Model.joined Model.byteAt Model.step Model.refused Model.fedOn Model.fedFrom Model.feed Model.reconnect
+    Valid.isByte Valid.is32 Valid.is64 Valid.between Valid.identityValid Valid.privilegesValid Valid.groupValid Valid.groupsValid Valid.limitsValid Valid.defaultsValid Valid.tokenValid Valid.handleValid Valid.isPart Valid.streamValid Valid.tableValid Valid.isToken Valid.primaryAtStation Valid.valid
+    Ladder.failing Ladder.firstOf Ladder.status
+    Run.returned Run.after Run.noted Run.answered Run.ofBytes Run.eventsOf Run.events Run.happens Run.stateOf Run.told Run.afterEvents Run.answersTo Run.stationOf Run.notedAt Run.timed Run.placeOf Run.toldAt Run.timedTo Run.untilUsed Run.outcomeOf Run.outcomeAt Run.outcomes Run.servedBy Run.answerTo Run.answeredAt Run.answeredFrom Run.OneByOne
+    Growth.sidOf Growth.Live Growth.LiveHandle Growth.tokenAt Growth.sourceOf Growth.NoMore
+    Memory.sized Memory.mark Memory.pack Memory.unpack Memory.head Memory.tokenRow Memory.daclRow Memory.slotRow Memory.slotDacl Memory.slotHandle Memory.stationRow Memory.pendingRow Memory.sections Memory.control Memory.encode Memory.identityAt Memory.privilegesAt Memory.groupsAt Memory.limitsAt Memory.defaultsAt Memory.tokenAt Memory.slotAt Memory.handleAt Memory.stationAt Memory.decode Memory.same Memory.sameHandle Memory.sameHandles Memory.sameMemory Memory.isImage Memory.valid
 computes = tt

@@ -3,24 +3,33 @@ use Prim.Native.Nat.{ℕ, _-_, _≤_, _<_}
 use native.Mathlib.Omega.{arith}
 use mathlib.Core.Path.{_≡_, refl, ap, _∙_}
 use mathlib.Core.Bool.{Bool, true}
-use mathlib.Core.Logic.{_⊎_, ⊎-elim}
-use mathlib.Core.List.{map}
+use mathlib.Core.Logic.{⊎-elim}
+use mathlib.Core.List.{List, map}
 use lib.Dec.{eqb, leb}
 use lib.ListN.{length}
 use borrow.Author.Tests.{eqb-true, eq-eqb, leb-true, le-leb, ltb-true}
 use Rattle.rules.specs.Basic.{all, member, distinct}
+use Rattle.rules.specs.Group.{Group}
 use Rattle.rules.specs.Growth.{Mem}
 use Rattle.rules.specs.Handle.{Handle}
 use Rattle.rules.specs.Number.{max32, max64}
 use Rattle.rules.specs.State.{tokenSlots, handleSlots, stationCount, numberOf, handleNumber, stationToken, references, isReferred, State}
 use Rattle.rules.specs.Station.{Station}
 use Rattle.rules.specs.Table.{lives, someFree, withSlots, canAdd, added, exchanged, retained, Table, free, live}
-use Rattle.rules.specs.Token.{primary, Token}
-use Rattle.rules.specs.Valid.{is32, is64, between, identityValid, privilegesValid, groupsValid, limitsValid, defaultsValid, tokenValid, handleValid, streamValid, tableValid, isToken, primaryAtStation, valid}
+use Rattle.rules.specs.Token.{primary, maxGroups, Token}
+use Rattle.rules.specs.Valid.{is32, is64, between, identityValid, privilegesValid, groupValid, groupsValid, limitsValid, defaultsValid, tokenValid, handleValid, streamValid, tableValid, isToken, primaryAtStation, valid}
 use Rattle.rules.proofs.Logic.{and-l, and-r, and-i, implies-e, implies-i, all-mem, mem-all, map-mem, mem-map, member-mem, mem-member}
 use Rattle.rules.proofs.Tables.{length-placed, length-exchanged, length-retained, number-placed, number-retained, number-freed, distinct-placed, distinct-retained, distinct-freed, same-numbers}
 
 -- ---- a token
+
+pub few-groups : (gs : List Group) → groupsValid gs ≡ true → length gs ≤ maxGroups
+unfolding groupsValid
+few-groups gs h = leb-true (length gs) maxGroups (and-l _ (all groupValid gs) h)
+
+pub each-group : (gs : List Group) → groupsValid gs ≡ true → all groupValid gs ≡ true
+unfolding groupsValid
+each-group gs h = and-r (leb (length gs) maxGroups) _ h
 
 pub record TokenFacts (t : Token) : Type 0 where
   pub modified : is64 (t .modified) ≡ true
@@ -54,7 +63,7 @@ between-low : (a b n : ℕ) → between a b n ≡ true → a ≤ n
 unfolding between
 between-low a b n h = leb-true a n (and-l (leb a n) (leb n b) h)
 
-between-high : (a b n : ℕ) → between a b n ≡ true → n ≤ b
+pub between-high : (a b n : ℕ) → between a b n ≡ true → n ≤ b
 unfolding between
 between-high a b n h = leb-true n b (and-r (leb a n) (leb n b) h)
 

@@ -3,7 +3,7 @@ use Prim.Native.Nat.{ℕ, _+_, _*_, _-_, _/_, _%_, _≤_, _<_}
 use native.Mathlib.Omega.{arith}
 use mathlib.Core.Path.{_≡_, refl, sym, ap, ap₂, _∙_}
 use mathlib.Core.Bool.{Bool, true, false, _||_}
-use mathlib.Core.List.{List, [], _∷_, _++_, append-assoc}
+use mathlib.Core.List.{List, [], _∷_, _++_, append-nil, append-assoc}
 use lib.Dec.{eqb, leb, ltb}
 use lib.ListN.{length, take, replicate, length-append, length-take, length-replicate}
 use lib.Seq.{take-append-seam, take-append-add}
@@ -13,13 +13,9 @@ use Rattle.rules.specs.Valid.{isByte}
 use Rattle.rules.specs.Number.{encode}
 use Rattle.rules.specs.Frame.{maxBody, frame, Length, unread, invalid, size, secondOf, lengthOf, part, broken, whole, framedBy, framed}
 use Rattle.rules.specs.Framing.{Begins, Framing}
-use Rattle.rules.proofs.Logic.{and-l, not-both}
+use Rattle.rules.proofs.Logic.{and-l, or-no}
 use Rattle.rules.proofs.Numbers.{encode-one, encode-more}
 use Rattle.rules.proofs.Frames.{length-read, frame-whole, frame-part}
-
-or-no : (x y : Bool) → (x || y) ≡ false → (x ≡ false) × (y ≡ false)
-or-no true y h = absurd (not-both refl h)
-or-no false y h = (refl, h)
 
 -- ---- the length that is read is the one that is written
 
@@ -153,12 +149,8 @@ begun bytes rest more x =
     let j = length-append bytes rest in
     ap framed (sym (take-append-seam bytes rest) ∙ ap (take (length bytes)) (x .framing)) ∙ frame-part (x .body) (length bytes) (x .low) (x .high) (omega arith)
 
-append-none : (xs : List ℕ) → xs ++ [] ≡ xs
-append-none [] = refl
-append-none (x ∷ xs) = ap (λ (ys : List ℕ). x ∷ ys) (append-none xs)
-
 ended : (bytes : List ℕ) (x : Begins bytes []) → framed bytes ≡ whole (x .body)
-ended bytes x = ap framed (sym (append-none bytes) ∙ x .framing) ∙ frame-whole (x .body) (x .low) (x .high)
+ended bytes x = ap framed (sym (append-nil bytes) ∙ x .framing) ∙ frame-whole (x .body) (x .low) (x .high)
 
 not-broken : (bytes rest : List ℕ) → framed bytes ≡ broken → Begins bytes rest → ⊥
 not-broken bytes [] e x = let k = ended bytes x in let z : _≡_ {A = ℕ} 0 1 = cc in omega arith

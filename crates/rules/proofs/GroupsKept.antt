@@ -1,5 +1,5 @@
 -- What changes of groups keep: the same SIDs in the same order, owners, deny-only marks, and valid groups. Assumes nothing.
-use Prim.Native.Nat.{ℕ, zero, suc, _-_}
+use Prim.Native.Nat.{ℕ, zero, suc}
 use mathlib.Core.Path.{_≡_, refl, sym, ap, ap₂, _∙_}
 use mathlib.Core.Bool.{Bool, true, false, not, _&&_, _||_, or-true}
 use mathlib.Core.List.{List, [], _∷_, map}
@@ -13,7 +13,7 @@ use Rattle.rules.specs.Basic.{if_then_else_, implies, bothOrNeither, all
 use Rattle.rules.specs.Bits.{has, without, within}
 use Rattle.rules.specs.Create.{givable, validPair, entered}
 use Rattle.rules.specs.Entry.{applyAll, Entry}
-use Rattle.rules.specs.Group.{noGroup, isOnByDefault, isOn, isOwner, isDenyOnly, switched, denied, Group}
+use Rattle.rules.specs.Group.{noGroup, isEnabledByDefault, isEnabled, isOwner, isDenyOnly, withEnabled, denied, Group}
 use Rattle.rules.specs.Growth.{sidOf, Mem, here, there}
 use Rattle.rules.specs.Restrict.{deniedAll}
 use Rattle.rules.specs.Token.{maxGroups, Defaults, Token}
@@ -22,6 +22,7 @@ use Rattle.rules.proofs.Logic.{and-l, and-r, and-i, not-both, not-e, no
 use Rattle.rules.proofs.Bits.{has-or, or-same, without-same, without-none, within-has, within-trans, without-within, within-or}
 use Rattle.rules.proofs.Tables.{on-if}
 use Rattle.rules.proofs.Widths.{sid32}
+use Rattle.rules.proofs.Facts.{each-group}
 
 -- ---- one group
 
@@ -41,7 +42,7 @@ alike-trans f g h a b = record { order = λ o. b .order (a .order o); sid = b .s
 -- other attributes, with the LOGON and OWNER bits as they were
 regroup : (g : Group) (w : ℕ) → within w 0xC000001F ≡ true → has 30 w ≡ has 30 (g .attributes) → has 31 w ≡ has 31 (g .attributes) → has 3 w ≡ has 3 (g .attributes)
     → (has 4 (g .attributes) ≡ true → has 4 w ≡ true) → (has 4 w ≡ true → has 2 w ≡ false) → Alike g (record { sid = g .sid; attributes = w })
-unfolding groupValid isDenyOnly isOn isOwner
+unfolding groupValid isDenyOnly isEnabled isOwner
 regroup g w h b30 b31 b3 b4 b2 =
     record {
       order = λ o.
@@ -58,29 +59,29 @@ attributes-in : (g : Group) → groupValid g ≡ true → within (g .attributes)
 unfolding groupValid
 attributes-in g o = search (and-l, and-r)
 
-switched-on : (g : Group) → groupValid g ≡ true → isDenyOnly g ≡ false → Alike g (switched true g)
-unfolding switched isDenyOnly has within
-switched-on g o k =
+enabling : (g : Group) → groupValid g ≡ true → isDenyOnly g ≡ false → Alike g (withEnabled true g)
+unfolding withEnabled isDenyOnly has within
+enabling g o k =
     let a = g .attributes in
     regroup g (bitOr a 4) (within-or a 4 0xC000001F (attributes-in g o) refl) (or-same 30 a 4 refl) (or-same 31 a 4 refl) (or-same 3 a 4 refl)
     (λ h. or-same 4 a 4 refl ∙ h) (λ h. absurd (not-both h (or-same 4 a 4 refl ∙ k)))
 
-switched-off : (g : Group) → groupValid g ≡ true → Alike g (switched false g)
-unfolding switched has
-switched-off g o =
+disabling : (g : Group) → groupValid g ≡ true → Alike g (withEnabled false g)
+unfolding withEnabled has
+disabling g o =
     let a = g .attributes in
     regroup g (without a 4) (within-trans (without a 4) a 0xC000001F (without-within a 4) (attributes-in g o)) (without-same 30 a 4 refl) (without-same 31 a 4 refl) (without-same 3 a 4 refl)
     (λ h. without-same 4 a 4 refl ∙ h) (λ h. without-none 2 a 4 refl)
 
-switches : (g : Group) (b : Bool) → groupValid g ≡ true → (b ≡ true → isDenyOnly g ≡ false) → Alike g (switched b g)
-switches g true o h = switched-on g o (h refl)
-switches g false o h = switched-off g o
+setting : (g : Group) (b : Bool) → groupValid g ≡ true → (b ≡ true → isDenyOnly g ≡ false) → Alike g (withEnabled b g)
+setting g true o h = enabling g o (h refl)
+setting g false o h = disabling g o
 
 -- the mark itself is the same
-switched-denied : (b : Bool) (g : Group) → isDenyOnly (switched b g) ≡ isDenyOnly g
-unfolding switched isDenyOnly has
-switched-denied true g = or-same 4 (g .attributes) 4 refl
-switched-denied false g = without-same 4 (g .attributes) 4 refl
+denied-kept : (b : Bool) (g : Group) → isDenyOnly (withEnabled b g) ≡ isDenyOnly g
+unfolding withEnabled isDenyOnly has
+denied-kept true g = or-same 4 (g .attributes) 4 refl
+denied-kept false g = without-same 4 (g .attributes) 4 refl
 
 denies : (g : Group) → groupValid g ≡ true → Alike g (denied g)
 unfolding denied has within
@@ -94,7 +95,7 @@ denies g o =
 
 -- a group given to request 3, as it is entered
 pub enters : (user : ℕ) (g : Group) → validPair user g ≡ true → is32 (g .sid) ≡ true → groupValid (entered g) ≡ true
-unfolding validPair entered groupValid isDenyOnly isOn isOnByDefault within has switched
+unfolding validPair entered groupValid isDenyOnly isEnabled isEnabledByDefault within has withEnabled
 enters user g h w =
     let a = g .attributes in
     let given : within a givable ≡ true = search (and-l, and-r) in
@@ -148,8 +149,7 @@ groups-owner (more x p) (suc i) = groups-owner p i
 pub groups-in-order : {a b : List Group} → Groups a b → groupsValid a ≡ true → groupsValid b ≡ true
 unfolding groupsValid
 groups-in-order {a} p h =
-    and-i (ap (λ (n : ℕ). leb n maxGroups) (groups-length p) ∙ and-l (leb (length a) maxGroups) (all groupValid a) h)
-    (groups-order p (and-r (leb (length a) maxGroups) (all groupValid a) h))
+    and-i (ap (λ (n : ℕ). leb n maxGroups) (groups-length p) ∙ and-l (leb (length a) maxGroups) (all groupValid a) h) (groups-order p (each-group a h))
 
 owners : {a b : List Group} → Groups a b → (k : ℕ) → validOwner b k ≡ validOwner a k
 unfolding validOwner
@@ -168,10 +168,10 @@ at-index f [] i h o = none
 at-index f (g ∷ gs) zero h o = more (h (and-l _ (all groupValid gs) o)) (groups-refl gs)
 at-index f (g ∷ gs) (suc i) h o = more (alike-refl g) (at-index f gs i h (and-r (groupValid g) _ o))
 
-marks : (b : Bool) (gs : List Group) (i j : ℕ) → isDenyOnly (getD (changeAt i (switched b) gs) j noGroup) ≡ isDenyOnly (getD gs j noGroup)
+marks : (b : Bool) (gs : List Group) (i j : ℕ) → isDenyOnly (getD (changeAt i (withEnabled b) gs) j noGroup) ≡ isDenyOnly (getD gs j noGroup)
 unfolding changeAt
 marks b [] i j = refl
-marks b (g ∷ gs) zero zero = switched-denied b g
+marks b (g ∷ gs) zero zero = denied-kept b g
 marks b (g ∷ gs) zero (suc j) = refl
 marks b (g ∷ gs) (suc i) zero = refl
 marks b (g ∷ gs) (suc i) (suc j) = marks b gs i j
@@ -179,21 +179,21 @@ marks b (g ∷ gs) (suc i) (suc j) = marks b gs i j
 Fits : List Group → Entry → Type 0
 Fits gs e = eqb (e .value) 1 ≡ true → isDenyOnly (getD gs (e .key) noGroup) ≡ false
 
-all-switched : (es : List Entry) (gs : List Group) → ((e : Entry) → Mem e es → Fits gs e) → all groupValid gs ≡ true → Groups gs (applyAll applied es gs)
+all-applied : (es : List Entry) (gs : List Group) → ((e : Entry) → Mem e es → Fits gs e) → all groupValid gs ≡ true → Groups gs (applyAll applied es gs)
 unfolding applyAll applied Fits
-all-switched [] gs h o = groups-refl gs
-all-switched (e ∷ es) gs h o =
+all-applied [] gs h o = groups-refl gs
+all-applied (e ∷ es) gs h o =
     let b = eqb (e .value) 1 in
-    let p : Groups gs (changeAt (e .key) (switched b) gs) = at-index (switched b) gs (e .key) (λ k. switches (getD gs (e .key) noGroup) b k (h e (here refl))) o in
-    groups-trans p (all-switched es _ (λ f m t. marks b gs (e .key) (f .key) ∙ h f (there m) t) (groups-order p o))
+    let p : Groups gs (changeAt (e .key) (withEnabled b) gs) = at-index (withEnabled b) gs (e .key) (λ k. setting (getD gs (e .key) noGroup) b k (h e (here refl))) o in
+    groups-trans p (all-applied es _ (λ f m t. marks b gs (e .key) (f .key) ∙ h f (there m) t) (groups-order p o))
 
 allowed-fits : (t : Token) (e : Entry) → unprotected t e ≡ true → Fits (t .groups) e
 unfolding unprotected maySwitch Fits
 allowed-fits t e h v = not-true _ (rw (eqb-true (e .value) 1 v) at h)
 
-reset-one : (b : Bool) (g : Group) → groupValid g ≡ true → (b ≡ false → isDenyOnly g ≡ false) → Alike g (if b then g else switched (isOnByDefault g) g)
+reset-one : (b : Bool) (g : Group) → groupValid g ≡ true → (b ≡ false → isDenyOnly g ≡ false) → Alike g (if b then g else withEnabled (isEnabledByDefault g) g)
 reset-one true g o h = alike-refl g
-reset-one false g o h = switches g (isOnByDefault g) o (λ b. h refl)
+reset-one false g o h = setting g (isEnabledByDefault g) o (λ b. h refl)
 
 resets : (gs : List Group) → all groupValid gs ≡ true → Groups gs (map resetGroup gs)
 unfolding all resetGroup
@@ -204,7 +204,7 @@ pub adjusts : (es : List Entry) (t : Token) → (isReset es || all (unprotected 
 unfolding adjusted
 adjusts es t h o =
     on-if (Groups (t .groups)) (isReset es) _ _ (λ r. resets (t .groups) o)
-    (λ r. let k : all (unprotected t) es ≡ true = rw r at h in all-switched es (t .groups) (λ e m. allowed-fits t e (all-mem (unprotected t) es k m)) o)
+    (λ r. let k : all (unprotected t) es ≡ true = rw r at h in all-applied es (t .groups) (λ e m. allowed-fits t e (all-mem (unprotected t) es k m)) o)
 
 pub all-denied : (is : List ℕ) (gs : List Group) → all groupValid gs ≡ true → Groups gs (deniedAll is gs)
 unfolding deniedAll

@@ -1,5 +1,5 @@
 -- Every rule keeps a state valid, and what lasts of its tokens. Assumes nothing.
-use Prim.Native.Nat.{ℕ, _+_, _-_, _^_, _<_}
+use Prim.Native.Nat.{ℕ, _+_, _^_, _<_}
 use native.Mathlib.Omega.{arith}
 use mathlib.Core.Path.{_≡_, refl, sym, ap, _∙_, subst}
 use mathlib.Core.Bool.{true}
@@ -42,7 +42,7 @@ use Rattle.rules.proofs.Changes.{numbersOf, put-numbers, put-room}
 use Rattle.rules.proofs.Widths.{Got, sid32, Fits, parsed}
 use Rattle.rules.proofs.GroupsKept.{all-entered}
 use Rattle.rules.proofs.TokensKept.{After, used-after, privileges-after, groups-after, scope-after, defaults-after, new-facts, duplicated-made, restricted-made}
-use Rattle.rules.proofs.Steps.{Advance, stays, _then_, Is, is-live, is-caller, change, open-step, issue-step, close-step, token-step, Keeps, Found, on-handle, finished}
+use Rattle.rules.proofs.Steps.{Advance, stays, _then_, Is, token-ok, is-live, is-caller, change, open-step, issue-step, close-step, token-step, Keeps, Found, on-handle, finished}
 
 -- ---- the token of a number, over a step
 
@@ -61,9 +61,6 @@ same-identity d e n f st i j =
     let b = st .later .old (tokenOf e n) (j .was) (let q = j .number in omega arith) in
     b .follows .identity
     ∙ ap (λ (t : Token). t .identity) (only-one numberOf (d .tokens .slots) (f .loose .tokens .apart) (b .was) (i .was) (sym (b .follows .number) ∙ j .number ∙ sym (i .number)))
-
-token-ok : (d : State) (n : ℕ) → StateFacts d → Is d n → TokenFacts (tokenOf d n)
-token-ok d n f i = f .loose .eachToken (tokenOf d n) (i .was)
 
 next-64 : (d : State) → canIssue d ≡ true → is64 (d .tokens .next) ≡ true
 unfolding canIssue canAddToken canAdd is64

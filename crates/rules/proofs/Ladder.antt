@@ -1,14 +1,16 @@
--- The ladder of refusals: every request checks in the order of the refusals' numbers, so the first check that fails is the lowest.
+-- The ladder of refusals: every request checks in the order of the refusals' ranks, so the first check that fails is the one of lowest rank.
 -- Assumes nothing.
-use Prim.Native.Nat.{ℕ, _≤_}
+use Prim.Native.Nat.{ℕ, suc, _≤_}
 use native.Mathlib.Omega.{arith}
-use mathlib.Core.Path.{_≡_, refl, sym}
+use mathlib.Core.Path.{_≡_, refl, sym, ap}
 use mathlib.Core.Bool.{Bool, true, false, _&&_}
+use mathlib.Core.Logic.{⊎-elim}
 use mathlib.Core.List.{List, [], _∷_}
-use lib.Dec.{leb}
-use borrow.Author.Tests.{leb-true}
+use lib.Dec.{eqb, leb}
+use borrow.Author.Tests.{eqb-true, eq-eqb, leb-true}
+use Rattle.rules.specs.Basic.{if_then_else_, member}
 use Rattle.rules.specs.Number.{Read, got, bad}
-use Rattle.rules.specs.Refusal.{refusal, capacityBelow}
+use Rattle.rules.specs.Refusal.{refusal, capacityBelow, ranks}
 use Rattle.rules.specs.State.{State}
 use Rattle.rules.specs.Decision.{Decision, need_else_then_, success, carriedOut, withHandle, issued}
 use Rattle.rules.specs.Request.{Request, parse}
@@ -23,19 +25,28 @@ use Rattle.rules.specs.Duplicate as Duplicate
 use Rattle.rules.specs.Restrict as Restrict
 use Rattle.rules.specs.Install as Install
 use Rattle.rules.specs.Serve.{rule, decided, decision, serve}
-use Rattle.rules.specs.Ladder.{failing, lowest, status, Ladder}
+use Rattle.rules.specs.Ladder.{failing, firstOf, status, Ladder}
 use Rattle.rules.specs.Growth.{Mem, here, there}
-use Rattle.rules.proofs.Logic.{and-l, and-r}
+use Rattle.rules.proofs.Logic.{and-l, and-r, not-both, either, member-mem, mem-member}
+use Rattle.rules.proofs.Tables.{on-if}
 
--- the numbers of the checks rise from k on, up to 9 at most
+-- a number's place among the ranks
+place : List ℕ → ℕ → ℕ
+place [] n = 0
+place (r ∷ rs) n = if eqb r n then 0 else suc (place rs n)
+
+rank : ℕ → ℕ
+rank n = place ranks n
+
+-- the checks have ranks, which rise from k on
 rises : ℕ → Decision → Bool
-rises k (need_else_then_ b r rest) = leb k (r .number) && rises (r .number) rest
-rises k (success after bytes) = leb k 9
+rises k (need_else_then_ b r rest) = member (r .number) ranks && leb k (rank (r .number)) && rises (rank (r .number)) rest
+rises k (success after bytes) = true
 
 -- ---- of every request
 
-in-order : (σ : State) (s : ℕ) (r : Request) → rises 1 (rule σ s r) ≡ true
-unfolding rises rule refusal capacityBelow withHandle issued OpenClose.openOwn OpenClose.close Create.create Query.query AdjustPrivileges.adjust AdjustGroups.adjust AdjustScope.scope AdjustDefaults.adjust Duplicate.duplicate Restrict.restrict Install.install
+in-order : (σ : State) (s : ℕ) (r : Request) → rises 0 (rule σ s r) ≡ true
+unfolding rises rank place member rule refusal capacityBelow withHandle issued OpenClose.openOwn OpenClose.close Create.create Query.query AdjustPrivileges.adjust AdjustGroups.adjust AdjustScope.scope AdjustDefaults.adjust Duplicate.duplicate Restrict.restrict Install.install
 in-order σ s (Request.openOwn mask) = refl
 in-order σ s (Request.close n) = refl
 in-order σ s (Request.create user session integrity present byDefault gs) = refl
@@ -48,45 +59,63 @@ in-order σ s (Request.duplicate n type level mask) = refl
 in-order σ s (Request.restrict n mark removed deny sids) = refl
 in-order σ s (Request.install n) = refl
 
-of-body : (σ : State) (s : ℕ) (r : Read Request) → rises 1 (decided σ s r) ≡ true
-unfolding decided rises refusal
+of-body : (σ : State) (s : ℕ) (r : Read Request) → rises 0 (decided σ s r) ≡ true
+unfolding decided rises rank place member refusal
 of-body σ s bad = refl
 of-body σ s (got r bytes) = in-order σ s r
 
 -- ---- of checks that rise
 
-above : (k : ℕ) (x : Decision) → rises k x ≡ true → (n : ℕ) → Mem n (failing x) → k ≤ n
+record Next (k n : ℕ) (rest : Decision) : Type 0 where
+  isRanked : member n ranks ≡ true
+  low : k ≤ rank n
+  onward : rises (rank n) rest ≡ true
+
+next : (k n : ℕ) (rest : Decision) → (member n ranks && leb k (rank n) && rises (rank n) rest) ≡ true → Next k n rest
+next k n rest h = record { isRanked = search (and-l, and-r); low = leb-true k (rank n) (search (and-l, and-r)); onward = search (and-l, and-r) }
+
+above : (k : ℕ) (x : Decision) → rises k x ≡ true → (n : ℕ) → Mem n (failing x) → k ≤ rank n
 unfolding rises failing
-above k (need_else_then_ true r rest) h n m =
-    let low = leb-true k (r .number) (and-l (leb k (r .number)) _ h) in
-    let rest-above = above (r .number) rest (and-r (leb k (r .number)) _ h) n m in omega arith
-above k (need_else_then_ false r rest) h n (here e) = let low = leb-true k (r .number) (and-l (leb k (r .number)) _ h) in omega arith
-above k (need_else_then_ false r rest) h n (there m) =
-    let low = leb-true k (r .number) (and-l (leb k (r .number)) _ h) in
-    let rest-above = above (r .number) rest (and-r (leb k (r .number)) _ h) n m in omega arith
+above k (need_else_then_ true r rest) h n m = let q = next k (r .number) rest h in let high = above (rank (r .number)) rest (q .onward) n m in omega arith
+above k (need_else_then_ false r rest) h n (here e) = rw e (next k (r .number) rest h .low)
+above k (need_else_then_ false r rest) h n (there m) = let q = next k (r .number) rest h in let high = above (rank (r .number)) rest (q .onward) n m in omega arith
 
--- the first of numbers that are not below it is the lowest
-least : (k : ℕ) (ns : List ℕ) → ((n : ℕ) → Mem n ns → k ≤ n) → lowest (k ∷ ns) ≡ k
-unfolding lowest
-least k [] h = refl
-least k (m ∷ ns) h = let rest = not-below m ns h in omega arith
+-- a number is the first of those whose places are not before its own
+first-is : (rs : List ℕ) (k : ℕ) (ns : List ℕ) → Mem k rs → ((n : ℕ) → Mem n ns → place rs k ≤ place rs n) → firstOf rs (k ∷ ns) ≡ k
+unfolding firstOf place
+first-is (r ∷ rs) k ns m h = by (member r (k ∷ ns)) refl (first-is rs k ns)
   where
-    not-below : (m : ℕ) (ns : List ℕ) → ((n : ℕ) → Mem n (m ∷ ns) → k ≤ n) → k ≤ lowest (m ∷ ns)
-    not-below m [] h = h m (here refl)
-    not-below m (i ∷ ns) h = let a = h m (here refl) in let b = not-below i ns (λ n j. h n (there j)) in omega arith
+    at-first : (b : Bool) → (if b then 0 else suc (place rs k)) ≤ 0 → b ≡ true
+    at-first true l = refl
+    at-first false l = absurd (omega arith)
 
-lowest-first : (σ : State) (k : ℕ) (x : Decision) → rises k x ≡ true → status (carriedOut σ x) ≡ lowest (failing x)
-unfolding rises failing carriedOut status lowest
-lowest-first σ k (need_else_then_ true r rest) h = lowest-first σ (r .number) rest (and-r (leb k (r .number)) _ h)
-lowest-first σ k (need_else_then_ false r rest) h = sym (least (r .number) (failing rest) (above (r .number) rest (and-r (leb k (r .number)) _ h)))
+    among : Mem r (k ∷ ns) → r ≡ k
+    among (here e) = e
+    among (there i) = eqb-true r k (at-first (eqb r k) (rw (eq-eqb r r refl) at (h r i)))
+
+    other : member r (k ∷ ns) ≡ false → {n : ℕ} → Mem n (k ∷ ns) → eqb r n ≡ false
+    other e {n} i = ⊎-elim (λ t. absurd (not-both (mem-member {n = r} {xs = k ∷ ns} (rw (eqb-true r n t) i)) e)) (λ f. f) (either (eqb r n))
+
+    later : member r (k ∷ ns) ≡ false → Mem k (r ∷ rs) → Mem k rs
+    later e (here q) = absurd (not-both (mem-member (here (sym q))) e)
+    later e (there i) = i
+
+    by : (b : Bool) → member r (k ∷ ns) ≡ b → (Mem k rs → ((n : ℕ) → Mem n ns → place rs k ≤ place rs n) → firstOf rs (k ∷ ns) ≡ k) → (if b then r else firstOf rs (k ∷ ns)) ≡ k
+    by true e onward = among (member-mem r (k ∷ ns) e)
+    by false e onward = onward (later e m) (λ n i. let l = rw (other e (here refl), other e (there i)) at (h n i) in omega arith)
+
+lowest-first : (σ : State) (k : ℕ) (x : Decision) → rises k x ≡ true → status (carriedOut σ x) ≡ firstOf ranks (failing x)
+unfolding rises failing carriedOut status firstOf member rank
+lowest-first σ k (need_else_then_ true r rest) h = lowest-first σ (rank (r .number)) rest (next k (r .number) rest h .onward)
+lowest-first σ k (need_else_then_ false r rest) h =
+    let q = next k (r .number) rest h in sym (first-is ranks (r .number) (failing rest) (member-mem (r .number) ranks (q .isRanked)) (above (rank (r .number)) rest (q .onward)))
 lowest-first σ k (success after bytes) h = refl
 
-passes : (σ : State) (k : ℕ) (x : Decision) → 1 ≤ k → rises k x ≡ true → status (carriedOut σ x) ≡ 0 → failing x ≡ []
-unfolding rises failing carriedOut status
-passes σ k (need_else_then_ true r rest) l h e =
-    let low = leb-true k (r .number) (and-l (leb k (r .number)) _ h) in passes σ (r .number) rest (omega arith) (and-r (leb k (r .number)) _ h) e
-passes σ k (need_else_then_ false r rest) l h e = absurd (let low = leb-true k (r .number) (and-l (leb k (r .number)) _ h) in omega arith)
-passes σ k (success after bytes) l h e = refl
+passes : (σ : State) (k : ℕ) (x : Decision) → rises k x ≡ true → status (carriedOut σ x) ≡ 0 → failing x ≡ []
+unfolding rises failing carriedOut status member
+passes σ k (need_else_then_ true r rest) h e = passes σ (rank (r .number)) rest (next k (r .number) rest h .onward) e
+passes σ k (need_else_then_ false r rest) h e = absurd (not-both (next k (r .number) rest h .isRanked) (ap (λ (n : ℕ). member n ranks) e))
+passes σ k (success after bytes) h e = refl
 
 unchanged : (σ : State) (x : Decision) → (status (carriedOut σ x) ≡ 0 → ⊥) → carriedOut σ x .state ≡ σ
 unfolding carriedOut status
@@ -94,30 +123,26 @@ unchanged σ (need_else_then_ true r rest) h = unchanged σ rest h
 unchanged σ (need_else_then_ false r rest) h = refl
 unchanged σ (success after bytes) h = absurd (h refl)
 
--- every check's number is one of the list
-at-most-9 : (k : ℕ) (x : Decision) → rises k x ≡ true → k ≤ 9
-unfolding rises
-at-most-9 k (need_else_then_ b r rest) h =
-    let low = leb-true k (r .number) (and-l (leb k (r .number)) _ h) in
-    let high = at-most-9 (r .number) rest (and-r (leb k (r .number)) _ h) in omega arith
-at-most-9 k (success after bytes) h = leb-true k 9 h
-
-listed : (σ : State) (k : ℕ) (x : Decision) → rises k x ≡ true → status (carriedOut σ x) ≤ 9
-unfolding rises carriedOut status
-listed σ k (need_else_then_ true r rest) h = listed σ (r .number) rest (and-r (leb k (r .number)) _ h)
-listed σ k (need_else_then_ false r rest) h = at-most-9 (r .number) rest (and-r (leb k (r .number)) _ h)
-listed σ k (success after bytes) h = omega arith
-
-pub served-status : (σ : State) (s : ℕ) (body : List ℕ) → status (serve σ s body) ≤ 9
-unfolding serve decision
-served-status σ s body = listed σ 1 (decided σ s (parse body)) (of-body σ s (parse body))
-
 pub ladder : (σ : State) (s : ℕ) (body : List ℕ) → Ladder σ s body
 unfolding serve decision
 ladder σ s body =
     let rising = of-body σ s (parse body) in
     record {
-      lowest-first = lowest-first σ 1 (decided σ s (parse body)) rising;
-      passes = passes σ 1 (decided σ s (parse body)) (omega arith) rising;
+      lowest-first = lowest-first σ 0 (decided σ s (parse body)) rising;
+      passes = passes σ 0 (decided σ s (parse body)) rising;
       unchanged = unchanged σ (decided σ s (parse body));
     }
+
+-- ---- every status is on the list
+
+first-listed : (rs ns : List ℕ) → Mem (firstOf rs ns) (0 ∷ rs)
+unfolding firstOf
+first-listed [] ns = here refl
+first-listed (r ∷ rs) ns = on-if (λ (n : ℕ). Mem n (0 ∷ r ∷ rs)) (member r ns) _ _ (λ t. there (here refl)) (λ t. further (first-listed rs ns))
+  where
+    further : {n : ℕ} → Mem n (0 ∷ rs) → Mem n (0 ∷ r ∷ rs)
+    further (here e) = here e
+    further (there m) = there (there m)
+
+pub served-status : (σ : State) (s : ℕ) (body : List ℕ) → Mem (status (serve σ s body)) (0 ∷ ranks)
+served-status σ s body = rw (ladder σ s body .lowest-first) (first-listed ranks _)

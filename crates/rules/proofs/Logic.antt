@@ -37,6 +37,10 @@ or-r x y h = ap (λ (b : Bool). x || b) h ∙ or-true x
 pub not-both : {x : Bool} → x ≡ true → x ≡ false → ⊥
 not-both h k = let z : _≡_ {A = ℕ} 0 1 = cc in omega arith
 
+pub or-no : (x y : Bool) → (x || y) ≡ false → (x ≡ false) × (y ≡ false)
+or-no true y h = absurd (not-both refl h)
+or-no false y h = (refl, h)
+
 pub not-e : (x : Bool) → not x ≡ true → x ≡ true → ⊥
 not-e true h k = not-both refl (sym h)
 not-e false h k = not-both k refl
@@ -89,17 +93,17 @@ module _ {A : Type 0} where
   mem-append (x ∷ xs) (here e) = inl (here e)
   mem-append (x ∷ xs) (there m) = ⊎-elim (λ k. inl (there k)) (λ k. inr k) (mem-append xs m)
 
-  pub mem-set : (xs : List A) (i : ℕ) (b : A) {a : A} → Mem a (set xs i b) → (a ≡ b) ⊎ Mem a xs
-  mem-set (x ∷ xs) zero b (here e) = inl e
-  mem-set (x ∷ xs) zero b (there m) = inr (there m)
-  mem-set (x ∷ xs) (suc i) b (here e) = inr (here e)
-  mem-set (x ∷ xs) (suc i) b (there m) = ⊎-elim (λ e. inl e) (λ k. inr (there k)) (mem-set xs i b m)
-
   pub length-changeAt : (xs : List A) (i : ℕ) (f : A → A) → length (changeAt i f xs) ≡ length xs
   unfolding changeAt
   length-changeAt [] i f = refl
   length-changeAt (x ∷ xs) zero f = refl
   length-changeAt (x ∷ xs) (suc i) f = ap suc (length-changeAt xs i f)
+
+  pub changeAt-set : (xs : List A) (i : ℕ) (f : A → A) (z : A) → changeAt i f xs ≡ set xs i (f (getD xs i z))
+  unfolding changeAt
+  changeAt-set [] i f z = refl
+  changeAt-set (x ∷ xs) zero f z = refl
+  changeAt-set (x ∷ xs) (suc i) f z = ap (λ ys. x ∷ ys) (changeAt-set xs i f z)
 
   -- what stands there after a change, and what stood there before
   pub mem-changeAt : (xs : List A) (i : ℕ) (f : A → A) {a : A} → Mem a (changeAt i f xs) → ((b : A) × Mem b xs × (a ≡ f b)) ⊎ Mem a xs

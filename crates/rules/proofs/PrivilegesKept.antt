@@ -1,5 +1,5 @@
 -- What changes of privilege sets keep: enabled and default stay within present, present never grows, used marks stay. Assumes nothing.
-use Prim.Native.Nat.{ℕ, _-_, _^_}
+use Prim.Native.Nat.{ℕ, _^_}
 use mathlib.Core.Path.{_≡_, refl, sym, ap, _∙_}
 use mathlib.Core.Bool.{true, not, _&&_, _||_}
 use mathlib.Core.List.{List, [], _∷_, map}
@@ -44,11 +44,11 @@ fewer-trans p q r a b = search within-trans
 
 enabled : (w : ℕ) (p : Privileges) → within w (p .present) ≡ true → Sound p → Fewer p (enable w p)
 unfolding enable
-enabled w p h s = let isOn = within-or (p .enabled) w (p .present) (s .enabled) h in search within-refl
+enabled w p h s = let inside = within-or (p .enabled) w (p .present) (s .enabled) h in search within-refl
 
 disabled : (w : ℕ) (p : Privileges) → Sound p → Fewer p (disable w p)
 unfolding disable
-disabled w p s = let isOn = within-trans _ (p .enabled) (p .present) (without-within (p .enabled) w) (s .enabled) in search within-refl
+disabled w p s = let inside = within-trans _ (p .enabled) (p .present) (without-within (p .enabled) w) (s .enabled) in search within-refl
 
 pub removed : (w : ℕ) (p : Privileges) → Sound p → Fewer p (remove w p)
 unfolding remove

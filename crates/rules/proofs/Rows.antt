@@ -25,9 +25,9 @@ use Rattle.rules.specs.AdjustDefaults.{validOwner, validGroup}
 use Rattle.rules.specs.Frame.{maxBody, Length, unread, invalid, size, secondOf, lengthOf, part, whole, framedBy, framed}
 use Rattle.rules.specs.Valid.{is32, between, identityValid, groupValid, groupsValid, limitsValid, defaultsValid, tokenValid, isPart, streamValid}
 use Rattle.rules.specs.Memory.{tokenWords, stationWords, pendingBytes, word32, low32, mark, pack, unpack, head, tokenRow, daclRow, slotRow, slotDacl, slotHandle, stationRow, pendingRow, identityAt, privilegesAt, groupsAt, limitsAt, defaultsAt, tokenAt, slotAt, handleAt, stationAt}
-use Rattle.rules.proofs.Logic.{and-l, and-r, not-both, all-mem, member-mem}
+use Rattle.rules.proofs.Logic.{and-l, and-r, or-no, not-both, all-mem, member-mem}
 use Rattle.rules.proofs.Tables.{on-if}
-use Rattle.rules.proofs.Facts.{token-facts}
+use Rattle.rules.proofs.Facts.{token-facts, few-groups}
 
 -- ---- lengths
 
@@ -106,7 +106,7 @@ unfolding validOwner
 owner-low gs zero h = omega arith
 owner-low gs (suc k) h = omega (arith, ltb-true k (length gs) (and-l _ (isOwner (getD gs k noGroup)) h))
 
-integrity32 : (i : ℕ) → validIntegrity i ≡ true → is32 i ≡ true
+pub integrity32 : (i : ℕ) → validIntegrity i ≡ true → is32 i ≡ true
 unfolding validIntegrity all is32
 integrity32 i h = all-mem is32 _ refl (member-mem i (0 ∷ 4096 ∷ 8192 ∷ 12288 ∷ 16384 ∷ []) h)
 
@@ -123,10 +123,6 @@ identity-back t h =
       level = cut 256 3 (omega arith) (leb-true (x .level) 3 (search (and-l, and-r))) i;
       integrity = cut32 (x .integrity) (integrity32 (x .integrity) (search (and-l, and-r))) i;
     }
-
-few-groups : (gs : List Group) → groupsValid gs ≡ true → length gs ≤ maxGroups
-unfolding groupsValid
-few-groups gs h = leb-true (length gs) maxGroups (and-l _ (all groupValid gs) h)
 
 groups-back : (t : Token) → groupsValid (t .groups) ≡ true → groupsAt (tokenRow t) ≡ t .groups
 unfolding groupsAt tokenRow head groupsValid
@@ -212,17 +208,13 @@ Short bytes unread = length bytes ≤ 1
 Short bytes invalid = Unit {0}
 Short bytes (size n body) = (n ≤ maxBody) × (length bytes ≤ length body + 2)
 
-neither : (x y : Bool) → (x || y) ≡ false → y ≡ false
-neither true y h = absurd (not-both refl h)
-neither false y h = h
-
 second-short : (a : ℕ) (bytes : List ℕ) → Short (a ∷ bytes) (secondOf a bytes)
 unfolding Short secondOf
 second-short a [] = omega arith
 second-short a (b ∷ bytes) =
     let n = a - 128 + 128 * b in
     on-if (Short (a ∷ b ∷ bytes)) (eqb b 0 || leb 128 b || ltb maxBody n) invalid (size n bytes)
-    (λ e. tt) (λ e. (ltb-false maxBody n (neither (eqb b 0 || leb 128 b) _ e), omega arith))
+    (λ e. tt) (λ e. (ltb-false maxBody n (or-no (eqb b 0 || leb 128 b) _ e .1), omega arith))
 
 length-short : (bytes : List ℕ) → Short bytes (lengthOf bytes)
 unfolding Short lengthOf

@@ -3,7 +3,7 @@ use Prim.Native.Nat.{ℕ, zero, suc, _+_, _≤_, _<_}
 use native.Mathlib.Omega.{arith}
 use mathlib.Core.Path.{_≡_, refl, sym, ap, ap₂, _∙_}
 use mathlib.Core.Bool.{Bool, true, false}
-use mathlib.Core.List.{List, [], _∷_, _++_, map, append-assoc}
+use mathlib.Core.List.{List, [], _∷_, _++_, map, append-assoc, map-append}
 use lib.Dec.{leb, ltb}
 use lib.ListN.{length, length-append, length-map, take, drop, length-drop, take-append-drop}
 use borrow.Author.Tests.{lt-leb, le-ltb}
@@ -123,10 +123,10 @@ refused-folds k s chunk p = record { end = refl; answer = refl; timed = λ m. re
 
 folds : (p : State) (c : Call) → Folds p (stationOf c) (eventsOf p c) (returned p c)
 unfolding eventsOf returned feed reconnect refused afterEvents answersTo noted happens stateOf told stationOf notedAt timedTo toldAt placeOf
-folds p (feeds s chunk room) =
+folds p (feeds s chunk bufferLength) =
     let P : Result → Type 0 = λ r. Folds p s (map (byte s) (take (r .used) chunk)) r in
     on-if P (leb stationCount s) _ _ (λ t. refused-folds noStation s chunk p)
-    (λ t. on-if P (ltb room maxAnswer) _ _ (λ u. refused-folds shortBuffer s chunk p) (λ u. fed-folds s chunk p))
+    (λ t. on-if P (ltb bufferLength maxAnswer) _ _ (λ u. refused-folds shortBuffer s chunk p) (λ u. fed-folds s chunk p))
 folds p (reconnects s) = rejoins (leb stationCount s)
   where
     rejoins : (b : Bool) → Folds p s (if b then [] else reconnected s ∷ []) (if b then refused noStation p else record { refusal = 0; used = 0; answer = []; after = changeStation s cleared p })
@@ -203,24 +203,20 @@ uses-some s b bytes p =
     let r = on-step (0 + 1) s bytes (step p s b) (step-filled p s b) (λ q. fold bytes (0 + 1) s q) in let z = r .k in let e = r .used in omega arith
 
 -- a feed that is not refused
-accepted : (p : State) (s : ℕ) (chunk : List ℕ) (room : ℕ) → s < stationCount → maxAnswer ≤ room → feed p s chunk room ≡ fedFrom 0 s chunk p
+accepted : (p : State) (s : ℕ) (chunk : List ℕ) (bufferLength : ℕ) → s < stationCount → maxAnswer ≤ bufferLength → feed p s chunk bufferLength ≡ fedFrom 0 s chunk p
 unfolding feed
-accepted p s chunk room h g = rw (lt-leb stationCount s h, le-ltb room maxAnswer g)
+accepted p s chunk bufferLength h g = rw (lt-leb stationCount s h, le-ltb bufferLength maxAnswer g)
 
-map-append : {A B : Type 0} (f : A → B) (xs ys : List A) → map f (xs ++ ys) ≡ map f xs ++ map f ys
-map-append f [] ys = refl
-map-append f (x ∷ xs) ys = ap (λ zs. f x ∷ zs) (map-append f xs ys)
-
-pub used-up : (k : ℕ) (p : State) (s : ℕ) (chunk : List ℕ) (room : ℕ) → s < stationCount → maxAnswer ≤ room → length chunk ≤ k → events (untilUsed k p s chunk room) p ≡ map (byte s) chunk
+pub used-up : (k : ℕ) (p : State) (s : ℕ) (chunk : List ℕ) (bufferLength : ℕ) → s < stationCount → maxAnswer ≤ bufferLength → length chunk ≤ k → events (untilUsed k p s chunk bufferLength) p ≡ map (byte s) chunk
 unfolding untilUsed events eventsOf returned
-used-up zero p s [] room h g l = refl
-used-up zero p s (b ∷ chunk) room h g l = absurd (omega arith)
-used-up (suc k) p s [] room h g l = refl
-used-up (suc k) p s (b ∷ chunk) room h g l =
-    let r = feed p s (b ∷ chunk) room in
-    let some : 1 ≤ r .used = rw (accepted p s (b ∷ chunk) room h g) (uses-some s b chunk p) in
+used-up zero p s [] bufferLength h g l = refl
+used-up zero p s (b ∷ chunk) bufferLength h g l = absurd (omega arith)
+used-up (suc k) p s [] bufferLength h g l = refl
+used-up (suc k) p s (b ∷ chunk) bufferLength h g l =
+    let r = feed p s (b ∷ chunk) bufferLength in
+    let some : 1 ≤ r .used = rw (accepted p s (b ∷ chunk) bufferLength h g) (uses-some s b chunk p) in
     ap (λ es. map (byte s) (take (r .used) (b ∷ chunk)) ++ es)
-    (used-up k (r .after) s (drop (r .used) (b ∷ chunk)) room h g (simp length-drop (omega arith)))
+    (used-up k (r .after) s (drop (r .used) (b ∷ chunk)) bufferLength h g (simp length-drop (omega arith)))
     ∙ sym (map-append (byte s) (take (r .used) (b ∷ chunk)) (drop (r .used) (b ∷ chunk)))
     ∙ ap (map (byte s)) (take-append-drop (r .used) (b ∷ chunk))
 
@@ -230,10 +226,10 @@ events-append [] ds p = refl
 events-append (c ∷ cs) ds p = ap (λ es. eventsOf p c ++ es) (events-append cs ds (returned p c .after)) ∙ sym (append-assoc (eventsOf p c) _ _)
 
 -- one chunk, or the same bytes in two pieces
-pub cut : (p : State) (s : ℕ) (a b : List ℕ) (room : ℕ) (n i j : ℕ) → s < stationCount → maxAnswer ≤ room → length (a ++ b) ≤ n → length a ≤ i → length b ≤ j
-    → Same (untilUsed n p s (a ++ b) room) (untilUsed i p s a room ++ untilUsed j (after (untilUsed i p s a room) p) s b room) p
-cut p s a b room n i j h g ln li lj =
-    let one = untilUsed i p s a room in
+pub cut : (p : State) (s : ℕ) (a b : List ℕ) (bufferLength : ℕ) (n i j : ℕ) → s < stationCount → maxAnswer ≤ bufferLength → length (a ++ b) ≤ n → length a ≤ i → length b ≤ j
+    → Same (untilUsed n p s (a ++ b) bufferLength) (untilUsed i p s a bufferLength ++ untilUsed j (after (untilUsed i p s a bufferLength) p) s b bufferLength) p
+cut p s a b bufferLength n i j h g ln li lj =
+    let one = untilUsed i p s a bufferLength in
     cutting _ _ p
-    (used-up n p s (a ++ b) room h g ln ∙ map-append (byte s) a b
-    ∙ sym (events-append one (untilUsed j (after one p) s b room) p ∙ ap₂ _++_ (used-up i p s a room h g li) (used-up j (after one p) s b room h g lj)))
+    (used-up n p s (a ++ b) bufferLength h g ln ∙ map-append (byte s) a b
+    ∙ sym (events-append one (untilUsed j (after one p) s b bufferLength) p ∙ ap₂ _++_ (used-up i p s a bufferLength h g li) (used-up j (after one p) s b bufferLength h g lj)))

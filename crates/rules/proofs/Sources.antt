@@ -3,7 +3,7 @@ use Prim.Native.Nat.{ℕ, _≤_}
 use native.Mathlib.Omega.{arith}
 use mathlib.Core.Path.{_≡_, refl, sym, subst}
 use mathlib.Core.Bool.{Bool, true, false}
-use mathlib.Core.Logic.{_⊎_, ⊎-elim}
+use mathlib.Core.Logic.{⊎-elim}
 use mathlib.Core.List.{List, [], _∷_, _++_}
 use lib.Dec.{eqb}
 use Rattle.rules.specs.Basic.{if_then_else_, all}
@@ -20,7 +20,7 @@ use Rattle.rules.specs.Request.{parse, Request}
 use Rattle.rules.specs.Restrict as Restrict
 use Rattle.rules.specs.Run.{ofBytes, events, happens, stateOf, outcomeOf, outcomeAt, outcomes, Call, Event, Serving, serves, byte, reconnected}
 use Rattle.rules.specs.Serve.{rule, decided, decision, serve}
-use Rattle.rules.specs.State.{start, withTokens, withHandles, stationAt, changeStation, numberOf, tokenOf, addToken, findHandle, handleOf, addHandle, State}
+use Rattle.rules.specs.State.{withTokens, withHandles, stationAt, changeStation, numberOf, tokenOf, addToken, findHandle, handleOf, addHandle, State}
 use Rattle.rules.specs.Station.{cleared}
 use Rattle.rules.specs.Table.{orElse, lives, added, Slot, free, live}
 use Rattle.rules.specs.Token.{primary, newToken, Token}
@@ -29,7 +29,7 @@ use Rattle.rules.proofs.Bits.{within-refl, without-within, none-within}
 use Rattle.rules.proofs.Tables.{on-if, in-placed}
 use Rattle.rules.proofs.Facts.{StateFacts}
 use Rattle.rules.proofs.Steps.{_then_}
-use Rattle.rules.proofs.Always.{clears, Happens, event-step, run-happens, start-facts}
+use Rattle.rules.proofs.Always.{clears, Happens, event-step, run-happens}
 
 -- every token of e whose number d had not given has only present privileges of t
 unfoldable Fresh : State → Token → State → Type 0
@@ -125,5 +125,5 @@ of-events (e ∷ es) p h f x m =
     (of-events es (stateOf (happens p e)) (λ y k. h y (there k)) (event-step p e (h e (here refl)) f .facts) x)
     (mem-append (outcomeAt p e) m)
 
-pub no-more : (cs : List Call) → all ofBytes cs ≡ true → (x : Serving) → Mem (serves x) (outcomes (events cs start) start) → NoMore x
-no-more cs w = of-events (events cs start) start (run-happens cs start w) start-facts
+pub no-more : (cs : List Call) (σ : State) → all ofBytes cs ≡ true → StateFacts σ → (x : Serving) → Mem (serves x) (outcomes (events cs σ) σ) → NoMore x
+no-more cs σ w f = of-events (events cs σ) σ (run-happens cs σ w) f

@@ -1,5 +1,5 @@
 -- A request that succeeds takes a valid state to a valid one, and what lasts of its tokens and handles lasts. Assumes nothing.
-use Prim.Native.Nat.{ℕ, _-_, _<_}
+use Prim.Native.Nat.{ℕ, _<_}
 use mathlib.Core.Path.{_≡_, refl}
 use mathlib.Core.Bool.{true, false}
 use mathlib.Core.Logic.{_⊎_, inr}
@@ -37,6 +37,9 @@ _then_ a b = record { facts = b .facts; later = later-trans _ _ _ (a .later) (b 
 pub record Is (d : State) (n : ℕ) : Type 0 where
   pub was : Mem (tokenOf d n) (lives (d .tokens .slots))
   pub number : tokenOf d n .number ≡ n
+
+pub token-ok : (d : State) (n : ℕ) → StateFacts d → Is d n → TokenFacts (tokenOf d n)
+token-ok d n f i = f .loose .eachToken (tokenOf d n) (i .was)
 
 pub is-live : (d : State) (n : ℕ) → Mem n (map numberOf (lives (d .tokens .slots))) → Is d n
 unfolding tokenOf orElse isNumbered numberOf

@@ -1,4 +1,4 @@
--- What holds throughout a list of calls from the start. Assumes nothing.
+-- What holds throughout a list of calls from any valid state. Assumes nothing.
 use native.Mathlib.Nat.{le-refl}
 use native.Mathlib.Omega.{arith}
 use mathlib.Core.Path.{_≡_, refl, sym, _∙_, subst}
@@ -6,13 +6,14 @@ use mathlib.Core.Bool.{true}
 use mathlib.Core.List.{List, [], _∷_, _++_}
 use lib.ListN.{length}
 use Rattle.rules.specs.Basic.{all}
-use Rattle.rules.specs.Growth.{Live, LiveHandle}
 use Rattle.rules.specs.Model.{answers}
 use Rattle.rules.specs.Run.{returned, after, ofBytes, events, outcomes, OneByOne, Call}
-use Rattle.rules.specs.State.{start, State}
+use Rattle.rules.specs.State.{State}
+use Rattle.rules.specs.Valid.{valid}
 use Rattle.rules.specs.Throughout.{Throughout}
 use Rattle.rules.proofs.Runs.{run-end, run-answers, run-timed, cutting, used-up, cut}
-use Rattle.rules.proofs.Always.{always-valid, lasts, never-again, handle-kept, handles-later, handle-numbers, token-numbers, enabled-present, default-present, all-fit}
+use Rattle.rules.proofs.Facts.{valid-facts, facts-valid}
+use Rattle.rules.proofs.Always.{run-step, lasts, handle-kept, handle-numbers, token-numbers, enabled-present, default-present, all-fit}
 use Rattle.rules.proofs.Bound.{bound, closed}
 use Rattle.rules.proofs.Ladder.{ladder}
 use Rattle.rules.proofs.Sources.{no-more}
@@ -23,30 +24,33 @@ unfolding after
 after-append [] ds σ = refl
 after-append (c ∷ cs) ds σ = after-append cs ds (returned σ c .after)
 
--- every list of calls, of bytes
-pub throughout : (cs : List Call) → all ofBytes cs ≡ true → Throughout cs
-throughout cs w =
+-- every list of calls, of bytes, from every valid state
+pub throughout : (σ : State) → valid σ ≡ true → (cs : List Call) → all ofBytes cs ≡ true → Throughout σ cs
+throughout σ v cs w =
+    let f = valid-facts σ v in
+    let τ = after cs σ in
+    let g = run-step cs σ w f .facts in
     record {
-      end = run-end cs start;
-      answers = run-answers cs start;
-      atTheirBytes = run-timed 0 cs start;
-      served = run-timed 0 cs start ∙ answers-served 0 (events cs start) start;
-      oneByOne = subst (OneByOne start (outcomes (events cs start) start)) (sym (run-end cs start)) (one-by-one (events cs start) start);
+      end = run-end cs σ;
+      answers = run-answers cs σ;
+      atTheirBytes = run-timed 0 cs σ;
+      served = run-timed 0 cs σ ∙ answers-served 0 (events cs σ) σ;
+      oneByOne = subst (OneByOne σ (outcomes (events cs σ) σ)) (sym (run-end cs σ)) (one-by-one (events cs σ) σ);
       ladder = λ x m. ladder (x .before) (x .station) (x .body);
-      alike = λ ds e. cutting ds cs start e;
-      usedUp = λ s a room h g. used-up (length a) (after cs start) s a room h g (le-refl _);
-      cutting = λ s a b room h g. cut (after cs start) s a b room (length (a ++ b)) (length a) (length b) h g (omega arith) (omega arith) (omega arith);
-      order = always-valid cs w;
-      lasting = λ more v t u m k e. lasts cs more w v t u m (subst (Live u) (after-append cs more start) k) e;
-      numbers = λ more v. rw (after-append cs more start) (never-again cs more w v);
-      bound = λ more v. rw (after-append cs more start) (bound cs more w v);
-      closed = λ more v. rw (after-append cs more start) (closed cs more w v);
-      handleKept = λ more v h k m n e. handle-kept cs more w v h k m (subst (LiveHandle k) (after-append cs more start) n) e;
-      handles = λ more v. rw (after-append cs more start) (handles-later cs more w v);
-      handleNumbers = handle-numbers cs w;
-      tokenNumbers = token-numbers cs w;
-      enabled = enabled-present cs w;
-      byDefault = default-present cs w;
-      copies = no-more cs w;
-      fit = all-fit cs w;
+      alike = λ ds e. cutting ds cs σ e;
+      usedUp = λ s a bufferLength h k. used-up (length a) τ s a bufferLength h k (le-refl _);
+      cutting = λ s a b bufferLength h k. cut τ s a b bufferLength (length (a ++ b)) (length a) (length b) h k (omega arith) (omega arith) (omega arith);
+      order = facts-valid τ g;
+      lasting = λ more x. rw (after-append cs more σ) (lasts τ g more x);
+      numbers = λ more x. rw (after-append cs more σ) (run-step more τ x g .later);
+      bound = λ more x. rw (after-append cs more σ) (bound τ g more x);
+      closed = λ more x. rw (after-append cs more σ) (closed τ g more x);
+      handleKept = λ more x. rw (after-append cs more σ) (handle-kept τ g more x);
+      handles = λ more x. rw (after-append cs more σ) (run-step more τ x g .handles);
+      handleNumbers = handle-numbers τ g;
+      tokenNumbers = token-numbers τ g;
+      enabled = enabled-present τ g;
+      byDefault = default-present τ g;
+      copies = no-more cs σ w f;
+      fit = all-fit cs σ w f;
     }

@@ -1,10 +1,10 @@
 -- Valid tokens, and what lasts of them, for each change that a request makes to a token and each new token. Assumes nothing.
-use Prim.Native.Nat.{ℕ, _+_, _-_, _%_, _^_}
+use Prim.Native.Nat.{ℕ, _+_, _%_, _^_}
 use native.Mathlib.Nat.{mod-lt}
 use native.Mathlib.Omega.{arith}
 use mathlib.Core.Path.{_≡_, refl, ap, _∙_}
 use mathlib.Core.Bool.{Bool, true, _&&_, _||_}
-use mathlib.Core.Logic.{_⊎_, ⊎-elim}
+use mathlib.Core.Logic.{⊎-elim}
 use mathlib.Core.List.{List, []}
 use lib.Dec.{eqb, leb}
 use lib.ListN.{length, length-append}
@@ -24,12 +24,12 @@ use Rattle.rules.specs.Growth.{Follows}
 use Rattle.rules.specs.Privileges.{existing, markUsed, onlyUsed, Privileges}
 use Rattle.rules.specs.Restrict.{limited, restricted}
 use Rattle.rules.specs.State.{usedOn}
-use Rattle.rules.specs.Token.{maxGroups, maxRestricting, maxDacl, primary, impersonation, noLimits, noDefaults, newToken, withPrivileges, withGroups, withDefaults, withScope, nextModified, Identity, Limits, Defaults, Token}
-use Rattle.rules.specs.Valid.{isByte, is32, is64, between, identityValid, privilegesValid, groupValid, groupsValid, limitsValid, defaultsValid}
+use Rattle.rules.specs.Token.{maxRestricting, maxDacl, primary, impersonation, noLimits, noDefaults, newToken, withPrivileges, withGroups, withDefaults, withScope, nextModified, Identity, Limits, Defaults, Token}
+use Rattle.rules.specs.Valid.{isByte, is32, is64, between, identityValid, privilegesValid, groupsValid, limitsValid, defaultsValid}
 use Rattle.rules.proofs.Logic.{and-l, and-r, and-i, or-e, all-append}
 use Rattle.rules.proofs.Bits.{within-refl, power-within}
 use Rattle.rules.proofs.Tables.{on-if}
-use Rattle.rules.proofs.Facts.{TokenFacts}
+use Rattle.rules.proofs.Facts.{TokenFacts, each-group}
 use Rattle.rules.proofs.PrivilegesKept as P
 use Rattle.rules.proofs.PrivilegesKept.{sound, order, Fewer}
 use Rattle.rules.proofs.GroupsKept as G
@@ -83,13 +83,9 @@ pub privileges-after : (t : Token) (es : List Entry) → (AdjustPrivileges.isRes
 unfolding AdjustPrivileges.adjustedToken
 privileges-after t es h f = and-next t _ (with-privileges t _ f (P.adjusts es (t .privileges) h (sound _ (f .privileges))))
 
-each-group : (t : Token) → TokenFacts t → all groupValid (t .groups) ≡ true
-unfolding groupsValid
-each-group t f = let k : groupsValid (t .groups) ≡ true = f .groups in and-r (leb (length (t .groups)) maxGroups) (all groupValid (t .groups)) k
-
 pub groups-after : (t : Token) (es : List Entry) → (AdjustGroups.isReset es || all (AdjustGroups.unprotected t) es) ≡ true → TokenFacts t → After t (AdjustGroups.adjustedToken es t)
 unfolding AdjustGroups.adjustedToken
-groups-after t es h f = and-next t _ (with-groups t _ f (G.adjusts es t h (each-group t f)))
+groups-after t es h f = and-next t _ (with-groups t _ f (G.adjusts es t h (each-group (t .groups) (f .groups))))
 
 pub scope-after : (t : Token) (v : ℕ) → is32 v ≡ true → TokenFacts t → After t (scopedToken v t)
 unfolding scopedToken
@@ -183,7 +179,7 @@ pub restricted-made : (t : Token) (n mark removed : ℕ) (deny sids : List ℕ) 
 unfolding restricted between
 restricted-made t n mark removed deny sids w l s f =
     let k = P.removed removed (t .privileges) (sound _ (f .privileges)) in
-    let g = G.all-denied deny (t .groups) (each-group t f) in
+    let g = G.all-denied deny (t .groups) (each-group (t .groups) (f .groups)) in
     let fewer = order _ (k .sound) in
     let denied = groups-in-order g (f .groups) in
     let limited = limited-ok mark sids (t .limits) l s (f .limits) in

@@ -3,7 +3,7 @@ use Prim.Native.Nat.{ℕ, _+_}
 use native.Mathlib.Omega.{arith}
 use mathlib.Core.Path.{_≡_, refl, sym, ap, _∙_, subst}
 use mathlib.Core.Bool.{Bool, true, false}
-use mathlib.Core.List.{List, [], _∷_}
+use mathlib.Core.List.{List, [], _∷_, map}
 use lib.Dec.{leb, ltb}
 use Rattle.rules.specs.Basic.{if_then_else_, all}
 use Rattle.rules.specs.Refusal.{noStation, shortBuffer, invalidMemory}
@@ -11,15 +11,15 @@ use Rattle.rules.specs.State.{State, start, stationCount}
 use Rattle.rules.specs.Frame.{maxAnswer}
 use Rattle.rules.specs.Model.{Result, Step, silent, answers, step, refused, fedOn, fedFrom, feed, reconnect}
 use Rattle.rules.specs.Valid as Valid
-use Rattle.rules.specs.Memory.{Memory, sized, encode, decode, valid}
+use Rattle.rules.specs.Memory.{encode, decode, valid}
 use Rattle.rules.specs.Run.{Call, feeds, reconnects, returned, after, ofBytes}
 use Rattle.rules.specs.Growth.{Mem, here, there}
 use Rattle.rules.specs.Calls.{Done, refusedOn, written, startOn, feedOn, reconnectOn}
-use Rattle.rules.specs.WholeList.{Return, doneBy, memoryAfter, returnsOn, returnsOf, WholeList}
+use Rattle.rules.specs.WholeList.{doneBy, memoryAfter, returnsOn, returnsOf, WholeList, AfterStart}
 use Rattle.rules.proofs.Logic.{and-l, and-r, and-i, mem-none}
 use Rattle.rules.proofs.Tables.{on-if}
-use Rattle.rules.proofs.Facts.{StateFacts, facts-valid}
-use Rattle.rules.proofs.Always.{run-step, start-facts}
+use Rattle.rules.proofs.Facts.{StateFacts, valid-facts, facts-valid}
+use Rattle.rules.proofs.Always.{start-valid, run-step}
 use Rattle.rules.proofs.Runs.{cutting}
 use Rattle.rules.proofs.Memory.{read-back, written-valid}
 use Rattle.rules.proofs.Throughout.{throughout}
@@ -40,7 +40,7 @@ module _ (σ : State) (v : Valid.valid σ ≡ true) where
 
   pub call-done : (c : Call) → doneBy (encode σ) c ≡ written (returned σ c)
   unfolding doneBy returned feedOn feed reconnectOn
-  call-done (feeds s chunk room) = feeding (leb stationCount s) (ltb room maxAnswer)
+  call-done (feeds s chunk bufferLength) = feeding (leb stationCount s) (ltb bufferLength maxAnswer)
     where
       feeding : (a b : Bool) → (if a then refusedOn noStation (encode σ) else if b then refusedOn shortBuffer (encode σ) else if valid (encode σ) then written (fedFrom 0 s chunk (decode (encode σ))) else refusedOn invalidMemory (encode σ))
           ≡ written (if a then refused noStation σ else if b then refused shortBuffer σ else fedFrom 0 s chunk σ)
@@ -63,17 +63,16 @@ memory-is : (cs : List Call) (σ : State) → all ofBytes cs ≡ true → StateF
 unfolding memoryAfter after all written
 memory-is [] σ w f = refl
 memory-is (c ∷ cs) σ w f =
-    ap (λ (d : Done). memoryAfter cs (d .memory)) (call-done σ (facts-valid σ f) c)
+    ap (λ (d : Done). memoryAfter cs (d .after)) (call-done σ (facts-valid σ f) c)
     ∙ memory-is cs (returned σ c .after) (and-r (ofBytes c) (all ofBytes cs) w) (call-valid σ c (and-l (ofBytes c) (all ofBytes cs) w) f)
 
-returns-are : (cs : List Call) (σ : State) → all ofBytes cs ≡ true → StateFacts σ → returnsOn cs (encode σ) ≡ returnsOf cs σ
+returns-are : (cs : List Call) (σ : State) → all ofBytes cs ≡ true → StateFacts σ → returnsOn cs (encode σ) ≡ map written (returnsOf cs σ)
 unfolding returnsOn returnsOf all written
 returns-are [] σ w f = refl
 returns-are (c ∷ cs) σ w f =
     let r = returned σ c in
-    ap (λ (d : Done). record { refusal = d .refusal; used = d .used; answer = d .answer } ∷ returnsOn cs (d .memory)) (call-done σ (facts-valid σ f) c)
-    ∙ ap (λ rs. record { refusal = r .refusal; used = r .used; answer = r .answer } ∷ rs)
-    (returns-are cs (r .after) (and-r (ofBytes c) (all ofBytes cs) w) (call-valid σ c (and-l (ofBytes c) (all ofBytes cs) w) f))
+    ap (λ (d : Done). d ∷ returnsOn cs (d .after)) (call-done σ (facts-valid σ f) c)
+    ∙ ap (λ ds. written r ∷ ds) (returns-are cs (r .after) (and-r (ofBytes c) (all ofBytes cs) w) (call-valid σ c (and-l (ofBytes c) (all ofBytes cs) w) f))
 
 -- ---- no call of the model is refused by 13
 
@@ -91,30 +90,29 @@ fed-taken (b ∷ bytes) n s σ = on-step (step σ s b) (fed-taken bytes (n + 1) 
 
 call-returns : (σ : State) (c : Call) → Returns (returned σ c)
 unfolding returned feed reconnect refused Returns
-call-returns σ (feeds s chunk room) =
-    on-if Returns (leb stationCount s) _ _ (λ t e. omega arith) (λ t. on-if Returns (ltb room maxAnswer) _ _ (λ u e. omega arith) (λ u e. let z = fed-taken chunk 0 s σ in omega arith))
+call-returns σ (feeds s chunk bufferLength) =
+    on-if Returns (leb stationCount s) _ _ (λ t e. omega arith) (λ t. on-if Returns (ltb bufferLength maxAnswer) _ _ (λ u e. omega arith) (λ u e. let z = fed-taken chunk 0 s σ in omega arith))
 call-returns σ (reconnects s) = on-if Returns (leb stationCount s) _ _ (λ t e. omega arith) (λ t e. omega arith)
 
-not13 : (cs : List Call) (σ : State) (r : Return) → Mem r (returnsOf cs σ) → r .refusal ≡ invalidMemory → ⊥
-unfolding returnsOf Returns
-not13 [] σ r m q = mem-none m
-not13 (c ∷ cs) σ r (here e) q = call-returns σ c (sym (ap (λ (x : Return). x .refusal) e) ∙ q)
-not13 (c ∷ cs) σ r (there m) q = not13 cs (returned σ c .after) r m q
+not13 : (cs : List Call) (σ : State) (d : Done) → Mem d (map written (returnsOf cs σ)) → d .refusal ≡ invalidMemory → ⊥
+unfolding returnsOf Returns written
+not13 [] σ d m q = mem-none m
+not13 (c ∷ cs) σ d (here e) q = call-returns σ c (sym (ap (λ (x : Done). x .refusal) e) ∙ q)
+not13 (c ∷ cs) σ d (there m) q = not13 cs (returned σ c .after) d m q
 
--- start overwrites any memory of the right size
-from-start : (m : Memory) → sized m ≡ true → startOn m .memory ≡ encode start
-unfolding startOn
-from-start m h = rw h
-
--- every list of calls, of bytes
-pub whole-list : (cs : List Call) → all ofBytes cs ≡ true → WholeList cs
-whole-list cs w =
-    let mine = memory-is cs start w start-facts in
+-- every list of calls, of bytes, from every valid state
+pub whole-list : (σ : State) → Valid.valid σ ≡ true → (cs : List Call) → all ofBytes cs ≡ true → WholeList σ cs
+whole-list σ v cs w =
+    let f = valid-facts σ v in
+    let mine = memory-is cs σ w f in
     record {
-      fromStart = from-start;
       memory = mine;
-      returns = returns-are cs start w start-facts;
-      never13 = λ r m. not13 cs start r (subst (Mem r) (returns-are cs start w start-facts) m);
-      sameMemory = λ ds v e. memory-is ds start v start-facts ∙ ap encode (cutting ds cs start e .end) ∙ sym mine;
-      throughout = throughout cs w;
+      returns = returns-are cs σ w f;
+      never13 = λ r m. not13 cs σ r (subst (Mem r) (returns-are cs σ w f) m);
+      sameMemory = λ ds x e. memory-is ds σ x f ∙ ap encode (cutting ds cs σ e .end) ∙ sym mine;
+      throughout = throughout σ v cs w;
     }
+
+pub after-start : (cs : List Call) → all ofBytes cs ≡ true → AfterStart cs
+unfolding startOn
+after-start cs w = record { begun = λ m h. rw h; whole = whole-list start start-valid cs w }

@@ -8,7 +8,7 @@ use Rattle.rules.specs.Basic.{if_then_else_, all, changeAt}
 use Rattle.rules.specs.Number.{encodeAll, max32}
 use Rattle.rules.specs.Mask.{adjustGroups}
 use Rattle.rules.specs.Refusal.{badField, protectedGroup}
-use Rattle.rules.specs.Group.{Group, noGroup, isOn, isOnByDefault, isDenyOnly, isFixed, switched}
+use Rattle.rules.specs.Group.{Group, noGroup, isEnabled, isEnabledByDefault, isDenyOnly, isFixed, withEnabled}
 use Rattle.rules.specs.Token.{Token, withGroups, nextModified}
 use Rattle.rules.specs.State.{State, changeToken}
 use Rattle.rules.specs.Entry.{Entry, isOnly, validEntries, applyAll}
@@ -30,27 +30,27 @@ unfoldable pub unprotected : Token → Entry → Bool
 unprotected t e = maySwitch (t .identity .user) e.value (getD t.groups e.key noGroup)
 
 unfoldable pub applied : Entry → List Group → List Group
-applied e gs = changeAt e.key (switched (eqb e.value 1)) gs
+applied e gs = changeAt e.key (withEnabled (eqb e.value 1)) gs
 
 -- ENABLED from value 2, but in deny-only groups
 unfoldable pub resetGroup : Group → Group
-resetGroup g = if isDenyOnly g then g else switched (isOnByDefault g) g
+resetGroup g = if isDenyOnly g then g else withEnabled (isEnabledByDefault g) g
 
 unfoldable pub adjusted : List Entry → List Group → List Group
 adjusted es gs = if isReset es then map resetGroup gs else applyAll applied es gs
 
 -- the ENABLED bits, group i at bit i
-unfoldable pub onBits : List Group → ℕ
-onBits [] = 0
-onBits (g ∷ gs) = (if isOn g then 1 else 0) + 2 * onBits gs
+unfoldable pub enabledBits : List Group → ℕ
+enabledBits [] = 0
+enabledBits (g ∷ gs) = (if isEnabled g then 1 else 0) + 2 * enabledBits gs
 
 abbrev pub reportWords : ℕ
 reportWords = 16
 
 -- k words of ENABLED bits, 64 groups to a word
-unfoldable pub onWords : ℕ → List Group → List ℕ
-onWords zero gs = []
-onWords (suc k) gs = onBits (take 64 gs) ∷ onWords k (drop 64 gs)
+unfoldable pub enabledWords : ℕ → List Group → List ℕ
+enabledWords zero gs = []
+enabledWords (suc k) gs = enabledBits (take 64 gs) ∷ enabledWords k (drop 64 gs)
 
 unfoldable pub adjustedToken : List Entry → Token → Token
 adjustedToken es t = nextModified (withGroups (adjusted es t.groups) t)
@@ -60,4 +60,4 @@ adjust σ s n es =
     withHandle σ s n adjustGroups λ h t.
     need isReset es || validEntries (validEntry t.groups) es else badField then
     need isReset es || all (unprotected t) es else protectedGroup then
-    success (changeToken h.token (adjustedToken es) σ) (encodeAll (onWords reportWords t.groups))
+    success (changeToken h.token (adjustedToken es) σ) (encodeAll (enabledWords reportWords t.groups))

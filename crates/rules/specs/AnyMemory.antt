@@ -1,4 +1,4 @@
--- What holds of every feed and reconnect on any memory, and not only on memory that calls from the start reach. Assumes nothing.
+-- What holds of every feed and reconnect on any memory, valid or not. Assumes nothing.
 use Prim.Native.Nat.{ℕ, _≤_}
 use mathlib.Core.Path.{_≡_}
 use mathlib.Core.Bool.{true}
@@ -6,10 +6,11 @@ use mathlib.Core.Logic.{_⊎_}
 use mathlib.Core.List.{List, [], _∷_}
 use lib.ListN.{length, take, drop}
 use Rattle.table.specs.Column.{column}
-use Rattle.rules.specs.Refusal.{streamBroken, noStation, shortBuffer, invalidMemory}
+use Rattle.table.specs.Sections.{section}
+use Rattle.rules.specs.Refusal.{ranks, streamBroken, noStation, shortBuffer, invalidMemory}
 use Rattle.rules.specs.State.{stationCount}
 use Rattle.rules.specs.Frame.{Framed, part, broken, whole, framed, maxAnswer}
-use Rattle.rules.specs.Memory.{Memory, counterWords, stationWords, valid}
+use Rattle.rules.specs.Memory.{Memory, stationWords, primaryWord, counterSection, controlSizes, stationWordAt, valid}
 use Rattle.rules.specs.Run.{Call, ofBytes}
 use Rattle.rules.specs.Growth.{Mem}
 use Rattle.rules.specs.Calls.{refusedOn}
@@ -31,11 +32,11 @@ statuses answer = statusesIn (framed answer)
 
 -- the next numbers of tokens and of handles
 unfoldable pub counters : Memory → List ℕ
-counters m = take counterWords m.stations
+counters m = section controlSizes counterSection m.control
 
--- each station's primary token, the first word of its row
+-- each station's primary token, a word of its row
 unfoldable pub primaries : Memory → List ℕ
-primaries m = column stationWords stationCount (drop counterWords m.stations)
+primaries m = column stationWords stationCount (drop (stationWordAt 0 primaryWord) m.control)
 
 pub record LeftAlone (m m′ : Memory) : Type 0 where
   pub tokens : m′ .tokens ≡ m .tokens
@@ -51,14 +52,14 @@ pub record AnyMemory (m : Memory) (c : Call) : Type 0 where
   pub fits : length (doneBy m c .answer) ≤ maxAnswer
   -- an answer is one valid frame
   pub isAnswer : (doneBy m c .answer ≡ []) ⊎ IsAnswer (doneBy m c .answer)
-  -- 'an answer or a refusal from our list': a status is one of 0 to 10
-  pub status : (n : ℕ) → Mem n (statuses (doneBy m c .answer)) → n ≤ streamBroken
+  -- 'an answer or a refusal from our list': a status is 10, 0 or a request's refusal
+  pub status : (n : ℕ) → Mem n (statuses (doneBy m c .answer)) → Mem n (streamBroken ∷ 0 ∷ ranks)
   -- 'a refusal from our list': a call is taken, or refused by 11, 12 or 13
   pub listed : Mem (doneBy m c .refusal) (0 ∷ noStation ∷ shortBuffer ∷ invalidMemory ∷ [])
   -- a call that is refused alters, uses and answers nothing
   pub refused : (doneBy m c .refusal ≡ 0 → ⊥) → doneBy m c ≡ refusedOn (doneBy m c .refusal) m
   -- 'a refusal alters no token, no handle and no counter', and no station's primary token: nor does a part, a break or a reconnect. Only a
   -- request that is answered 0 does
-  pub leftAlone : (Mem 0 (statuses (doneBy m c .answer)) → ⊥) → LeftAlone m (doneBy m c .memory)
+  pub leftAlone : (Mem 0 (statuses (doneBy m c .answer)) → ⊥) → LeftAlone m (doneBy m c .after)
   -- memory in order stays in order
-  pub order : valid m ≡ true → ofBytes c ≡ true → valid (doneBy m c .memory) ≡ true
+  pub order : valid m ≡ true → ofBytes c ≡ true → valid (doneBy m c .after) ≡ true

@@ -7,32 +7,28 @@ use Rattle.rules.specs.Basic.{if_then_else_}
 use Rattle.rules.specs.Refusal.{noStation, shortBuffer, invalidMemory}
 use Rattle.rules.specs.State.{start, stationCount}
 use Rattle.rules.specs.Frame.{maxAnswer}
-use Rattle.rules.specs.Model.{Result, fedFrom, reconnect}
+use Rattle.rules.specs.Model.{Return, Result, fedFrom, reconnect}
 use Rattle.rules.specs.Memory.{Memory, sized, encode, decode, valid}
 
--- what a call returns, and the memory after it
-pub record Done : Type 0 where
-  pub refusal : ℕ
-  pub used : ℕ
-  pub answer : List ℕ
-  pub memory : Memory
+abbrev pub Done : Type 0
+Done = Return Memory
 
 -- nothing is used, answered or written
 unfoldable pub refusedOn : ℕ → Memory → Done
-refusedOn n m = record { refusal = n; used = 0; answer = []; memory = m }
+refusedOn n m = record { refusal = n; used = 0; answer = []; after = m }
 
 unfoldable pub written : Result → Done
-written r = record { refusal = r.refusal; used = r.used; answer = r.answer; memory = encode r.after }
+written r = record { refusal = r.refusal; used = r.used; answer = r.answer; after = encode r.after }
 
 -- any memory of the right size is overwritten
 unfoldable pub startOn : Memory → Done
-startOn m = if sized m then record { refusal = 0; used = 0; answer = []; memory = encode start } else refusedOn invalidMemory m
+startOn m = if sized m then record { refusal = 0; used = 0; answer = []; after = encode start } else refusedOn invalidMemory m
 
 -- a station's chunk, and the length of the answer buffer: 11, 12, 13 in that order, then the model
 unfoldable pub feedOn : Memory → ℕ → List ℕ → ℕ → Done
-feedOn m s chunk room =
+feedOn m s chunk bufferLength =
     if leb stationCount s then refusedOn noStation m else
-    if ltb room maxAnswer then refusedOn shortBuffer m else
+    if ltb bufferLength maxAnswer then refusedOn shortBuffer m else
     if valid m then written (fedFrom 0 s chunk (decode m)) else
     refusedOn invalidMemory m
 

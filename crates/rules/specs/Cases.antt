@@ -61,7 +61,7 @@ pub data Row : Type 0 where
 
 unfoldable pub table : List Row
 table =
-    -- A to D: open with mask 0x28, disable Tcb, ask for the privileges with room 64, 18 and 19
+    -- A to D: open with mask 0x28, disable Tcb, ask for the privileges with capacity 64, 18 and 19
     (answers (at 0 (openWith 0x28 ∷ adjust 7 0 ∷ queryWords 0x40 ∷ queryWords 18 ∷ queryWords 19 ∷ []))
     gives handle 1 ∷ (0x03 ∷ 0x00 ∷ 0x80 ∷ 0x01 ∷ []) ∷ words ∷ (0x02 ∷ 0x09 ∷ 0x13 ∷ []) ∷ words ∷ [])
     -- E: a body of 2,048 bytes is served at its last one (no request is numbered 0)

@@ -9,7 +9,7 @@ use Rattle.rules.specs.Bits.{has, within}
 use Rattle.rules.specs.Mask.{allRights}
 use Rattle.rules.specs.Refusal.{privilegeNotHeld, badField, tableFull}
 use Rattle.rules.specs.Privileges.{existing, createToken, granted}
-use Rattle.rules.specs.Group.{Group, isOnByDefault, isDenyOnly, isFixed, switched}
+use Rattle.rules.specs.Group.{Group, isEnabledByDefault, isDenyOnly, isFixed, withEnabled}
 use Rattle.rules.specs.Token.{maxGroups, primaryOf, newToken}
 use Rattle.rules.specs.State.{State, held, used}
 use Rattle.rules.specs.Decision.{Decision, need_else_then_, canIssue, issued}
@@ -23,8 +23,8 @@ unfoldable pub validPair : ℕ → Group → Bool
 validPair user g =
     within g.attributes givable
     && bothOrNeither (has 30 g.attributes) (has 31 g.attributes)
-    && implies (isFixed user g) (isOnByDefault g)
-    && implies (isDenyOnly g) (not (isOnByDefault g))
+    && implies (isFixed user g) (isEnabledByDefault g)
+    && implies (isDenyOnly g) (not (isEnabledByDefault g))
 
 unfoldable pub validIntegrity : ℕ → Bool
 validIntegrity i = member i (0 ∷ 4096 ∷ 8192 ∷ 12288 ∷ 16384 ∷ [])
@@ -39,7 +39,7 @@ validCreate user integrity present byDefault gs =
 
 -- ENABLED is set from value 2
 unfoldable pub entered : Group → Group
-entered g = if isOnByDefault g then switched true g else g
+entered g = if isEnabledByDefault g then withEnabled true g else g
 
 unfoldable pub create : State → ℕ → ℕ → ℕ → ℕ → ℕ → ℕ → List Group → Decision
 create σ s user session integrity present byDefault gs =

@@ -1,4 +1,4 @@
--- How a request is decided: its checks, lowest refusal first, then its effect. Assumes nothing.
+-- How a request is decided: its checks, the refusal of lowest rank first, then its effect. Assumes nothing.
 use Prim.Native.Nat.{ℕ}
 use mathlib.Core.Bool.{Bool, true, false, _&&_}
 use mathlib.Core.List.{List, _∷_}

@@ -17,12 +17,11 @@ noGroup = record { sid = 0; attributes = 0 }
 unfoldable pub isMandatory : Group → Bool
 isMandatory g = has 0 g.attributes
 
-unfoldable pub isOnByDefault : Group → Bool
-isOnByDefault g = has 1 g.attributes
+unfoldable pub isEnabledByDefault : Group → Bool
+isEnabledByDefault g = has 1 g.attributes
 
--- ENABLED
-unfoldable pub isOn : Group → Bool
-isOn g = has 2 g.attributes
+unfoldable pub isEnabled : Group → Bool
+isEnabled g = has 2 g.attributes
 
 unfoldable pub isOwner : Group → Bool
 isOwner g = has 3 g.attributes
@@ -40,9 +39,9 @@ isFixed user g = isMandatory g || isLogon g || eqb g.sid user
 -- ---- changes
 
 -- ENABLED set to a value
-unfoldable pub switched : Bool → Group → Group
-switched true g = record { sid = g.sid; attributes = bitOr g.attributes 4 }
-switched false g = record { sid = g.sid; attributes = without g.attributes 4 }
+unfoldable pub withEnabled : Bool → Group → Group
+withEnabled true g = record { sid = g.sid; attributes = bitOr g.attributes 4 }
+withEnabled false g = record { sid = g.sid; attributes = without g.attributes 4 }
 
 -- DENY_ONLY gained and ENABLED lost
 unfoldable pub denied : Group → Group

@@ -31,12 +31,15 @@ step σ s b = byteAt σ s (stationAt σ s) b
 
 -- ---- calls
 
--- what a call returns (its refusal, the bytes used, the answer) and the state after it
-pub record Result : Type 0 where
+-- what a call returns (its refusal, the bytes used, the answer), and what is there after it: a state of the model, or lent memory
+pub record Return (A : Type 0) : Type 0 where
   pub refusal : ℕ
   pub used : ℕ
   pub answer : List ℕ
-  pub after : State
+  pub after : A
+
+abbrev pub Result : Type 0
+Result = Return State
 
 unfoldable pub refused : ℕ → State → Result
 refused n σ = record { refusal = n; used = 0; answer = []; after = σ }
@@ -53,9 +56,9 @@ fedFrom n s (b ∷ bytes) σ = fedOn (n + 1) (λ τ. fedFrom (n + 1) s bytes τ)
 
 -- a chunk (document 01's 'piece') from a station, and the length of the answer buffer
 unfoldable pub feed : State → ℕ → List ℕ → ℕ → Result
-feed σ s chunk room =
+feed σ s chunk bufferLength =
     if leb stationCount s then refused noStation σ else
-    if ltb room maxAnswer then refused shortBuffer σ else
+    if ltb bufferLength maxAnswer then refused shortBuffer σ else
     fedFrom 0 s chunk σ
 
 -- the part request and the break are dropped, nothing else

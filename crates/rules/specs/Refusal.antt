@@ -1,6 +1,6 @@
 -- The refusals, with document 01's numbers. Assumes nothing.
 use Prim.Native.Nat.{ℕ}
-use mathlib.Core.List.{List, []}
+use mathlib.Core.List.{List, [], _∷_}
 use Rattle.rules.specs.Number.{encode}
 
 -- a refusal of a request: its number, and what the answer says after it
@@ -42,6 +42,10 @@ tableFull = refusal 8
 -- the capacity given is below the query's size, which is told
 unfoldable pub capacityBelow : ℕ → Refusal
 capacityBelow size = record { number = 9; report = encode size }
+
+-- by rank: of the refusals that apply to a request it gets the first here ('lowest of 1 to 9')
+abbrev pub ranks : List ℕ
+ranks = 1 ∷ 2 ∷ 3 ∷ 4 ∷ 5 ∷ 6 ∷ 7 ∷ 8 ∷ 9 ∷ []
 
 -- ---- the stream: answered once, at the byte that breaks it
 

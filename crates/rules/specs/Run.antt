@@ -20,7 +20,7 @@ pub data Call : Type 0 where
   reconnects : ℕ → Call
 
 unfoldable pub returned : State → Call → Result
-returned σ (feeds s chunk room) = feed σ s chunk room
+returned σ (feeds s chunk bufferLength) = feed σ s chunk bufferLength
 returned σ (reconnects s) = reconnect σ s
 
 -- the state after a list of calls
@@ -39,7 +39,7 @@ answered (c ∷ cs) σ = noted (returned σ c .answer) (answered cs (returned σ
 
 -- a chunk is of bytes
 unfoldable pub ofBytes : Call → Bool
-ofBytes (feeds s chunk room) = all isByte chunk
+ofBytes (feeds s chunk bufferLength) = all isByte chunk
 ofBytes (reconnects s) = true
 
 -- ---- events: used bytes, and reconnects that are not refused
@@ -49,7 +49,7 @@ pub data Event : Type 0 where
   reconnected : ℕ → Event
 
 unfoldable pub eventsOf : State → Call → List Event
-eventsOf σ (feeds s chunk room) = map (byte s) (take (feed σ s chunk room .used) chunk)
+eventsOf σ (feeds s chunk bufferLength) = map (byte s) (take (feed σ s chunk bufferLength .used) chunk)
 eventsOf σ (reconnects s) = if leb stationCount s then [] else reconnected s ∷ []
 
 unfoldable pub events : List Call → State → List Event
@@ -85,14 +85,14 @@ pub record Timed : Type 0 where
   pub answer : List ℕ
 
 unfoldable pub stationOf : Call → ℕ
-stationOf (feeds s chunk room) = s
+stationOf (feeds s chunk bufferLength) = s
 stationOf (reconnects s) = s
 
 unfoldable pub notedAt : ℕ → ℕ → List ℕ → List Timed → List Timed
 notedAt n s [] rest = rest
 notedAt n s (b ∷ bytes) rest = record { event = n; station = s; answer = b ∷ bytes } ∷ rest
 
--- of calls, n events after the start: a call's answer comes with its last event
+-- of calls, after n events: a call's answer comes with its last event
 unfoldable pub timed : ℕ → List Call → State → List Timed
 timed n [] σ = []
 timed n (c ∷ cs) σ =
@@ -114,10 +114,10 @@ timedTo n (e ∷ es) σ = toldAt (n + 1) (placeOf e) (happens σ e) (timedTo (n 
 -- ---- a chunk fed until it is used up, in at most k feeds
 
 unfoldable pub untilUsed : ℕ → State → ℕ → List ℕ → ℕ → List Call
-untilUsed zero σ s chunk room = []
-untilUsed (suc k) σ s [] room = []
-untilUsed (suc k) σ s (b ∷ chunk) room =
-    let r = feed σ s (b ∷ chunk) room in feeds s (b ∷ chunk) room ∷ untilUsed k (r .after) s (drop (r .used) (b ∷ chunk)) room
+untilUsed zero σ s chunk bufferLength = []
+untilUsed (suc k) σ s [] bufferLength = []
+untilUsed (suc k) σ s (b ∷ chunk) bufferLength =
+    let r = feed σ s (b ∷ chunk) bufferLength in feeds s (b ∷ chunk) bufferLength ∷ untilUsed k (r .after) s (drop (r .used) (b ∷ chunk)) bufferLength
 
 -- ---- what the streams' bytes come to, in the order of the last byte of each: a whole body, with the state that it is served on, or a break
 
@@ -155,7 +155,7 @@ unfoldable pub answeredAt : ℕ → Outcome → Timed
 answeredAt n (serves x) = record { event = n; station = x .station; answer = answerTo (serves x) }
 answeredAt n (breaks s) = record { event = n; station = s; answer = answerTo (breaks s) }
 
--- each answered at its last byte, n events after the start
+-- each answered at its last byte, after n events
 unfoldable pub answeredFrom : ℕ → List Event → State → List Timed
 answeredFrom n [] σ = []
 answeredFrom n (e ∷ es) σ = map (answeredAt (n + 1)) (outcomeAt σ e) ++ answeredFrom (n + 1) es (stateOf (happens σ e))

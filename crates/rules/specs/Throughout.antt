@@ -1,4 +1,4 @@
--- What holds throughout a list of calls from the start: demand 3, of the model. Assumes nothing.
+-- What holds throughout a list of calls from any valid state: demand 3, of the model. Assumes nothing.
 use Prim.Native.Nat.{ℕ, _≤_, _<_}
 use mathlib.Core.Path.{_≡_}
 use mathlib.Core.Bool.{true}
@@ -11,7 +11,7 @@ use Rattle.rules.specs.Number.{max32, max64}
 use Rattle.rules.specs.Token.{Token}
 use Rattle.rules.specs.Handle.{Handle}
 use Rattle.rules.specs.Table.{free, live}
-use Rattle.rules.specs.State.{State, start, stationCount, findHandle}
+use Rattle.rules.specs.State.{State, stationCount, findHandle}
 use Rattle.rules.specs.Frame.{frame, framed, whole, maxAnswer}
 use Rattle.rules.specs.Valid.{valid}
 use Rattle.rules.specs.Ladder.{Ladder}
@@ -30,54 +30,54 @@ pub record Same (cs ds : List Call) (σ : State) : Type 0 where
   pub answers : answered cs σ ≡ answered ds σ
   pub end : after cs σ ≡ after ds σ
 
-pub record Throughout (cs : List Call) : Type 0 where
+pub record Throughout (σ : State) (cs : List Call) : Type 0 where
   -- the end and the answers are those of the used bytes and reconnects, one by one (Model.step)
-  pub end : after cs start ≡ afterEvents (events cs start) start
-  pub answers : answered cs start ≡ answersTo (events cs start) start
+  pub end : after cs σ ≡ afterEvents (events cs σ) σ
+  pub answers : answered cs σ ≡ answersTo (events cs σ) σ
   -- each answer comes from the call that ends with the byte that brings it, at that byte's station
-  pub atTheirBytes : timed 0 cs start ≡ timedTo 0 (events cs start) start
+  pub atTheirBytes : timed 0 cs σ ≡ timedTo 0 (events cs σ) σ
   -- 'whole requests are served one by one under demand 2, in the order of their last bytes, each answered at that byte, and a broken stream is
   -- answered 10 at the byte that breaks it': the answers are those of the bodies and of the breaks, each with its last byte, in that order
-  pub served : timed 0 cs start ≡ answeredFrom 0 (events cs start) start
-  pub oneByOne : OneByOne start (outcomes (events cs start) start) (after cs start)
-  pub ladder : (x : Serving) → Mem (serves x) (outcomes (events cs start) start) → Ladder (x .before) (x .station) (x .body)
+  pub served : timed 0 cs σ ≡ answeredFrom 0 (events cs σ) σ
+  pub oneByOne : OneByOne σ (outcomes (events cs σ) σ) (after cs σ)
+  pub ladder : (x : Serving) → Mem (serves x) (outcomes (events cs σ) σ) → Ladder (x .before) (x .station) (x .body)
   -- 'two lists alike in the order of reconnects and used bytes, with their stations, give the same answers and the same memory'
-  pub alike : (ds : List Call) → events ds start ≡ events cs start → Same ds cs start
+  pub alike : (ds : List Call) → events ds σ ≡ events cs σ → Same ds cs σ
   -- 'a piece that is fed until used up': all its bytes are used, and nothing else happens
-  pub usedUp : (s : ℕ) (a : List ℕ) (room : ℕ) → s < stationCount → maxAnswer ≤ room
-      → let σ = after cs start in
-      events (untilUsed (length a) σ s a room) σ ≡ map (byte s) a
+  pub usedUp : (s : ℕ) (a : List ℕ) (bufferLength : ℕ) → s < stationCount → maxAnswer ≤ bufferLength
+      → let τ = after cs σ in
+      events (untilUsed (length a) τ s a bufferLength) τ ≡ map (byte s) a
   -- 'cutting a piece that is fed until used up changes nothing'
-  pub cutting : (s : ℕ) (a b : List ℕ) (room : ℕ) → s < stationCount → maxAnswer ≤ room
-      → let σ = after cs start in
-      let first = untilUsed (length a) σ s a room in
-      Same (untilUsed (length (a ++ b)) σ s (a ++ b) room) (first ++ untilUsed (length b) (after first σ) s b room) σ
+  pub cutting : (s : ℕ) (a b : List ℕ) (bufferLength : ℕ) → s < stationCount → maxAnswer ≤ bufferLength
+      → let τ = after cs σ in
+      let first = untilUsed (length a) τ s a bufferLength in
+      Same (untilUsed (length (a ++ b)) τ s (a ++ b) bufferLength) (first ++ untilUsed (length b) (after first τ) s b bufferLength) τ
   -- 13 never comes: memory is in order
-  pub order : valid (after cs start) ≡ true
+  pub order : valid (after cs σ) ≡ true
   -- 'a token's present privileges never grow, used marks and deny-only marks (a group's or the user's) stay': of a token that is live
   -- here and after more calls
-  pub lasting : (more : List Call) → all ofBytes more ≡ true → (t u : Token) → Live t (after cs start) → Live u (after (cs ++ more) start)
+  pub lasting : (more : List Call) → all ofBytes more ≡ true → (t u : Token) → Live t (after cs σ) → Live u (after (cs ++ more) σ)
       → u .number ≡ t .number → Follows t u
   -- after more calls each token has a number not given here yet, or was here: no number comes twice
-  pub numbers : (more : List Call) → all ofBytes more ≡ true → Later (after cs start .tokens) (after (cs ++ more) start .tokens)
+  pub numbers : (more : List Call) → all ofBytes more ≡ true → Later (after cs σ .tokens) (after (cs ++ more) σ .tokens)
   -- no 'request begun under one operator's handle' is 'finished against the token that had taken its place': what a handle's number stands
   -- for here it stands for after more calls, or for nothing, and a number that was given and stands for nothing here never will
-  pub bound : (more : List Call) → all ofBytes more ≡ true → (s n : ℕ) (h : Handle) → findHandle (after cs start) s n ≡ live h
-      → (findHandle (after (cs ++ more) start) s n ≡ free) ⊎ StillHandle (after cs start) (after (cs ++ more) start) s n h
-  pub closed : (more : List Call) → all ofBytes more ≡ true → (s n : ℕ) → findHandle (after cs start) s n ≡ free → n < after cs start .handles .next
-      → findHandle (after (cs ++ more) start) s n ≡ free
+  pub bound : (more : List Call) → all ofBytes more ≡ true → (s n : ℕ) (h : Handle) → findHandle (after cs σ) s n ≡ live h
+      → (findHandle (after (cs ++ more) σ) s n ≡ free) ⊎ StillHandle (after cs σ) (after (cs ++ more) σ) s n h
+  pub closed : (more : List Call) → all ofBytes more ≡ true → (s n : ℕ) → findHandle (after cs σ) s n ≡ free → n < after cs σ .handles .next
+      → findHandle (after (cs ++ more) σ) s n ≡ free
   -- a handle that is live here and after more calls is the same, in its station, its token and its mask
-  pub handleKept : (more : List Call) → all ofBytes more ≡ true → (h k : Handle) → LiveHandle h (after cs start) → LiveHandle k (after (cs ++ more) start)
+  pub handleKept : (more : List Call) → all ofBytes more ≡ true → (h k : Handle) → LiveHandle h (after cs σ) → LiveHandle k (after (cs ++ more) σ)
       → k .number ≡ h .number → k ≡ h
   -- 'numbers are given upward and never twice': after more calls each handle has a number not given here yet, or was here
-  pub handles : (more : List Call) → all ofBytes more ≡ true → HandlesLater (after cs start .handles) (after (cs ++ more) start .handles)
+  pub handles : (more : List Call) → all ofBytes more ≡ true → HandlesLater (after cs σ .handles) (after (cs ++ more) σ .handles)
   -- 'the largest never': of handles and of tokens
-  pub handleNumbers : (h : Handle) → LiveHandle h (after cs start) → (1 ≤ h .number) × (h .number < max32)
-  pub tokenNumbers : (t : Token) → Live t (after cs start) → (1 ≤ t .number) × (t .number < max64)
+  pub handleNumbers : (h : Handle) → LiveHandle h (after cs σ) → (1 ≤ h .number) × (h .number < max32)
+  pub tokenNumbers : (t : Token) → Live t (after cs σ) → (1 ≤ t .number) × (t .number < max64)
   -- 'enabled ones stay among the present', and default ones
-  pub enabled : (t : Token) → Live t (after cs start) → within (t .privileges .enabled) (t .privileges .present) ≡ true
-  pub byDefault : (t : Token) → Live t (after cs start) → within (t .privileges .byDefault) (t .privileges .present) ≡ true
+  pub enabled : (t : Token) → Live t (after cs σ) → within (t .privileges .enabled) (t .privileges .present) ≡ true
+  pub byDefault : (t : Token) → Live t (after cs σ) → within (t .privileges .byDefault) (t .privileges .present) ≡ true
   -- 'a token made from another begins with no present privilege that its source lacked'
-  pub copies : (x : Serving) → Mem (serves x) (outcomes (events cs start) start) → NoMore x
+  pub copies : (x : Serving) → Mem (serves x) (outcomes (events cs σ) σ) → NoMore x
   -- no answer is longer than 1,024 bytes
-  pub fit : (a : List ℕ) → Mem a (answered cs start) → IsAnswer a
+  pub fit : (a : List ℕ) → Mem a (answered cs σ) → IsAnswer a

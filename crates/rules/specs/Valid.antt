@@ -9,7 +9,7 @@ use Rattle.rules.specs.Number.{max32, max64}
 use Rattle.rules.specs.Bits.{has, within}
 use Rattle.rules.specs.Mask.{validMask}
 use Rattle.rules.specs.Privileges.{Privileges, existing}
-use Rattle.rules.specs.Group.{Group, isOn, isDenyOnly}
+use Rattle.rules.specs.Group.{Group, isEnabled, isDenyOnly}
 use Rattle.rules.specs.Token.{Token, Identity, Limits, Defaults, maxGroups, maxRestricting, maxDacl, primary, impersonation}
 use Rattle.rules.specs.Table.{Table, lives}
 use Rattle.rules.specs.Handle.{Handle}
@@ -53,7 +53,7 @@ groupValid g =
     is32 g.sid
     && within g.attributes 0xC000001F
     && bothOrNeither (has 30 g.attributes) (has 31 g.attributes)
-    && implies (isDenyOnly g) (not (isOn g))
+    && implies (isDenyOnly g) (not (isEnabled g))
 
 unfoldable pub groupsValid : List Group → Bool
 groupsValid gs = leb (length gs) maxGroups && all groupValid gs

@@ -129,7 +129,7 @@ fed-once σ s (b ∷ chunk) h =
 module _ (m : Memory) (v : valid m ≡ true) (s : ℕ) (chunk : List ℕ) (room : ℕ) where
   refuses : (n : ℕ) → refusedOn n m ≡ written (refused n (decode m))
   unfolding refusedOn written refused
-  refuses n = ap (λ (x : Memory). record { refusal = n; used = 0; answer = []; memory = x }) (sym (valid-written m v))
+  refuses n = ap (λ (x : Memory). record { refusal = n; used = 0; answer = []; after = x }) (sym (valid-written m v))
 
   on-model : feedOn m s chunk room ≡ written (feed (decode m) s chunk room)
   unfolding feedOn feed
@@ -141,16 +141,22 @@ module _ (m : Memory) (v : valid m ≡ true) (s : ℕ) (chunk : List ℕ) (room 
       by false true = refuses shortBuffer
       by false false = rw v
 
+  pub call-refused : maxAnswer ≤ room → (feedOn m s chunk room .refusal ≡ 0 → ⊥) → feedOn m s chunk room .refusal ≡ noStation
+  unfolding feedOn refusedOn written
+  call-refused fits =
+      on-if (λ (d : Done). (d .refusal ≡ 0 → ⊥) → d .refusal ≡ noStation) (leb stationCount s) _ _ (λ t z. refl)
+      (λ t. rw (le-ltb room maxAnswer fits, v) (λ z. absurd (z (fed-uses chunk 0 s (decode m) .accepted))))
+
   module _ (bytes : all isByte chunk ≡ true) where
     after-valid : Valid.valid (feed (decode m) s chunk room .after) ≡ true
     unfolding all ofBytes after returned
     after-valid = facts-valid _ (run-step (feeds s chunk room ∷ []) (decode m) (and-i bytes refl) (valid-facts (decode m) (valid-state m v)) .facts)
 
-    pub call-valid : valid (feedOn m s chunk room .memory) ≡ true
+    pub call-valid : valid (feedOn m s chunk room .after) ≡ true
     unfolding written
     call-valid = rw on-model (written-valid (feed (decode m) s chunk room .after) after-valid)
 
-    after-is : decode (feedOn m s chunk room .memory) ≡ feed (decode m) s chunk room .after
+    after-is : decode (feedOn m s chunk room .after) ≡ feed (decode m) s chunk room .after
     unfolding written
     after-is = rw on-model (read-back (feed (decode m) s chunk room .after) after-valid)
 
@@ -163,14 +169,14 @@ module _ (m : Memory) (v : valid m ≡ true) (s : ℕ) (chunk : List ℕ) (room 
       once = fed-once (decode m) s chunk some ∙ ap (onFed (rest s chunk)) roomy
 
       pub call-taken : feedOn m s chunk room .refusal ≡ 0
-          → let d = feedOn m s chunk room in fed (decode m) s chunk ≡ answering (d .answer) (fed (decode (d .memory)) s (drop (d .used) chunk))
+          → let d = feedOn m s chunk room in fed (decode m) s chunk ≡ answering (d .answer) (fed (decode (d .after)) s (drop (d .used) chunk))
       unfolding written
       call-taken e =
           once
           ∙ on-taken (rest s chunk) (feed (decode m) s chunk room) (sym (ap (λ (d : Done). d .refusal) on-model) ∙ e)
           ∙ sym (ap₂ answering (ap (λ (d : Done). d .answer) on-model) (ap₂ (λ (τ : State) (n : ℕ). fed τ s (drop n chunk)) after-is (ap (λ (d : Done). d .used) on-model)))
 
-      pub call-skipped : (feedOn m s chunk room .refusal ≡ 0 → ⊥) → fed (decode m) s chunk ≡ nothing (decode (feedOn m s chunk room .memory))
+      pub call-skipped : (feedOn m s chunk room .refusal ≡ 0 → ⊥) → fed (decode m) s chunk ≡ nothing (decode (feedOn m s chunk room .after))
       unfolding written
       call-skipped z =
           once

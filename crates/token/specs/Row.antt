@@ -3,8 +3,9 @@ use mathlib.Core.Path.{_≡_}
 use mathlib.Core.List.{List}
 use Prim.Native.Nat.{ℕ, _+_, _*_, _/_}
 use lib.ListN.{getD}
+use Rattle.rules.specs.Group as Rules-group
 use Rattle.rules.specs.Token as Rules
-use Rattle.rules.specs.Memory.{word32, low32, low8, tokenRow}
+use Rattle.rules.specs.Memory.{word32, low32, low8, pack, unpack, tokenRow}
 use Rattle.privilege.specs.declared.privileges.Privileges.{Privileges}
 use Rattle.token.specs.declared.Group.{Group}
 use Rattle.token.specs.declared.Identity.{Identity}
@@ -27,6 +28,10 @@ privilegesIn ws = record { present = getD ws 13 0; enabled = getD ws 14 0; «by_
 
 abbrev pub wordOf : Group → ℕ
 wordOf g = g .sid + g .attributes * word32
+
+-- a change of a group, in its word
+abbrev pub onWord : (Rules-group.Group → Rules-group.Group) → ℕ → ℕ
+onWord f w = pack (f (unpack w))
 
 -- the row of every token t becomes that of f t
 pub record Becomes (f : Rules.Token → Rules.Token) (ws ws′ : List ℕ) : Type 0 where

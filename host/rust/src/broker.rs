@@ -4,10 +4,10 @@ use std::fmt;
 
 use crate::answer::Answer;
 use crate::ffi;
-use crate::memory::{Memory, NEXT_HANDLE, NEXT_TOKEN};
+use crate::layout::{control_word, MAX_ANSWER, STATIONS};
+use crate::memory::Memory;
 use crate::refusal::Refusal;
 use crate::view::{Handle, Station, Token};
-use crate::{MAX_ANSWER, STATIONS};
 
 /// The broker, with the memory that it works on.
 ///
@@ -115,12 +115,12 @@ impl Broker {
 
     /// The number that the next token gets; the largest u64 is never given.
     pub fn next_token(&self) -> u64 {
-        self.memory.stations[NEXT_TOKEN]
+        self.memory.control[control_word::NEXT_TOKEN]
     }
 
     /// The number that the next handle gets; the largest u32 is never given.
     pub fn next_handle(&self) -> u32 {
-        self.memory.stations[NEXT_HANDLE] as u32
+        self.memory.control[control_word::NEXT_HANDLE] as u32
     }
 
     /// All that the broker keeps, to be stored across a restart: [`MEMORY_BYTES`] bytes, the same

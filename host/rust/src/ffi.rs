@@ -3,7 +3,8 @@
 
 use std::mem::offset_of;
 
-use crate::memory::{Memory, HANDLE_BYTES};
+use crate::layout::HANDLE_BYTES;
+use crate::memory::Memory;
 
 /// A handle slot, as the C interface has it.
 #[repr(C)]
@@ -38,8 +39,8 @@ extern "C" {
         dacls_len: usize,
         handles: *mut Handle,
         handles_len: usize,
-        stations: *mut u64,
-        stations_len: usize,
+        control: *mut u64,
+        control_len: usize,
         pending: *mut u8,
         pending_len: usize,
     ) -> u32;
@@ -56,8 +57,8 @@ extern "C" {
         dacls_len: usize,
         handles: *mut Handle,
         handles_len: usize,
-        stations: *mut u64,
-        stations_len: usize,
+        control: *mut u64,
+        control_len: usize,
         pending: *mut u8,
         pending_len: usize,
     ) -> Fed;
@@ -70,8 +71,8 @@ extern "C" {
         dacls_len: usize,
         handles: *const Handle,
         handles_len: usize,
-        stations: *mut u64,
-        stations_len: usize,
+        control: *mut u64,
+        control_len: usize,
         pending: *mut u8,
         pending_len: usize,
     ) -> u32;
@@ -90,8 +91,8 @@ pub(crate) fn start(m: &mut Memory) -> u32 {
             m.dacls.len(),
             m.handles.as_mut_ptr(),
             m.handles.len(),
-            m.stations.as_mut_ptr(),
-            m.stations.len(),
+            m.control.as_mut_ptr(),
+            m.control.len(),
             m.pending.as_mut_ptr(),
             m.pending.len(),
         )
@@ -113,8 +114,8 @@ pub(crate) fn feed(m: &mut Memory, station: u32, data: &[u8], answer: &mut [u8])
             m.dacls.len(),
             m.handles.as_mut_ptr(),
             m.handles.len(),
-            m.stations.as_mut_ptr(),
-            m.stations.len(),
+            m.control.as_mut_ptr(),
+            m.control.len(),
             m.pending.as_mut_ptr(),
             m.pending.len(),
         )
@@ -132,8 +133,8 @@ pub(crate) fn reconnect(m: &mut Memory, station: u32) -> u32 {
             m.dacls.len(),
             m.handles.as_ptr(),
             m.handles.len(),
-            m.stations.as_mut_ptr(),
-            m.stations.len(),
+            m.control.as_mut_ptr(),
+            m.control.len(),
             m.pending.as_mut_ptr(),
             m.pending.len(),
         )

@@ -31,6 +31,7 @@
 mod answer;
 mod broker;
 mod ffi;
+mod layout;
 mod memory;
 pub mod names;
 pub mod number;
@@ -39,17 +40,9 @@ mod view;
 
 pub use answer::Answer;
 pub use broker::Broker;
-pub use memory::MEMORY_BYTES;
+pub use layout::{
+    HANDLES, LENGTH_BYTES, MAX_ANSWER, MAX_BODY, MAX_DACL, MAX_GROUPS, MAX_RESTRICTING,
+    MEMORY_BYTES, STATIONS, TOKENS,
+};
 pub use refusal::Refusal;
 pub use view::{Elevation, Group, Handle, Level, Privileges, Station, Token, TokenType};
-
-/// How many stations there are: 0 to 7.
-pub const STATIONS: usize = 8;
-/// How many tokens live at most.
-pub const TOKENS: usize = 16;
-/// How many handles live at most, of all stations together.
-pub const HANDLES: usize = 32;
-/// The longest answer in bytes.
-pub const MAX_ANSWER: usize = 1024;
-/// The longest body of a request in bytes.
-pub const MAX_BODY: usize = 2048;

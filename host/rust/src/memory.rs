@@ -1,36 +1,7 @@
 //! The memory that a broker works on, and its form as bytes.
 
 use crate::ffi::Handle;
-use crate::{HANDLES, STATIONS, TOKENS};
-
-/// Words of a token slot.
-pub(crate) const TOKEN_WORDS: usize = 100;
-/// Bytes of a DACL slot.
-pub(crate) const DACL_BYTES: usize = 256;
-/// Bytes of a handle slot.
-pub(crate) const HANDLE_BYTES: usize = 16;
-/// The word of the next token number.
-pub(crate) const NEXT_TOKEN: usize = 0;
-/// The word of the next handle number.
-pub(crate) const NEXT_HANDLE: usize = 1;
-/// The first station's word; before it stand the two next numbers.
-pub(crate) const FIRST_STATION: usize = 2;
-/// Words of a station.
-pub(crate) const STATION_WORDS: usize = 3;
-/// Bytes of a station's pending part.
-pub(crate) const PENDING_BYTES: usize = 2050;
-
-/// Elements of the arrays.
-const TOKENS_LEN: usize = TOKENS * TOKEN_WORDS;
-const DACLS_LEN: usize = TOKENS * DACL_BYTES;
-const STATIONS_LEN: usize = FIRST_STATION + STATIONS * STATION_WORDS;
-const PENDING_LEN: usize = STATIONS * PENDING_BYTES;
-
-/// How many bytes [`Broker::to_bytes`](crate::Broker::to_bytes) gives.
-pub const MEMORY_BYTES: usize = (TOKENS_LEN + STATIONS_LEN) * size_of::<u64>()
-    + DACLS_LEN
-    + HANDLES * HANDLE_BYTES
-    + PENDING_LEN;
+use crate::layout::{CONTROL_LEN, DACLS_LEN, HANDLES, MEMORY_BYTES, PENDING_LEN, TOKENS_LEN};
 
 /// The five arrays of docs/MEMORY.md.
 #[derive(Clone, PartialEq, Eq)]
@@ -38,7 +9,7 @@ pub(crate) struct Memory {
     pub tokens: [u64; TOKENS_LEN],
     pub dacls: [u8; DACLS_LEN],
     pub handles: [Handle; HANDLES],
-    pub stations: [u64; STATIONS_LEN],
+    pub control: [u64; CONTROL_LEN],
     pub pending: [u8; PENDING_LEN],
 }
 
@@ -48,7 +19,7 @@ impl Memory {
             tokens: [0; TOKENS_LEN],
             dacls: [0; DACLS_LEN],
             handles: [Handle::default(); HANDLES],
-            stations: [0; STATIONS_LEN],
+            control: [0; CONTROL_LEN],
             pending: [0; PENDING_LEN],
         })
     }
@@ -65,7 +36,7 @@ impl Memory {
             bytes.extend(handle.number.to_le_bytes());
             bytes.extend(handle.token.to_le_bytes());
         }
-        bytes.extend(self.stations.iter().flat_map(|word| word.to_le_bytes()));
+        bytes.extend(self.control.iter().flat_map(|word| word.to_le_bytes()));
         bytes.extend(self.pending);
         bytes
     }
@@ -83,7 +54,7 @@ impl Memory {
             let (station, mask) = (reader.u16(), reader.u16());
             Handle { station, mask, number: reader.u32(), token: reader.u64() }
         });
-        memory.stations.fill_with(|| reader.u64());
+        memory.control.fill_with(|| reader.u64());
         memory.pending.fill_with(|| reader.u8());
         Some(memory)
     }

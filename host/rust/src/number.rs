@@ -1,6 +1,13 @@
 //! Numbers as requests and answers have them: seven bits a byte, low bits first, the top bit set
 //! on all bytes but the last.
 
+/// Bits of a number in each of its bytes.
+const BITS: u32 = 7;
+/// The bit that says that more bytes follow.
+const MORE: u8 = 1 << BITS;
+/// The most bytes of a number.
+const MAX_BYTES: usize = u64::BITS.div_ceil(BITS) as usize;
+
 /// Appends the number's one form.
 ///
 /// ```
@@ -10,9 +17,9 @@
 /// ```
 pub fn write(number: u64, bytes: &mut Vec<u8>) {
     let mut rest = number;
-    while rest >= 128 {
-        bytes.push((rest % 128) as u8 | 0x80);
-        rest /= 128;
+    while rest >= MORE.into() {
+        bytes.push(rest as u8 | MORE);
+        rest >>= BITS;
     }
     bytes.push(rest as u8);
 }
@@ -25,11 +32,11 @@ pub fn write(number: u64, bytes: &mut Vec<u8>) {
 /// assert_eq!(obriska::number::read(&[0x80, 0x00]), None); // 0 has a shorter form
 /// ```
 pub fn read(bytes: &[u8]) -> Option<(u64, &[u8])> {
-    let last = bytes.iter().take(10).position(|&byte| byte < 128)?;
+    let last = bytes.iter().take(MAX_BYTES).position(|&byte| byte < MORE)?;
     let (number, rest) = bytes.split_at(last + 1);
     let is_shortest = last == 0 || number[last] != 0;
-    let fits = last < 9 || number[last] == 1;
-    let value = number.iter().rev().fold(0, |value, &byte| value << 7 | u64::from(byte & 0x7F));
+    let fits = last + 1 < MAX_BYTES || number[last] == 1;
+    let value = number.iter().rev().fold(0, |value, &byte| value << BITS | u64::from(byte & !MORE));
     (is_shortest && fits).then_some((value, rest))
 }
 

@@ -31,7 +31,7 @@ pub enum Refusal {
     Protected = 6,
     /// Installing a token of another user or session.
     Mismatch = 7,
-    /// No free slot, no number left, or over 16 restricting SIDs.
+    /// No free slot, no number left, or too many restricting SIDs.
     Full = 8,
     /// The report is larger than the capacity.
     Capacity = 9,
@@ -83,11 +83,11 @@ impl Refusal {
             Refusal::Field => "a field or entry is bad",
             Refusal::Protected => "the group is protected",
             Refusal::Mismatch => "the token is of another user or session",
-            Refusal::Full => "no slot or number left, or over 16 restricting SIDs",
+            Refusal::Full => "no slot or number left, or too many restricting SIDs",
             Refusal::Capacity => "the report is larger than the capacity",
             Refusal::Broken => "the stream is broken until a reconnect",
             Refusal::Station => "there is no such station",
-            Refusal::Buffer => "the answer buffer has under 1,024 bytes",
+            Refusal::Buffer => "the answer buffer is too short",
             Refusal::Memory => "the memory is not valid",
         }
     }

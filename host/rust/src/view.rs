@@ -1,43 +1,11 @@
 //! What the broker keeps, as decoded values: docs/MEMORY.md says which word is what.
 
 use crate::ffi;
-use crate::memory::{Memory, DACL_BYTES, FIRST_STATION, PENDING_BYTES, STATION_WORDS, TOKEN_WORDS};
-use crate::STATIONS;
-
-/// Words of a token slot.
-mod token_word {
-    pub const NUMBER: usize = 0;
-    pub const MODIFIED: usize = 1;
-    pub const SESSION: usize = 2;
-    pub const USER: usize = 3;
-    pub const TYPE: usize = 4;
-    pub const LEVEL: usize = 5;
-    pub const ELEVATION: usize = 6;
-    pub const WRITE_RESTRICTED: usize = 7;
-    pub const USER_DENY_ONLY: usize = 8;
-    pub const OWNER: usize = 9;
-    pub const PRIMARY_GROUP: usize = 10;
-    pub const SCOPE: usize = 11;
-    pub const INTEGRITY: usize = 12;
-    pub const PRESENT: usize = 13;
-    pub const ENABLED: usize = 14;
-    pub const DEFAULT: usize = 15;
-    pub const USED: usize = 16;
-    pub const GROUP_COUNT: usize = 17;
-    pub const RESTRICTING_COUNT: usize = 18;
-    pub const DACL_LENGTH: usize = 19;
-    /// The first group.
-    pub const GROUPS: usize = 20;
-    /// The first restricting SID.
-    pub const RESTRICTING: usize = 84;
-}
-
-/// Words of a station.
-mod station_word {
-    pub const TOKEN: usize = 0;
-    pub const PENDING_COUNT: usize = 1;
-    pub const BROKEN: usize = 2;
-}
+use crate::layout::{
+    control_word, station_word, token_word, ATTRIBUTES_BIT, DACL_BYTES, PENDING_BYTES, STATIONS,
+    STATION_WORDS, TOKEN_WORDS,
+};
+use crate::memory::Memory;
 
 /// Primary or impersonation.
 #[derive(Clone, Copy, Debug, PartialEq, Eq)]
@@ -127,11 +95,11 @@ pub struct Token {
     pub integrity: u32,
     /// The privilege words.
     pub privileges: Privileges,
-    /// At most 64.
+    /// The groups, at most [`MAX_GROUPS`](crate::MAX_GROUPS).
     pub groups: Vec<Group>,
-    /// The restricting SIDs, at most 16.
+    /// The restricting SIDs, at most [`MAX_RESTRICTING`](crate::MAX_RESTRICTING).
     pub restricting: Vec<u32>,
-    /// The default DACL, at most 256 bytes.
+    /// The default DACL, at most [`MAX_DACL`](crate::MAX_DACL) bytes.
     pub dacl: Vec<u8>,
 }
 
@@ -200,7 +168,7 @@ fn elevation(word: u64) -> Elevation {
 
 /// The SID is the low half, the attributes are the high half.
 fn group(word: u64) -> Group {
-    Group { sid: word as u32, attributes: (word >> 32) as u32 }
+    Group { sid: word as u32, attributes: (word >> ATTRIBUTES_BIT) as u32 }
 }
 
 /// A live handle.
@@ -241,11 +209,11 @@ pub struct Station {
 impl Station {
     pub(crate) fn all(memory: &Memory) -> [Station; STATIONS] {
         std::array::from_fn(|station| {
-            let words = &memory.stations[FIRST_STATION + station * STATION_WORDS..];
+            let words = &memory.control[control_word::FIRST_STATION + station * STATION_WORDS..];
             let pending = &memory.pending[station * PENDING_BYTES..];
             Station {
                 token: words[station_word::TOKEN],
-                pending: pending[..words[station_word::PENDING_COUNT] as usize].to_vec(),
+                pending: pending[..words[station_word::PENDING] as usize].to_vec(),
                 broken: words[station_word::BROKEN] == 1,
             }
         })

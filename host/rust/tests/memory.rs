@@ -5,8 +5,8 @@ use obriska::{number, Broker, Elevation, Group, Level, Refusal, Station, TokenTy
 /// Where the arrays begin, one after the other: docs/MEMORY.md has their sizes.
 const DACLS: usize = 12_800;
 const HANDLES: usize = DACLS + 4_096;
-const STATIONS: usize = HANDLES + 512;
-const PENDING: usize = STATIONS + 208;
+const CONTROL: usize = HANDLES + 512;
+const PENDING: usize = CONTROL + 208;
 const END: usize = PENDING + 16_400;
 /// Bytes of a word and of a handle.
 const WORD: usize = 8;
@@ -94,19 +94,19 @@ fn bytes_are_laid_out_as_docs_memory_says() {
     let bytes = broker.to_bytes();
     assert_eq!((bytes.len(), MEMORY_BYTES), (END, 34_016));
     assert!(words(&bytes, 0).take(4).eq([1, 1, 999, 18]));
-    let (handles, free) = bytes[HANDLES..STATIONS].split_at(2 * HANDLE);
+    let (handles, free) = bytes[HANDLES..CONTROL].split_at(2 * HANDLE);
     let first = [5, 0, 0x28, 0, 1, 0, 0, 0, 1, 0, 0, 0, 0, 0, 0, 0];
     let second = [6, 0, 0xEF, 1, 2, 0, 0, 0, 1, 0, 0, 0, 0, 0, 0, 0];
     assert_eq!(handles, [first, second].concat());
     assert!(bytes[DACLS..HANDLES].iter().chain(free).all(|&byte| byte == 0));
-    assert!(words(&bytes, STATIONS).take(5).eq([2, 3, 1, 1, 0]));
+    assert!(words(&bytes, CONTROL).take(5).eq([2, 3, 1, 1, 0]));
     assert_eq!(bytes[PENDING..][..2], [0x02, 0x00]);
 }
 
 #[test]
 fn a_free_handle_slot_with_a_byte_that_is_not_zero_is_refused() {
     let kept = Broker::start().to_bytes();
-    for at in HANDLES..STATIONS {
+    for at in HANDLES..CONTROL {
         let mut damaged = kept.clone();
         damaged[at] = 0x80;
         assert_eq!(Broker::from_bytes(&damaged), Err(Refusal::Memory), "byte {at}");

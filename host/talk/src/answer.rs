@@ -51,8 +51,9 @@ fn success(request: &[u8], fields: &[u8]) -> Option<Vec<String>> {
 
 /// The groups whose bits are set in these words.
 fn groups_text(words: &[u64]) -> String {
-    let is_set = |group: &usize| words[group / 64] >> (group % 64) & 1 == 1;
-    let groups: Vec<_> = (0..words.len() * 64).filter(is_set).map(|g| g.to_string()).collect();
+    const BITS: usize = u64::BITS as usize;
+    let is_set = |group: &usize| words[group / BITS] >> (group % BITS) & 1 == 1;
+    let groups: Vec<_> = (0..words.len() * BITS).filter(is_set).map(|g| g.to_string()).collect();
     match groups.len() {
         0 => "none".to_string(),
         1 => format!("group {}", groups[0]),

@@ -4,6 +4,8 @@ use crate::words::{Mistake, Word};
 
 /// Runs from this length on are written once.
 const LONG_RUN: usize = 8;
+/// How often a byte may be repeated.
+const MOST: u64 = 4096;
 
 /// The bytes as text.
 pub fn text(bytes: &[u8]) -> String {
@@ -27,7 +29,7 @@ pub fn parse(words: &[Word]) -> Result<Vec<u8>, Mistake> {
         match word.split_once('*') {
             None => bytes.extend(parse_digits(word)?),
             Some((digits, count)) => {
-                let count = count.number("count", 4096)?;
+                let count = count.number("count", MOST)?;
                 bytes.extend(parse_digits(digits)?.repeat(count as usize));
             }
         }

@@ -1,6 +1,6 @@
 //! A line: what it asks for, or what is wrong with it.
 
-use obriska::MAX_BODY;
+use obriska::{LENGTH_BYTES, MAX_BODY};
 
 use crate::arguments::Arguments;
 use crate::hex;
@@ -70,7 +70,7 @@ fn at_station(station: Word, rest: Word) -> Result<Command, Mistake> {
     let bytes = request::frame(name, Arguments::new(name, words)).ok_or_else(|| {
         name.mistake(format_args!("'{}' is no request; 'help' lists them", name.text))
     })??;
-    if bytes.len() > MAX_BODY + 2 {
+    if bytes.len() > LENGTH_BYTES + MAX_BODY {
         return Err(name.mistake(format_args!("the request is over {MAX_BODY} bytes")));
     }
     Ok(Command::Send { station, bytes })

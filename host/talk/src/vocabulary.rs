@@ -84,9 +84,10 @@ pub fn privilege_word(word: Word) -> Result<u64, Mistake> {
     if word.text == "all" {
         return Ok(names::ALL_PRIVILEGES);
     }
+    let last = u64::from(u64::BITS - 1);
     let bit = |part: Word| match privilege(part)? {
-        number @ 0..64 => Ok(1 << number),
-        _ => Err(part.mistake(format_args!("{} is over 63, a word's last bit", part.text))),
+        number if number <= last => Ok(1 << number),
+        _ => Err(part.mistake(format_args!("{} is over {last}, a word's last bit", part.text))),
     };
     word.split(',').into_iter().map(bit).try_fold(0, |all, part| Ok(all | part?))
 }

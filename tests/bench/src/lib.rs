@@ -4,7 +4,7 @@ pub mod rival;
 pub mod work;
 
 use gen::{Broker, Calls};
-use model::{Bytes, Fed, Memory};
+use model::{Bytes, Fed, HandleRecord, Memory};
 
 /// The rival with its lent memory.
 pub struct Rival(rival::Parts);
@@ -27,16 +27,17 @@ impl Rival {
             let small = u32::from(handle.station | handle.mask) | handle.number;
             all | u64::from(small) | handle.token
         });
-        let (tokens, stations) = (words(&self.0.tokens), words(&self.0.stations));
-        tokens | stations | handles | bytes(&self.0.dacls) | bytes(&self.0.pending)
+        let (tokens, control) = (words(&self.0.tokens), words(&self.0.control));
+        tokens | control | handles | bytes(&self.0.dacls) | bytes(&self.0.pending)
     }
 }
 
 impl Calls for Rival {
     fn feed(&mut self, station: u32, chunk: &[u8], buffer_len: usize) -> Fed {
-        let mut buffer = vec![0xA5; buffer_len];
+        const FILLER: u8 = 0xA5;
+        let mut buffer = vec![FILLER; buffer_len];
         let (refusal, used, answered) = self.call_feed(station, chunk, &mut buffer);
-        assert!(buffer[answered..].iter().all(|&byte| byte == 0xA5));
+        assert!(buffer[answered..].iter().all(|&byte| byte == FILLER));
         Fed { refusal, used, answer: buffer[..answered].to_vec() }
     }
 
@@ -47,13 +48,21 @@ impl Calls for Rival {
 
 impl Broker for Rival {
     fn lend(memory: &Memory) -> Self {
-        let Memory { tokens, dacls, handles, stations, pending } = memory.clone();
-        Rival(rival::Parts { tokens, dacls, handles, stations, pending })
+        let Memory { tokens, dacls, handles, control, pending } = memory.clone();
+        let handle = |&HandleRecord { station, mask, number, token }: &HandleRecord| {
+            rival::Handle { station, mask, number, token }
+        };
+        let handles = handles.iter().map(handle).collect();
+        Rival(rival::Parts { tokens, dacls, handles, control, pending })
     }
 
     fn bytes(&self) -> Bytes {
-        let rival::Parts { tokens, dacls, handles, stations, pending } = self.0.clone();
-        Memory { tokens, dacls, handles, stations, pending }.bytes()
+        let rival::Parts { tokens, dacls, handles, control, pending } = self.0.clone();
+        let record = |&rival::Handle { station, mask, number, token }: &rival::Handle| {
+            HandleRecord { station, mask, number, token }
+        };
+        let handles = handles.iter().map(record).collect();
+        Memory { tokens, dacls, handles, control, pending }.bytes()
     }
 
     fn start(&mut self) -> u32 {

@@ -1,9 +1,10 @@
 //! Lists of feeds to be timed, each with the memory that it begins on.
 
-use gen::{fields, flat, Rng};
+use gen::{fields, flat, Rng, NEEDED};
 use model::{
-    framed, Group, Handle, Mask, Memory, Model, Request, Token, ALL_PRIVILEGES, HANDLES, MAX_BODY,
-    MAX_GROUPS, MAX_RESTRICTING, MIN_BUFFER, NO_CHANGE, STATIONS, TOKENS,
+    framed, Group, Handle, Level, Mask, Memory, Model, Request, Token, TokenType, ALL_PRIVILEGES,
+    HANDLES, LAST_CLASS, MAX_BODY, MAX_DACL, MAX_GROUPS, MAX_RESTRICTING, MIN_BUFFER, NO_CHANGE,
+    STATIONS, TOKENS,
 };
 
 /// A list of feeds.
@@ -38,18 +39,26 @@ impl Work {
     }
 }
 
+/// Feeds of whole requests in a list, and how many of them are fed byte by byte.
+const REQUESTS: usize = 2000;
+const IN_BYTES: usize = 200;
+/// Feeds of an empty chunk.
+const EMPTY: usize = 1000;
+/// A query's capacity that every report fits in.
+const CAPACITY: u32 = MIN_BUFFER as u32;
+
 /// All the lists.
 pub fn all() -> Vec<Work> {
     let (start, full) = (Model::start(), full());
-    let (shift, on_full) = (shift(2000), on_full_tables(&full, 2000));
-    let empty = vec![(0, vec![]); 1000];
+    let (shift, on_full) = (shift(REQUESTS), on_full_tables(&full, REQUESTS));
+    let empty = vec![(0, vec![]); EMPTY];
     vec![
         Work::new("empty chunk, start", &start, &empty),
         Work::new("empty chunk, full tables", &full, &empty),
         Work::new("whole requests, a shift", &start, &shift),
         Work::new("whole requests, full tables", &full, &on_full),
-        Work::new("one-byte chunks, a shift", &start, &byte_by_byte(&shift[..200])),
-        Work::new("one-byte chunks, full tables", &full, &byte_by_byte(&on_full[..200])),
+        Work::new("one-byte chunks, a shift", &start, &byte_by_byte(&shift[..IN_BYTES])),
+        Work::new("one-byte chunks, full tables", &full, &byte_by_byte(&on_full[..IN_BYTES])),
     ]
 }
 
@@ -103,14 +112,14 @@ fn operator(rng: &mut Rng, desk: &mut Recorder, station: u32) {
             session: 7,
             integrity: 8192,
             present: ALL_PRIVILEGES,
-            default: 0x8C,
+            default: NEEDED,
             groups: groups.collect(),
         },
     );
     desk.ask(station, Request::Install { handle: made });
     for _ in 0..2 {
         for class in [1, 2, 3, 9, 6, 13] {
-            desk.ask(station, Request::Query { handle: made, class, capacity: 640 });
+            desk.ask(station, Request::Query { handle: made, class, capacity: CAPACITY });
         }
         desk.ask(station, Request::Privileges { handle: made, entries: vec![(20, 2), (21, 2)] });
         desk.ask(station, Request::Groups { handle: made, entries: vec![(3, 1), (4, 1)] });
@@ -118,14 +127,15 @@ fn operator(rng: &mut Rng, desk: &mut Recorder, station: u32) {
         let (owner, group) = (3, NO_CHANGE);
         desk.ask(station, Request::Default { handle: made, owner, group, flag: 1, dacl });
         desk.ask(station, Request::Scope { handle: made, value: rng.below(9) as u32 });
-        let copy =
-            desk.ask(station, Request::Duplicate { handle: made, kind: 2, level: 2, mask: 0x28 });
+        let (kind, level) = (TokenType::Impersonation as u32, Level::Impersonation as u32);
+        let mask = Mask::QUERY.0 | Mask::ADJUST_PRIVILEGES.0;
+        let copy = desk.ask(station, Request::Duplicate { handle: made, kind, level, mask });
         desk.ask(station, Request::Query { handle: copy, class: 2, capacity: 16 });
         let (deny, sids) = (vec![3, 4], vec![300, 301]);
         let (write_restricted, remove) = (0, 1 << 20);
         let less = desk
             .ask(station, Request::Restrict { handle: made, write_restricted, remove, deny, sids });
-        desk.ask(station, Request::Query { handle: less, class: 10, capacity: 640 });
+        desk.ask(station, Request::Query { handle: less, class: 10, capacity: CAPACITY });
         for handle in [copy, less] {
             desk.ask(station, Request::Close { handle });
         }
@@ -141,11 +151,11 @@ pub fn full() -> Model {
     let mut model = Model::start();
     for (slot, number) in (0..TOKENS).zip(1..) {
         let groups = (0..MAX_GROUPS as u32)
-            .map(|sid| Group { sid: u32::MAX - sid, attributes: 0xC000_000F });
+            .map(|sid| Group { sid: u32::MAX - sid, attributes: Group::ALL & !Group::DENY_ONLY });
         model.tokens[slot] = Some(Token {
             groups: groups.collect(),
             restricting: (0..MAX_RESTRICTING as u32).map(|sid| u32::MAX - sid).collect(),
-            dacl: (0..=255).collect(),
+            dacl: full_dacl(),
             ..Token { number, ..Token::first() }
         });
     }
@@ -154,10 +164,17 @@ pub fn full() -> Model {
         model.handles[slot] = Some(Handle { station, number, token, mask: Mask::ALL.0 });
     }
     for station in [1, 3, 5, 7] {
-        model.stations[station].pending = [vec![0x80, 0x10], vec![1; MAX_BODY - 1]].concat();
+        let pending = &mut model.stations[station].pending;
+        *pending = framed(&[1; MAX_BODY]);
+        pending.pop();
     }
     (model.next_token, model.next_handle) = (TOKENS as u64 + 1, HANDLES as u32 + 1);
     model
+}
+
+/// The longest DACL.
+fn full_dacl() -> Vec<u8> {
+    (0..MAX_DACL).map(|byte| byte as u8).collect()
 }
 
 /// Requests that leave the tables full: reports, adjustments, and what finds no slot.
@@ -168,9 +185,9 @@ fn on_full_tables(full: &Model, requests: usize) -> Feeds {
         let station = rng.pick(&[0, 2, 4, 6]);
         let others = STATIONS * rng.below(HANDLES / STATIONS);
         let handle = others as u32 + if station == 0 { STATIONS as u32 } else { station };
-        let class = 1 + rng.below(13) as u32;
+        let class = 1 + rng.below(LAST_CLASS as usize) as u32;
         let request = match rng.below(10) {
-            0..=3 => Request::Query { handle, class, capacity: 1000 },
+            0..=3 => Request::Query { handle, class, capacity: CAPACITY },
             4 => Request::Privileges { handle, entries: vec![(20, 0), (21, 2)] },
             5 => Request::Groups {
                 handle,
@@ -182,10 +199,15 @@ fn on_full_tables(full: &Model, requests: usize) -> Feeds {
                 owner: MAX_GROUPS as u16,
                 group: 1,
                 flag: 1,
-                dacl: (0..=255).rev().collect(),
+                dacl: full_dacl().into_iter().rev().collect(),
             },
-            8 => Request::Duplicate { handle, kind: 1, level: 0, mask: Mask::ALL.0 },
-            _ => Request::Open { mask: 8 },
+            8 => Request::Duplicate {
+                handle,
+                kind: TokenType::Primary as u32,
+                level: Level::Anonymous as u32,
+                mask: Mask::ALL.0,
+            },
+            _ => Request::Open { mask: Mask::QUERY.0 },
         };
         desk.ask(station, request);
     }

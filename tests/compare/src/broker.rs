@@ -8,9 +8,7 @@ use crate::stack::fill_stack;
 
 /// A handle's record to C: so many bytes, aligned as its token. What they hold is
 /// [`model::HandleRecord`]'s to say.
-type Record = [u64; 2];
-
-const _: () = assert!(size_of::<Record>() == HANDLE_BYTES);
+type Record = [u64; HANDLE_BYTES / size_of::<u64>()];
 
 /// Bytes of an element of each part.
 const WIDTHS: [usize; PARTS.len()] =
@@ -29,18 +27,18 @@ struct Turn {
 extern "C" {
     fn obriska_start(
         tokens: *mut u64, tokens_len: usize, dacls: *mut u8, dacls_len: usize,
-        handles: *mut Record, handles_len: usize, stations: *mut u64, stations_len: usize,
+        handles: *mut Record, handles_len: usize, control: *mut u64, control_len: usize,
         pending: *mut u8, pending_len: usize,
     ) -> u32;
     fn obriska_feed(
         station: u32, data: *const u8, data_len: usize, answer: *mut u8, answer_len: usize,
         tokens: *mut u64, tokens_len: usize, dacls: *mut u8, dacls_len: usize,
-        handles: *mut Record, handles_len: usize, stations: *mut u64, stations_len: usize,
+        handles: *mut Record, handles_len: usize, control: *mut u64, control_len: usize,
         pending: *mut u8, pending_len: usize,
     ) -> Turn;
     fn obriska_reconnect(
         station: u32, tokens: *const u64, tokens_len: usize, dacls: *const u8, dacls_len: usize,
-        handles: *const Record, handles_len: usize, stations: *mut u64, stations_len: usize,
+        handles: *const Record, handles_len: usize, control: *mut u64, control_len: usize,
         pending: *mut u8, pending_len: usize,
     ) -> u32;
     fn obriska_find(
@@ -66,7 +64,7 @@ pub struct Lent {
 impl Lent {
     /// Calls start.
     pub fn call_start(&mut self) -> u32 {
-        let [tokens, dacls, handles, stations, pending] = &mut self.parts;
+        let [tokens, dacls, handles, control, pending] = &mut self.parts;
         unsafe {
             obriska_start(
                 tokens.as_mut_ptr(),
@@ -75,8 +73,8 @@ impl Lent {
                 dacls.len(),
                 handles.as_mut_ptr(),
                 handles.len(),
-                stations.as_mut_ptr(),
-                stations.len(),
+                control.as_mut_ptr(),
+                control.len(),
                 pending.as_mut_ptr(),
                 pending.len(),
             )
@@ -90,7 +88,7 @@ impl Lent {
         data: &[u8],
         answer: &mut [u8],
     ) -> (u32, usize, usize) {
-        let [tokens, dacls, handles, stations, pending] = &mut self.parts;
+        let [tokens, dacls, handles, control, pending] = &mut self.parts;
         let turn = unsafe {
             obriska_feed(
                 station,
@@ -104,8 +102,8 @@ impl Lent {
                 dacls.len(),
                 handles.as_mut_ptr(),
                 handles.len(),
-                stations.as_mut_ptr(),
-                stations.len(),
+                control.as_mut_ptr(),
+                control.len(),
                 pending.as_mut_ptr(),
                 pending.len(),
             )
@@ -115,7 +113,7 @@ impl Lent {
 
     /// Calls reconnect.
     pub fn call_reconnect(&mut self, station: u32) -> u32 {
-        let [tokens, dacls, handles, stations, pending] = &mut self.parts;
+        let [tokens, dacls, handles, control, pending] = &mut self.parts;
         unsafe {
             obriska_reconnect(
                 station,
@@ -125,15 +123,15 @@ impl Lent {
                 dacls.len(),
                 handles.as_ptr(),
                 handles.len(),
-                stations.as_mut_ptr(),
-                stations.len(),
+                control.as_mut_ptr(),
+                control.len(),
                 pending.as_mut_ptr(),
                 pending.len(),
             )
         }
     }
 
-    /// The slot of the station's live handle of this number, 32 if there is none.
+    /// The slot of the station's live handle of this number, past the last if there is none.
     pub fn find(&self, station: u32, number: u32) -> usize {
         let [_, _, handles, _, _] = &self.parts;
         unsafe { obriska_find(handles.as_ptr(), handles.len(), station, number) }

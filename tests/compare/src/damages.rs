@@ -2,11 +2,15 @@
 
 use gen::{each_seed, poke, state, Broker, Call};
 use model::{
-    HandleRecord, Memory, DACL_BYTES, HANDLE_ROWS, MIN_BUFFER, PARTS, PENDING_BYTES, STATION_WORDS,
-    TOKEN_WORDS,
+    HandleRecord, Memory, CONTROL_WORDS, DACL_BYTES, HANDLE_ROWS, MIN_BUFFER, PARTS, PENDING_BYTES,
+    STATIONS, TOKEN_WORDS,
 };
 
 use crate::lists::{on_memory, same_bytes};
+
+/// The last station, and the first that there is not.
+const LAST: u32 = STATIONS as u32 - 1;
+const NONE: u32 = STATIONS as u32;
 
 /// An empty chunk: what comes back says only whether the memory is valid.
 pub fn empty_feed() -> Call {
@@ -20,19 +24,19 @@ pub fn refused_calls() -> Vec<Call> {
         Call::Feed { station, chunk, buffer_len: MIN_BUFFER }
     };
     let reconnect = |station| Call::Reconnect { station };
-    let feeds = [feed(0, &[2, 1, 8]), feed(7, &[0]), feed(3, &[0x80])];
-    [vec![empty_feed()], feeds.to_vec(), vec![reconnect(0), reconnect(7)]].concat()
+    let feeds = [feed(0, &[2, 1, 8]), feed(LAST, &[0]), feed(3, &[0x80])];
+    [vec![empty_feed()], feeds.to_vec(), vec![reconnect(0), reconnect(LAST)]].concat()
 }
 
 /// Feeds and reconnects that 11 or 12 refuses before.
 pub fn refused_before() -> Vec<(u32, Call)> {
     let feed = |station, buffer_len| Call::Feed { station, chunk: vec![2, 1, 8], buffer_len };
     vec![
-        (11, feed(8, MIN_BUFFER)),
+        (11, feed(NONE, MIN_BUFFER)),
         (11, feed(u32::MAX, 0)),
         (12, feed(0, MIN_BUFFER - 1)),
-        (12, feed(7, 0)),
-        (11, Call::Reconnect { station: 8 }),
+        (12, feed(LAST, 0)),
+        (11, Call::Reconnect { station: NONE }),
         (11, Call::Reconnect { station: u32::MAX }),
     ]
 }
@@ -61,7 +65,7 @@ pub fn of_other_sizes(memory: &Memory) -> Vec<(String, Memory)> {
         (TOKEN_WORDS, |memory, size| memory.tokens.resize(size, 0)),
         (DACL_BYTES, |memory, size| memory.dacls.resize(size, 0)),
         (HANDLE_ROWS, |memory, size| memory.handles.resize(size, HandleRecord::default())),
-        (STATION_WORDS, |memory, size| memory.stations.resize(size, 0)),
+        (CONTROL_WORDS, |memory, size| memory.control.resize(size, 0)),
         (PENDING_BYTES, |memory, size| memory.pending.resize(size, 0)),
     ];
     let mut memories = Vec::new();

@@ -6,7 +6,7 @@ use std::io::Write;
 use compare::lists::{self, Both};
 use compare::Lent;
 use gen::{each_seed, near_the_last_numbers, one_seed, state, Broker, Call, Counts};
-use model::{framed, Model, HANDLES, MAX_BODY, MIN_BUFFER, STATIONS};
+use model::{framed, Model, HANDLES, LAST_REQUEST, MAX_BODY, MIN_BUFFER, STATIONS};
 
 /// Prints past the test runner's capture, so that a run that passes shows it too.
 fn print(text: &str) {
@@ -42,7 +42,7 @@ fn every_pair_of_first_bytes() {
 fn every_body_of_two_bytes() {
     let mut start = Both::<Lent>::start();
     start.feed(0, &[3, 1, 0xEF, 3]);
-    for request in 0..=13 {
+    for request in 0..=LAST_REQUEST as u8 + 2 {
         for field in 0..=255 {
             let mut both = Both::<Lent>::at(start.model.clone());
             both.feed(0, &[2, request, field]);
@@ -66,7 +66,7 @@ fn bodies_of_every_length() {
 fn long_chunks() {
     let mut both = Both::<Lent>::start();
     let many = framed(&[1, 8]).repeat(30_000);
-    for at in 0..40 {
+    for at in 0..HANDLES + 8 {
         assert_eq!(both.feed(2, &many[3 * at..]).used, 3);
     }
     both.feed(3, &[0]);
@@ -98,7 +98,8 @@ fn answer_buffers_of_every_kind() {
 #[test]
 fn stations_above_7() {
     let mut both = Both::<Lent>::start();
-    for station in [8, 9, 15, 16, 255, 256, 1 << 31, u32::MAX - 7, u32::MAX] {
+    let none = STATIONS as u32;
+    for station in [none, none + 1, 2 * none, 255, 256, 1 << 31, u32::MAX - none, u32::MAX] {
         assert_eq!(both.feed(station, &[2, 1, 8]).refusal, 11);
         assert_eq!(both.reconnect(station), 11);
     }
@@ -120,7 +121,7 @@ fn handles_are_found() {
         let lent = Lent::lend(&model.memory());
         let given: Vec<u32> = model.handles.iter().flatten().map(|handle| handle.number).collect();
         for number in given.into_iter().chain([0, 1, model.next_handle, u32::MAX]) {
-            for station in [0, 1, 2, 3, 4, 5, 6, 7, 8, u32::MAX] {
+            for station in (0..=STATIONS as u32).chain([u32::MAX]) {
                 let expected = slot(&model, station, number);
                 assert_eq!(lent.find(station, number), expected, "{station}, {number}");
                 found += usize::from(expected < HANDLES);

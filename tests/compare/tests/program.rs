@@ -7,7 +7,7 @@ use std::time::Duration;
 
 use compare::program::{compare, compare_sessions, spawn};
 use gen::{one_seed, write_chunk, Rng};
-use model::{write_number, HANDLES, MAX_CHUNK, PENDING_ROW};
+use model::{framed, write_number, HANDLES, MAX_CHUNK, PENDING_ROW, STATIONS};
 
 const OPEN: [u8; 3] = [2, 1, 0x28];
 
@@ -74,7 +74,7 @@ fn lengths_up_to_4096() {
     for length in [&[0, 1, 127, 128, PENDING_ROW, PENDING_ROW + 1], &around[..]].concat() {
         let many = OPEN.repeat(1 + length / 3);
         compare_between(&session(&[(1, &many[..length])]));
-        compare_between(&session(&[(8, &many[..length])]));
+        compare_between(&session(&[(STATIONS as u32, &many[..length])]));
         let broken = vec![0; length];
         compare_between(&session(&[(2, &broken), (2, &OPEN), (3, &OPEN)]));
     }
@@ -90,7 +90,8 @@ fn chunks_cut_short_at_the_end() {
 
 #[test]
 fn stations_above_7_are_passed_over() {
-    for station in [7, 8, 9, 127, 128, 255, 256, u32::MAX] {
+    let none = STATIONS as u32;
+    for station in [none - 1, none, none + 1, 127, 128, 255, 256, u32::MAX] {
         compare_between(&session(&[(station, &OPEN), (station, &[]), (station, &[0])]));
     }
 }
@@ -126,9 +127,10 @@ fn an_answer_comes_before_the_next_request_is_sent() {
     let mut child = spawn();
     let mut input = child.stdin.take().expect("a pipe");
     let output = blocks(child.stdout.take().expect("a pipe"));
-    for count in 1..=40 {
+    for count in 1..=HANDLES as u64 + 8 {
         input.write_all(&session(&[(0, &OPEN)])).expect("the program reads");
-        let expected = if usize::from(count) <= HANDLES { vec![2, 0, count] } else { vec![1, 8] };
+        let is_free = count <= HANDLES as u64;
+        let expected = framed(&if is_free { [vec![0], number(count)].concat() } else { vec![8] });
         let mut answer = Vec::new();
         while answer.len() < expected.len() {
             let block = output.recv_timeout(Duration::from_secs(20));

@@ -1,12 +1,12 @@
 //! Bodies of requests: mostly as wished, sometimes damaged.
 
-use model::{Model, MAX_BODY};
+use model::{Model, LAST_REQUEST, MAX_BODY, MAX_GROUPS, MORE};
 
 use crate::fields::{fields, flat, Field};
 use crate::rng::Rng;
 use crate::wishes::Wish;
 
-/// The body of a random request for the station, of 1 to 2,048 bytes.
+/// The body of a random request for the station, of 1 to [`MAX_BODY`] bytes.
 pub fn body(rng: &mut Rng, model: &Model, station: usize) -> Vec<u8> {
     let request = Wish { rng, model, station }.request();
     let fields = fields(&request);
@@ -42,7 +42,8 @@ fn damaged(rng: &mut Rng, mut fields: Vec<Field>) -> Vec<u8> {
             flat(&fields)
         }
         5 => {
-            fields[0] = Field::Number(rng.pick(&[0, 12, 13, 200, u64::MAX]));
+            let next = u64::from(LAST_REQUEST) + 1;
+            fields[0] = Field::Number(rng.pick(&[0, next, next + 1, 200, u64::MAX]));
             flat(&fields)
         }
         6 => {
@@ -63,7 +64,7 @@ fn long_form(rng: &mut Rng, field: &Field) -> Field {
     let mut bytes = field.bytes();
     for _ in 0..1 + rng.below(2) {
         if let Some(last) = bytes.last_mut() {
-            *last |= 0x80;
+            *last |= MORE;
         }
         bytes.push(0);
     }
@@ -79,8 +80,8 @@ fn other_value(rng: &mut Rng, field: &Field) -> Field {
         number.wrapping_add(1),
         number.wrapping_sub(1),
         0,
-        64,
-        65,
+        MAX_GROUPS as u64,
+        MAX_GROUPS as u64 + 1,
         0xFFFF,
         0x1_0000,
         0xFFFF_FFFF,

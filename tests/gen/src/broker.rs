@@ -1,6 +1,6 @@
 //! What takes the calls, and scripts that make them.
 
-use model::{Bytes, Fed, Memory, Model};
+use model::{Bytes, Fed, Memory, Model, Refusal, MAX_LENGTH_BYTES, MORE};
 
 use crate::call::{Call, Script};
 
@@ -85,16 +85,21 @@ impl Step<'_> {
     pub fn ended(&self) -> Option<(usize, Vec<u8>)> {
         let Call::Feed { station, chunk, .. } = self.call else { return None };
         let station = *station as usize;
-        self.status().filter(|&status| status != 10)?;
+        self.status().filter(|&status| u32::from(status) != Refusal::Broken.number())?;
         let frame = [&self.before.stations[station].pending, &chunk[..self.fed.used]].concat();
-        let head = 1 + usize::from(frame[0] >= 0x80);
-        Some((station, frame[head..].to_vec()))
+        Some((station, body_of(&frame)?.to_vec()))
     }
+}
+
+/// The body of a whole frame.
+fn body_of(frame: &[u8]) -> Option<&[u8]> {
+    let length_bytes = if *frame.first()? < MORE { 1 } else { MAX_LENGTH_BYTES };
+    frame.get(length_bytes..)
 }
 
 /// The status of an answer; `None` when there is no answer.
 pub fn status(answer: &[u8]) -> Option<u8> {
-    answer.get(1 + usize::from(*answer.first()? >= 0x80)).copied()
+    body_of(answer)?.first().copied()
 }
 
 /// Makes so many calls of the seed's script on the model and shows each to `check`.

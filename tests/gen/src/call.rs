@@ -22,6 +22,9 @@ pub struct Script {
     unsent: [Vec<u8>; STATIONS],
 }
 
+/// Stations that there are not.
+const NO_STATIONS: [u32; 4] = [STATIONS as u32, STATIONS as u32 + 1, 256, u32::MAX];
+
 const BREAKS: [&[u8]; 6] =
     [&[0x00], &[0x80, 0x00], &[0xFF, 0x00], &[0x80, 0x80], &[0x81, 0x10], &[0xFF, 0x7F]];
 
@@ -44,7 +47,7 @@ impl Script {
         let size = self.size(self.unsent[station].len());
         let chunk = self.unsent[station][..size].to_vec();
         let (station, buffer_len) = match self.rng.below(60) {
-            0 => (self.rng.pick(&[8, 9, 256, u32::MAX]), self.rng.pick(&[MIN_BUFFER, 0])),
+            0 => (self.rng.pick(&NO_STATIONS), self.rng.pick(&[MIN_BUFFER, 0])),
             1 => (station as u32, self.rng.pick(&[0, 1, MIN_BUFFER - 1])),
             _ => (station as u32, self.rng.pick(&[MIN_BUFFER, MIN_BUFFER, 4 * MIN_BUFFER])),
         };
@@ -65,7 +68,7 @@ impl Script {
             self.unsent[station].clear();
         }
         if self.rng.percent(3) {
-            return Call::Reconnect { station: self.rng.pick(&[8, 9, u32::MAX]) };
+            return Call::Reconnect { station: self.rng.pick(&NO_STATIONS) };
         }
         Call::Reconnect { station: station as u32 }
     }

@@ -3,12 +3,12 @@
 use std::collections::BTreeMap;
 use std::fmt;
 
-use model::{Fed, Reader};
+use model::{Fed, Reader, Refusal, LAST_REQUEST};
 
 use crate::broker::{status, Step};
 
 /// The statuses that each request can get; 0 stands for unknown requests.
-const POSSIBLE: [(u32, &[u8]); 12] = [
+const POSSIBLE: [(u32, &[u8]); LAST_REQUEST as usize + 1] = [
     (0, &[1]),
     (1, &[0, 1, 5, 8]),
     (2, &[0, 1, 2]),
@@ -28,7 +28,7 @@ const POSSIBLE: [(u32, &[u8]); 12] = [
 pub struct Counts {
     calls: usize,
     statuses: BTreeMap<(u32, u8), usize>,
-    refusals: [usize; 14],
+    refusals: BTreeMap<u32, usize>,
 }
 
 impl Counts {
@@ -51,7 +51,7 @@ impl Counts {
         self.calls += 1;
         let refusal =
             if fed.refusal == 0 { status(&fed.answer).unwrap_or(0).into() } else { fed.refusal };
-        self.refusals[refusal as usize] += 1;
+        *self.refusals.entry(refusal).or_default() += 1;
     }
 
     fn status(&mut self, body: &[u8], fed: &Fed) {
@@ -68,7 +68,7 @@ impl Counts {
     /// Each request got every status that it can get so often at least, and no other.
     pub fn check_statuses(&self, least: usize) {
         for (request, statuses) in POSSIBLE {
-            for status in 0..=10 {
+            for status in 0..=Refusal::LAST.number() as u8 {
                 let count = self.of(request, status);
                 let expected = statuses.contains(&status);
                 assert!(!expected || count >= least, "request {request}, status {status}: {count}");
@@ -77,17 +77,23 @@ impl Counts {
         }
     }
 
-    /// Each refusal from 1 to 13 came so often at least.
+    /// Each refusal came so often at least.
     pub fn check_refusals(&self, least: usize) {
-        for (refusal, &count) in self.refusals.iter().enumerate().skip(1) {
+        for (refusal, count) in self.refusals() {
             assert!(count >= least, "refusal {refusal} came {count} times");
         }
+    }
+
+    /// The refusals, and how often each came.
+    fn refusals(&self) -> impl Iterator<Item = (u32, usize)> + '_ {
+        let count = |refusal| self.refusals.get(&refusal).copied().unwrap_or(0);
+        (1..=Refusal::LAST.number()).map(move |refusal| (refusal, count(refusal)))
     }
 }
 
 /// The number of the request, 0 if there is no such request.
 fn request_number(body: &[u8]) -> u32 {
-    Reader::new(body).u32().filter(|number| (1..=11).contains(number)).unwrap_or(0)
+    Reader::new(body).u32().filter(|number| *number <= LAST_REQUEST).unwrap_or(0)
 }
 
 impl fmt::Display for Counts {
@@ -100,7 +106,7 @@ impl fmt::Display for Counts {
             writeln!(f)?;
         }
         write!(f, "refusals   ")?;
-        for (refusal, count) in self.refusals.iter().enumerate().skip(1) {
+        for (refusal, count) in self.refusals() {
             write!(f, "  {refusal}: {count}")?;
         }
         write!(f, "  in {} calls", self.calls)

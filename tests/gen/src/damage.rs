@@ -1,8 +1,8 @@
 //! Damaging a memory at one place, chosen with a view to the state that it holds.
 
 use model::{
-    station_word, token_word, Handle, Memory, Model, Token, DACL_ROW, PENDING_ROW, STATION_ROW,
-    STATION_WORD, TOKEN_ROW,
+    control_word, station_word, token_word, Handle, Memory, Model, Token, DACL_ROW, PENDING_ROW,
+    STATION_ROW, TOKEN_ROW,
 };
 
 use crate::rng::Rng;
@@ -60,7 +60,7 @@ impl Target<'_> {
 
     /// A word of a station.
     pub fn station(&mut self, station: usize, word: usize) -> &mut u64 {
-        &mut self.memory.stations[STATION_WORD + STATION_ROW * station + word]
+        &mut self.memory.control[control_word::STATIONS + station * STATION_ROW + word]
     }
 
     /// A byte of a station's pending row.

@@ -1,9 +1,10 @@
 //! For each rule of valid memory the damages that break this rule and, but for two, no other.
 
 use model::{
-    handle_byte, station_word, token_word, Group, HandleRecord, Memory, Model, Token, TokenType,
-    ALL_PRIVILEGES, DACL_ROW, HANDLE_BYTES, MAX_BODY, MAX_DACL, MAX_GROUPS, MAX_RESTRICTING,
-    NEXT_HANDLE, NEXT_TOKEN, PARTS, PENDING_ROW, TOKEN_ROW,
+    control_word, framed, handle_byte, station_word, token_word, Group, HandleRecord, Memory,
+    Model, Token, TokenType, ALL_PRIVILEGES, ATTRIBUTES_BIT, DACL_ROW, HANDLE_BYTES, MAX_BODY,
+    MAX_DACL, MAX_GROUPS, MAX_LENGTH_BYTES, MAX_RESTRICTING, MORE, NO_CHANGE, PARTS, PENDING_ROW,
+    STATIONS, TOKEN_ROW,
 };
 
 use crate::damage::{references, Target};
@@ -39,23 +40,23 @@ pub const DAMAGES: &[Damage] = &[
     damage("size", "a part is shorter", |t| resize(t, -1)),
     damage("size", "a part is empty", |t| resize(t, isize::MIN)),
     damage("next numbers", "the next token number is 0", |t| {
-        t.memory.stations[NEXT_TOKEN] = 0;
+        t.memory.control[control_word::NEXT_TOKEN] = 0;
         Some(())
     }),
     damage("next numbers", "the next handle number is 0", |t| {
-        t.memory.stations[NEXT_HANDLE] = 0;
+        t.memory.control[control_word::NEXT_HANDLE] = 0;
         t.model.handles.iter().all(Option::is_none).then_some(())
     }),
     damage("numbers", "two tokens have one number", two_tokens_with_one_number),
     damage("numbers", "two handles have one number", two_handles_with_one_number),
     damage("numbers", "a token number is not below the next", |t| {
         let highest = t.model.tokens.iter().flatten().map(|token| token.number).max()?;
-        t.memory.stations[NEXT_TOKEN] = t.rng.pick(&[highest, 1]);
+        t.memory.control[control_word::NEXT_TOKEN] = t.rng.pick(&[highest, 1]);
         Some(())
     }),
     damage("numbers", "a handle number is not below the next", |t| {
         let highest = t.model.handles.iter().flatten().map(|handle| handle.number).max()?;
-        t.memory.stations[NEXT_HANDLE] = t.rng.pick(&[highest, 1]).into();
+        t.memory.control[control_word::NEXT_HANDLE] = t.rng.pick(&[highest, 1]).into();
         Some(())
     }),
     damage("references", "a handle's token is not live", |t| {
@@ -94,31 +95,31 @@ pub const DAMAGES: &[Damage] = &[
         t.memory.tokens.copy_within(from..from + TOKEN_ROW, to);
         *t.word(slot, token_word::NUMBER) = t.model.next_token;
         *t.word(slot, token_word::DACL_LENGTH) = 0;
-        t.memory.stations[NEXT_TOKEN] = t.model.next_token.checked_add(1)?;
+        t.memory.control[control_word::NEXT_TOKEN] = t.model.next_token.checked_add(1)?;
         Some(())
     }),
     damage("free", "a word of a free token slot", |t| {
         let (slot, word) = (t.free_slot()?, 1 + t.rng.below(TOKEN_ROW - 1));
-        *t.word(slot, word) = 1 << t.rng.below(64);
+        *t.word(slot, word) = t.rng.bit(u64::BITS);
         Some(())
     }),
     damage("free", "a byte of a free DACL row", |t| {
         let (slot, at) = (t.free_slot()?, t.rng.below(DACL_ROW));
-        *t.dacl(slot, at) = 1 << t.rng.below(8);
+        *t.dacl(slot, at) = t.rng.bit(u8::BITS) as u8;
         Some(())
     }),
     damage("free", "a group past the count", |t| {
         let slot = t.slot(|token| token.groups.len() < MAX_GROUPS)?;
         let count = t.token(slot)?.groups.len();
         let at = t.rng.pick(&[count, MAX_GROUPS - 1]);
-        *t.group(slot, at) = 1 << t.rng.below(64);
+        *t.group(slot, at) = t.rng.bit(u64::BITS);
         Some(())
     }),
     damage("free", "a restricting SID past the count", |t| {
         let slot = t.slot(|token| token.restricting.len() < MAX_RESTRICTING)?;
         let count = t.token(slot)?.restricting.len();
         let at = t.rng.pick(&[count, MAX_RESTRICTING - 1]);
-        *t.restricting(slot, at) = 1 << t.rng.below(64);
+        *t.restricting(slot, at) = t.rng.bit(u64::BITS);
         Some(())
     }),
     damage("free", "a DACL byte past the length", |t| {
@@ -132,7 +133,7 @@ pub const DAMAGES: &[Damage] = &[
         let at = t.handle_slot(|handle| handle.is_none())?;
         let byte = t.rng.pick(&free_slot_bytes());
         let mut bytes = [0; HANDLE_BYTES];
-        bytes[byte] = 1 << t.rng.below(8);
+        bytes[byte] = t.rng.bit(u8::BITS) as u8;
         t.memory.handles[at] = HandleRecord::from_bytes(&bytes);
         Some(())
     }),
@@ -178,12 +179,12 @@ pub const DAMAGES: &[Damage] = &[
     damage("ranges", "restricting SID", |t| {
         let slot = t.slot(|token| !token.restricting.is_empty())?;
         let at = t.rng.below(t.token(slot)?.restricting.len());
-        *t.restricting(slot, at) |= 1 << (32 + t.rng.below(32));
+        *t.restricting(slot, at) |= t.rng.bit(u32::BITS) << u32::BITS;
         Some(())
     }),
     damage("ranges", "a handle's station", |t| {
         let at = t.handle_slot(|handle| handle.is_some())?;
-        t.memory.handles[at].station = t.rng.pick(&[8, 256, u16::MAX]);
+        t.memory.handles[at].station = t.rng.pick(&[STATIONS as u16, 256, u16::MAX]);
         Some(())
     }),
     damage("ranges", "a handle's mask", |t| {
@@ -192,7 +193,7 @@ pub const DAMAGES: &[Damage] = &[
         Some(())
     }),
     damage("ranges", "next handle number", |t| {
-        t.memory.stations[NEXT_HANDLE] = t.rng.pick(&[1 << 32, u64::MAX]);
+        t.memory.control[control_word::NEXT_HANDLE] = t.rng.pick(&[1 << 32, u64::MAX]);
         Some(())
     }),
     damage("ranges", "broken mark", |t| {
@@ -207,12 +208,14 @@ pub const DAMAGES: &[Damage] = &[
     damage("existing privileges", "used", |t| unknown_bit(t, token_word::USED)),
     damage("attributes", "an unknown bit", |t| {
         let (slot, at) = grouped(t, |_| true)?;
-        *t.group(slot, at) |= 1 << (32 + 5 + t.rng.below(25));
+        let known = u64::from(Group::ALL) << ATTRIBUTES_BIT | u64::from(u32::MAX);
+        *t.group(slot, at) |= 1 << t.rng.pick(&clear_bits(known));
         Some(())
     }),
     damage("attributes", "one logon bit", |t| {
         let (slot, at) = grouped(t, |_| true)?;
-        *t.group(slot, at) ^= t.rng.pick(&[1 << 62, 1 << 63]);
+        let logon = u64::from(Group::LOGON_ID) << ATTRIBUTES_BIT;
+        *t.group(slot, at) ^= 1 << t.rng.pick(&[logon.trailing_zeros(), logon.ilog2()]);
         Some(())
     }),
     damage("primary level", "a primary token with a level", |t| {
@@ -229,12 +232,12 @@ pub const DAMAGES: &[Damage] = &[
     }),
     damage("deny-only", "a deny-only group is enabled", |t| {
         let (slot, at) = grouped(t, |group| group.has(Group::DENY_ONLY))?;
-        *t.group(slot, at) |= u64::from(Group::ENABLED) << 32;
+        *t.group(slot, at) |= u64::from(Group::ENABLED) << ATTRIBUTES_BIT;
         Some(())
     }),
     damage("deny-only", "an enabled group is deny-only", |t| {
         let (slot, at) = grouped(t, |group| group.has(Group::ENABLED))?;
-        *t.group(slot, at) |= u64::from(Group::DENY_ONLY) << 32;
+        *t.group(slot, at) |= u64::from(Group::DENY_ONLY) << ATTRIBUTES_BIT;
         Some(())
     }),
     damage("pending", "broken with pending bytes", |t| {
@@ -244,15 +247,17 @@ pub const DAMAGES: &[Damage] = &[
         Some(())
     }),
     damage("pending", "length 0", |t| t.set_pending(&[0])),
-    damage("pending", "second length byte 0", |t| t.set_pending(&[0x85, 0])),
-    damage("pending", "second length byte with top bit", |t| t.set_pending(&[0x85, 0x80])),
-    damage("pending", "length 2,049", |t| t.set_pending(&[0x81, 0x10, 1])),
-    damage("pending", "length 2,176", |t| t.set_pending(&[0x80, 0x11])),
+    damage("pending", "second length byte 0", |t| t.set_pending(&[MORE | 5, 0])),
+    damage("pending", "second length byte with top bit", |t| t.set_pending(&[MORE | 5, MORE])),
+    damage("pending", "a length one over the limit", |t| {
+        t.set_pending(&framed(&[1; MAX_BODY + 1])[..=MAX_LENGTH_BYTES])
+    }),
+    damage("pending", "a second length byte one over the limit", |t| {
+        t.set_pending(&framed(&[1; MAX_BODY + MORE as usize])[..MAX_LENGTH_BYTES])
+    }),
     damage("pending", "a whole frame", |t| t.set_pending(&[2, 1, 8])),
     damage("pending", "more than a frame", |t| t.set_pending(&[2, 1, 8, 2])),
-    damage("pending", "the longest frame, whole", |t| {
-        t.set_pending(&[vec![0x80, 0x10], vec![7; MAX_BODY]].concat())
-    }),
+    damage("pending", "the longest frame, whole", |t| t.set_pending(&framed(&[7; MAX_BODY]))),
     damage("pending", "a count past the row", |t| {
         let at = t.some_station(|_| true)?;
         *t.station(at, station_word::BROKEN) = 0;
@@ -282,7 +287,7 @@ fn resize(t: &mut Target, by: isize) -> Option<()> {
         0 => memory.tokens.resize(size(memory.tokens.len()), 0),
         1 => memory.dacls.resize(size(memory.dacls.len()), 0),
         2 => memory.handles.resize(size(memory.handles.len()), HandleRecord::default()),
-        3 => memory.stations.resize(size(memory.stations.len()), 0),
+        3 => memory.control.resize(size(memory.control.len()), 0),
         _ => memory.pending.resize(size(memory.pending.len()), 0),
     }
     Some(())
@@ -349,21 +354,24 @@ fn grouped(t: &mut Target, fits: fn(&Group) -> bool) -> Option<(usize, usize)> {
 fn past_groups(t: &mut Target, word: usize) -> Option<()> {
     let slot = t.slot(any)?;
     let count = t.token(slot)?.groups.len() as u64;
-    *t.word(slot, word) = t.rng.pick(&[count + 1, 0xFFFF, 1 << 16, 1 << 32, u64::MAX]);
+    *t.word(slot, word) = t.rng.pick(&[count + 1, NO_CHANGE.into(), 1 << 16, 1 << 32, u64::MAX]);
     Some(())
 }
 
 fn absent_bit(t: &mut Target, word: usize) -> Option<()> {
     let slot = t.slot(any)?;
     let present = t.token(slot)?.privileges.present;
-    let absent: Vec<u32> = (0..64).filter(|bit| present >> bit & 1 == 0).collect();
-    *t.word(slot, word) |= 1 << t.rng.pick_any(&absent)?;
+    *t.word(slot, word) |= 1 << t.rng.pick(&clear_bits(present));
     Some(())
 }
 
 fn unknown_bit(t: &mut Target, word: usize) -> Option<()> {
     let slot = t.slot(any)?;
-    let unknown: Vec<u32> = (0..64).filter(|bit| ALL_PRIVILEGES >> bit & 1 == 0).collect();
-    *t.word(slot, word) |= 1 << t.rng.pick(&unknown);
+    *t.word(slot, word) |= 1 << t.rng.pick(&clear_bits(ALL_PRIVILEGES));
     Some(())
+}
+
+/// The bits that are not set in the word.
+fn clear_bits(word: u64) -> Vec<u32> {
+    (0..u64::BITS).filter(|bit| word >> bit & 1 == 0).collect()
 }

@@ -40,12 +40,12 @@ pub fn poke(rng: &mut Rng, memory: &mut Memory) {
         memory.tokens.chunks(TOKEN_ROW).position(|row| row[token_word::NUMBER] != 0).unwrap_or(0);
     match rng.below(9) {
         0 => *any(rng, &mut memory.tokens) = value,
-        1 => memory.tokens[TOKEN_ROW * live + rng.below(TOKEN_ROW)] ^= 1 << rng.below(64),
+        1 => memory.tokens[TOKEN_ROW * live + rng.below(TOKEN_ROW)] ^= rng.bit(u64::BITS),
         2 => memory.tokens[TOKEN_ROW * live + rng.below(token_word::GROUPS)] = value,
         3 => *any(rng, &mut memory.dacls) = value as u8,
         4 => memory.dacls[DACL_ROW * live + rng.below(DACL_ROW)] = value as u8,
         5 => poke_handle(rng, &mut memory.handles, value),
-        6 => *any(rng, &mut memory.stations) = value,
+        6 => *any(rng, &mut memory.control) = value,
         7 => *any(rng, &mut memory.pending) = value as u8,
         _ => memory.pending[PENDING_ROW * rng.below(STATIONS) + rng.below(4)] = value as u8,
     }
@@ -79,7 +79,7 @@ pub fn filled(pattern: u8) -> Memory {
 
 fn filled_by(mut byte: impl FnMut() -> u8) -> Memory {
     let mut memory = Model::start().memory();
-    for word in memory.tokens.iter_mut().chain(&mut memory.stations) {
+    for word in memory.tokens.iter_mut().chain(&mut memory.control) {
         *word = u64::from_ne_bytes(std::array::from_fn(|_| byte()));
     }
     for place in memory.dacls.iter_mut().chain(&mut memory.pending) {

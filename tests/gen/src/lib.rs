@@ -28,3 +28,4 @@ pub use rng::Rng;
 pub use seeds::{each_seed, one_seed};
 pub use session::{session, write_chunk};
 pub use state::{near_the_last_numbers, state};
+pub use wishes::NEEDED;

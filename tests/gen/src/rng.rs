@@ -58,6 +58,11 @@ impl Rng {
         (0..count).map(|_| rest.swap_remove(self.below(rest.len()))).collect()
     }
 
+    /// A word with one bit set, of so many low ones.
+    pub fn bit(&mut self, bits: u32) -> u64 {
+        1 << self.below(bits as usize)
+    }
+
     /// A word with few, half or most of its bits set.
     pub fn bits(&mut self) -> u64 {
         match self.below(4) {

@@ -7,6 +7,7 @@ use model::{
 };
 
 use crate::rng::Rng;
+use crate::wishes::NEEDED;
 
 /// A random valid state.
 pub fn state(rng: &mut Rng) -> Model {
@@ -38,16 +39,23 @@ fn live(model: &Model) -> impl Iterator<Item = &Token> {
     model.tokens.iter().flatten()
 }
 
+/// Numbers for the live ones of so many slots, three for each: low, from the middle, or a little
+/// below the largest.
+fn numbers(rng: &mut Rng, slots: usize, middle: u64, largest: u64) -> Vec<u64> {
+    let count = 3 * slots as u64;
+    let base = rng.pick(&[0, 0, middle, largest - 2 * count]);
+    (1..=count).map(|number| base + number).collect()
+}
+
 /// Tokens in random slots with random numbers, one of them primary at least.
 fn place_tokens(rng: &mut Rng, model: &mut Model) {
     let slots: Vec<usize> = (0..TOKENS).collect();
-    let most = rng.pick(&[3, 8, TOKENS]);
+    let most = rng.pick(&[3, TOKENS / 2, TOKENS]);
     let mut chosen = rng.some(&slots, most);
     if chosen.is_empty() {
         chosen.push(rng.below(TOKENS));
     }
-    let base = rng.pick(&[0, 0, 1 << 32, u64::MAX - 200]);
-    let numbers: Vec<u64> = (1..=100).map(|number| base + number).collect();
+    let numbers = numbers(rng, TOKENS, 1 << 32, u64::MAX);
     model.tokens = [const { None }; TOKENS];
     let mut highest = 0;
     for (&slot, number) in chosen.iter().zip(distinct(rng, &numbers, chosen.len())) {
@@ -70,8 +78,10 @@ fn distinct<T: Copy>(rng: &mut Rng, items: &[T], count: usize) -> Vec<T> {
 
 /// A handle on each token that no station has, and some more.
 fn place_handles(rng: &mut Rng, model: &mut Model) {
-    let base = rng.pick(&[0, 0, 1 << 20, u32::MAX - 200]);
-    let numbers: Vec<u32> = (1..=100).map(|number| base + number).collect();
+    let numbers: Vec<u32> = numbers(rng, HANDLES, 1 << 20, u32::MAX.into())
+        .into_iter()
+        .map(|number| number as u32)
+        .collect();
     let mut unreferred: Vec<u64> = live(model)
         .map(|token| token.number)
         .filter(|&number| !model.is_referred_to(number))
@@ -83,7 +93,7 @@ fn place_handles(rng: &mut Rng, model: &mut Model) {
     let slots: Vec<usize> = (0..HANDLES).collect();
     let places = distinct(rng, &slots, unreferred.len());
     let given = distinct(rng, &numbers, unreferred.len());
-    let highest = given.iter().copied().max().unwrap_or(base);
+    let highest = given.iter().copied().max().unwrap_or(numbers[0] - 1);
     for ((slot, number), token) in places.into_iter().zip(given).zip(unreferred) {
         model.handles[slot] = Some(random_handle(rng, number, token));
     }
@@ -102,7 +112,7 @@ fn random_token(rng: &mut Rng, number: u64) -> Token {
         TokenType::Primary => Level::Anonymous,
         TokenType::Impersonation => rng.pick(&levels),
     };
-    let present = (rng.bits() | rng.pick(&[0, 0x8C])) & ALL_PRIVILEGES;
+    let present = (rng.bits() | rng.pick(&[0, NEEDED])) & ALL_PRIVILEGES;
     let mut token = Token {
         modified: rng.pick(&[number, 0, u64::MAX]),
         kind,
@@ -110,7 +120,7 @@ fn random_token(rng: &mut Rng, number: u64) -> Token {
         elevation: rng.pick(&[Elevation::Default, Elevation::Full, Elevation::Limited]),
         privileges: Privileges {
             present,
-            enabled: (rng.bits() | 0x8C) & present,
+            enabled: (rng.bits() | NEEDED) & present,
             default: rng.bits() & present,
             used: rng.bits() & ALL_PRIVILEGES,
         },
@@ -140,7 +150,7 @@ fn small_list(rng: &mut Rng, most: usize) -> Vec<()> {
 
 fn random_group(rng: &mut Rng) -> Group {
     let logon = if rng.percent(15) { Group::LOGON_ID } else { 0 };
-    let mut attributes = rng.word() as u32 & 0x1F | logon;
+    let mut attributes = rng.word() as u32 & Group::ALL & !Group::LOGON_ID | logon;
     if attributes & Group::DENY_ONLY != 0 {
         attributes &= !Group::ENABLED;
     }

@@ -1,8 +1,10 @@
 //! Requests that make sense in a state, with a bad value now and then.
 
 use model::{
-    Group, Handle, Mask, Model, Reader, Request, Token, TokenType, ALL_PRIVILEGES,
-    INTEGRITY_LEVELS, MAX_DACL, MAX_GROUPS, NO_CHANGE, RESET_GROUPS, RESET_PRIVILEGES,
+    number_length, Group, Handle, Level, Mask, Model, Reader, Refusal, Request, Token, TokenType,
+    ALL_PRIVILEGES, ASSIGN_PRIMARY, CREATE_TOKEN, FIRST_PRIVILEGE, HANDLES, INTEGRITY_LEVELS,
+    LAST_CLASS, LAST_PRIVILEGE, LAST_REQUEST, MAX_DACL, MAX_GROUPS, MAX_RESTRICTING, NO_CHANGE,
+    RESET_GROUPS, RESET_PRIVILEGES, TCB, TOKENS,
 };
 
 use crate::fields::{fields, flat};
@@ -15,8 +17,18 @@ pub(crate) struct Wish<'a> {
     pub station: usize,
 }
 
+/// The privileges that requests need.
+const NEEDED_ONES: [u32; 3] = [CREATE_TOKEN, ASSIGN_PRIMARY, TCB];
+/// Their bits.
+pub const NEEDED: u64 = 1 << CREATE_TOKEN | 1 << ASSIGN_PRIMARY | 1 << TCB;
+
+/// The size of the longest report: all groups there may be, of the longest SIDs and attributes.
+const LONGEST_REPORT: u32 =
+    (number_length(MAX_GROUPS as u64) + MAX_GROUPS * 2 * number_length(u32::MAX as u64)) as u32;
+
 const SIDS: [u32; 9] = [7, 18, 50, 51, 60, 61, 62, 0, u32::MAX];
-const RIGHTS: [Mask; 12] = [
+/// The right that each request needs on its handle.
+const RIGHTS: [Mask; LAST_REQUEST as usize + 1] = [
     Mask(0),
     Mask(0),
     Mask(0),
@@ -68,14 +80,14 @@ impl Wish<'_> {
 
     /// A request's number: open without handles, close when slots run out.
     fn kind(&mut self) -> usize {
-        let mut weights = [0, 16, 6, 10, 14, 14, 16, 8, 12, 14, 14, 10];
+        let mut weights: [_; RIGHTS.len()] = [0, 16, 6, 10, 14, 14, 16, 8, 12, 14, 14, 10];
         if self.own_handles().len() < 2 {
             weights[1] = 60;
         }
-        if self.model.handles.iter().flatten().count() > 29 {
+        if self.model.handles.iter().flatten().count() > HANDLES - 3 {
             weights[2] += 8;
         }
-        if self.model.tokens.iter().flatten().count() > 14 {
+        if self.model.tokens.iter().flatten().count() > TOKENS - 2 {
             weights[2] += 14;
         }
         self.rng.weighted(&weights)
@@ -126,7 +138,7 @@ impl Wish<'_> {
         match self.rng.below(20) {
             0..=6 => limit,
             7..=15 => mask,
-            16 => limit & !(1 << self.rng.below(9)),
+            16 => limit & !self.rng.bit(Mask::ALL.0.ilog2() + 1) as u32,
             17 => Mask::ALL.0,
             _ => self.rng.pick(&[0, 0x10, 0x200, 0x1FF, odd]),
         }
@@ -136,13 +148,14 @@ impl Wish<'_> {
         let user = self.rng.pick(&SIDS);
         let session = self.rng.pick(&[999, 999, 9, 0, u64::MAX]);
         let mut integrity = self.rng.pick(&INTEGRITY_LEVELS);
-        let mut present = (self.rng.bits() | 0x8C) & ALL_PRIVILEGES;
-        let kept = self.rng.pick(&[0x8C, 0x8C, 0x0C, 0x0C, 0x0C, 0]);
-        let mut default = (self.rng.bits() & !0x8C | kept) & present;
+        let mut present = (self.rng.bits() | NEEDED) & ALL_PRIVILEGES;
+        let without_tcb = NEEDED & !(1 << TCB);
+        let kept = self.rng.pick(&[NEEDED, NEEDED, without_tcb, without_tcb, without_tcb, 0]);
+        let mut default = (self.rng.bits() & !NEEDED | kept) & present;
         let mut groups = self.new_groups(user);
         match self.rng.below(30) {
             0 => integrity = self.rng.pick(&[1, 4095, 16385, 20480, u32::MAX]),
-            1 => present |= self.rng.pick(&[1, 2, 1 << 37, 1 << 63]),
+            1 => present |= self.unknown_privilege(),
             2 => default = self.rng.word(),
             3 => groups.extend([(60, 2); MAX_GROUPS + 1]),
             _ => {}
@@ -150,10 +163,15 @@ impl Wish<'_> {
         Request::Create { user, session, integrity, present, default, groups }
     }
 
+    /// The bit of a privilege that does not exist.
+    fn unknown_privilege(&mut self) -> u64 {
+        1 << self.rng.pick(&[0, FIRST_PRIVILEGE - 1, LAST_PRIVILEGE + 1, u64::BITS - 1])
+    }
+
     fn new_groups(&mut self, user: u32) -> Vec<(u32, u32)> {
         let count = match self.rng.below(12) {
             0 => 0,
-            1 => 63 + self.rng.below(2),
+            1 => MAX_GROUPS - self.rng.below(2),
             2 => self.rng.below(MAX_GROUPS),
             _ => 1 + self.rng.below(6),
         };
@@ -175,14 +193,14 @@ impl Wish<'_> {
 
     fn query(&mut self, handle: u32) -> Request {
         let class = match self.rng.below(25) {
-            0 => self.rng.pick(&[0, 14, 15, 128, u32::MAX]),
-            _ => 1 + self.rng.below(13) as u32,
+            0 => self.rng.pick(&[0, LAST_CLASS + 1, LAST_CLASS + 2, 128, u32::MAX]),
+            _ => 1 + self.rng.below(LAST_CLASS as usize) as u32,
         };
         let capacity = match self.rng.below(4) {
             0 => self.report_size(handle, class).saturating_sub(1),
             1 => self.report_size(handle, class),
-            2 => self.rng.pick(&[0, 1, 640, 641, u32::MAX]),
-            _ => 640 + self.rng.below(4) as u32,
+            2 => self.rng.pick(&[0, 1, u32::MAX]),
+            _ => LONGEST_REPORT - 1 + self.rng.below(4) as u32,
         };
         Request::Query { handle, class, capacity }
     }
@@ -192,7 +210,9 @@ impl Wish<'_> {
         let query = flat(&fields(&Request::Query { handle, class, capacity: 0 }));
         let answer = self.model.clone().serve(self.station, &query);
         match answer.split_first() {
-            Some((9, size)) => Reader::new(size).u32().unwrap_or_default(),
+            Some((&status, size)) if u32::from(status) == Refusal::Capacity(0).number() => {
+                Reader::new(size).u32().unwrap_or_default()
+            }
             _ => 0,
         }
     }
@@ -202,7 +222,8 @@ impl Wish<'_> {
             return vec![RESET_PRIVILEGES];
         }
         let present = self.token(handle).map_or(0, |token| token.privileges.present);
-        let all: Vec<u32> = [2, 3, 7].into_iter().chain(2..37).collect();
+        let all: Vec<u32> =
+            NEEDED_ONES.into_iter().chain(FIRST_PRIVILEGE..=LAST_PRIVILEGE).collect();
         let mut named = self.rng.some(&all, 4);
         named.push(self.rng.pick(&all));
         if !self.rng.percent(4) {
@@ -213,7 +234,7 @@ impl Wish<'_> {
             named.into_iter().map(|named| (named, self.privilege_action(named, present))).collect();
         match self.rng.below(30) {
             0 => entries.clear(),
-            1 => entries[0].0 = self.rng.pick(&[0, 1, 37, 64, u32::MAX]),
+            1 => entries[0].0 = self.rng.pick(&[0, 1, LAST_PRIVILEGE + 1, u64::BITS, u32::MAX]),
             2 => entries[0].1 = self.rng.pick(&[1, 3, 6, 0x8000_0000, u32::MAX]),
             3 => entries.push(RESET_PRIVILEGES),
             _ => {}
@@ -223,11 +244,11 @@ impl Wish<'_> {
 
     /// Seldom removes what the other requests need.
     fn privilege_action(&mut self, named: u32, present: u64) -> u32 {
-        let is_needed = [2, 3, 7].contains(&named);
+        let is_needed = NEEDED_ONES.contains(&named);
         let is_present = present >> named & 1 == 1;
         match self.rng.below(10) {
             0 if !is_needed || self.rng.percent(20) => 4,
-            1..=3 if !is_needed || named == 7 || self.rng.percent(60) => 0,
+            1..=3 if !is_needed || named == TCB || self.rng.percent(60) => 0,
             _ if is_present || self.rng.percent(10) => 2,
             _ => 0,
         }
@@ -283,8 +304,8 @@ impl Wish<'_> {
         let mut group = if self.rng.percent(30) { NO_CHANGE } else { any_group };
         match self.rng.below(20) {
             0 => owner = any_group,
-            1 => owner = self.rng.pick(&[count + 1, 0xFFFE]),
-            2 => group = self.rng.pick(&[count + 1, 0xFFFE]),
+            1 => owner = self.rng.pick(&[count + 1, NO_CHANGE - 1]),
+            2 => group = self.rng.pick(&[count + 1, NO_CHANGE - 1]),
             _ => {}
         }
         let (flag, dacl) = self.dacl();
@@ -310,14 +331,16 @@ impl Wish<'_> {
         let source = self.token(handle).map(|token| (token.kind, token.level as usize));
         let mut kind = 1 + self.rng.below(2) as u32;
         let highest = match source {
-            Some((TokenType::Impersonation, level)) if kind == 2 => level,
-            _ => 3,
+            Some((TokenType::Impersonation, level)) if kind == TokenType::Impersonation as u32 => {
+                level
+            }
+            _ => Level::Delegation as usize,
         };
         let mut level = self.rng.below(highest + 1) as u32;
         match self.rng.below(25) {
             0 => kind = self.rng.pick(&[0, 3, u32::MAX]),
             1 => level = self.rng.pick(&[4, 5, u32::MAX]),
-            2 => level = 3,
+            2 => level = Level::Delegation as u32,
             _ => {}
         }
         let mask = self.mask(handle.mask);
@@ -329,16 +352,17 @@ impl Wish<'_> {
         let indexes: Vec<u32> = (0..groups as u32).collect();
         let most = if self.rng.percent(10) { MAX_GROUPS } else { 3 };
         let mut deny = self.rng.some(&indexes, most);
-        let count = if self.rng.percent(12) { self.rng.below(18) } else { self.rng.below(3) };
+        let most = if self.rng.percent(12) { MAX_RESTRICTING + 2 } else { 3 };
+        let count = self.rng.below(most);
         let sids = (0..count).map(|_| self.rng.pick(&SIDS)).collect();
         let mut write_restricted = u32::from(self.rng.percent(25));
         let mut remove = self.rng.word() & self.rng.bits() & ALL_PRIVILEGES;
         if self.rng.percent(85) {
-            remove &= !0x8C;
+            remove &= !NEEDED;
         }
         match self.rng.below(30) {
             0 => write_restricted = 2,
-            1 => remove |= self.rng.pick(&[1, 2, 1 << 37, 1 << 63]),
+            1 => remove |= self.unknown_privilege(),
             2 => deny.push(groups as u32),
             3 => deny.extend(deny.clone().first()),
             _ => {}

@@ -1,7 +1,7 @@
 //! Every request gets every status that it can get, and the memory always holds the state.
 
-use gen::{body, near_the_last_numbers, state, Counts, Rng};
-use model::{framed, Model, MIN_BUFFER, STATIONS};
+use gen::{body, fields, flat, near_the_last_numbers, state, Counts, Rng};
+use model::{framed, Mask, Model, Request, HANDLES, MIN_BUFFER, STATIONS};
 
 /// Feeds so many requests as whole frames and counts their statuses.
 fn run(seed: u64, mut model: Model, requests: usize, counts: &mut Counts) {
@@ -21,11 +21,22 @@ fn run(seed: u64, mut model: Model, requests: usize, counts: &mut Counts) {
     }
 }
 
+/// The start, and all handle slots but a few taken.
+fn crowded() -> Model {
+    let mut model = Model::start();
+    let open = framed(&flat(&fields(&Request::Open { mask: Mask::ALL.0 })));
+    for handle in 4..HANDLES {
+        model.feed((handle % STATIONS) as u32, &open, MIN_BUFFER);
+    }
+    model
+}
+
 #[test]
 fn every_status_from_the_start() {
     let mut counts = Counts::default();
     for seed in 0..40 {
-        run(seed, Model::start(), 500, &mut counts);
+        let first = if seed % 4 == 0 { crowded() } else { Model::start() };
+        run(seed, first, 500, &mut counts);
     }
     println!("from the start:\n{counts}");
     counts.check_statuses(20);

@@ -33,7 +33,7 @@ fn each_damage_breaks_its_rule_alone() {
 
 #[test]
 fn every_rule_has_a_damage() {
-    for (rule, _) in RULES {
+    for &(rule, _) in RULES {
         assert!(DAMAGES.iter().any(|damage| damage.rule == rule), "{rule}");
     }
 }

@@ -14,7 +14,7 @@ const ENABLE: u32 = 2;
 const REMOVE: u32 = 4;
 
 /// Words in the report of request 6.
-const ENABLED_WORDS: usize = 16;
+pub(crate) const ENABLED_WORDS: usize = 16;
 /// Bits of a word.
 const WORD_BITS: usize = u64::BITS as usize;
 

@@ -1,11 +1,11 @@
 //! Frames: a body length of one or two bytes, then the body.
 
-use crate::number::write_number;
+use crate::number::{number_length, write_number, MORE, NUMBER_BITS};
 
 /// The longest body of a frame.
 pub const MAX_BODY: usize = 2048;
 /// Most bytes of a body's length.
-pub const MAX_LENGTH_BYTES: usize = 2;
+pub const MAX_LENGTH_BYTES: usize = number_length(MAX_BODY as u64);
 
 /// What the first bytes of a stream, from a frame's begin on, amount to.
 #[derive(Debug, PartialEq, Eq)]
@@ -22,11 +22,11 @@ pub(crate) enum Progress<'a> {
 pub(crate) fn progress(bytes: &[u8]) -> Progress<'_> {
     let (length, body) = match *bytes {
         [] => return Progress::Partial,
-        [first, ref body @ ..] if first < 0x80 => (usize::from(first), body),
+        [first, ref body @ ..] if first < MORE => (usize::from(first), body),
         [_] => return Progress::Partial,
-        [_, 0 | 0x80..=0xFF, ..] => return Progress::Broken,
+        [_, 0 | MORE.., ..] => return Progress::Broken,
         [first, second, ref body @ ..] => {
-            (usize::from(first & 0x7F) + 128 * usize::from(second), body)
+            (usize::from(first & !MORE) | usize::from(second) << NUMBER_BITS, body)
         }
     };
     if length == 0 || length > MAX_BODY {

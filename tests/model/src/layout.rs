@@ -28,10 +28,13 @@ pub mod token_word {
     pub const RESTRICTING_COUNT: usize = 18;
     pub const DACL_LENGTH: usize = 19;
     /// The first group; before it stand the fields that every token has one of.
-    pub const GROUPS: usize = 20;
+    pub const GROUPS: usize = DACL_LENGTH + 1;
     /// The first restricting SID.
     pub const RESTRICTING: usize = GROUPS + super::MAX_GROUPS;
 }
+
+/// Where a group's attributes begin in its word: the bit; the SID stands below.
+pub const ATTRIBUTES_BIT: u32 = u32::BITS;
 
 /// Where a station's fields stand in its row.
 #[allow(missing_docs)] // named as the fields
@@ -51,12 +54,14 @@ pub mod handle_byte {
     pub const TOKEN: Range<usize> = 8..16;
 }
 
-/// The word of the next token number, in the stations part.
-pub const NEXT_TOKEN: usize = 0;
-/// The word of the next handle number, likewise.
-pub const NEXT_HANDLE: usize = 1;
-/// The first station's word, likewise.
-pub const STATION_WORD: usize = 2;
+/// Where things stand among the control words.
+#[allow(missing_docs)] // named as the next numbers
+pub mod control_word {
+    pub const NEXT_TOKEN: usize = 0;
+    pub const NEXT_HANDLE: usize = 1;
+    /// The first station's row; the others follow.
+    pub const STATIONS: usize = NEXT_HANDLE + 1;
+}
 
 /// Words of a token's row.
 pub const TOKEN_ROW: usize = token_word::RESTRICTING + MAX_RESTRICTING;
@@ -65,7 +70,7 @@ pub const DACL_ROW: usize = MAX_DACL;
 /// Bytes of a handle's record.
 pub const HANDLE_BYTES: usize = handle_byte::TOKEN.end;
 /// Words of a station's row.
-pub const STATION_ROW: usize = 3;
+pub const STATION_ROW: usize = station_word::BROKEN + 1;
 /// Bytes of a station's row of pending bytes.
 pub const PENDING_ROW: usize = MAX_LENGTH_BYTES + MAX_BODY;
 
@@ -75,7 +80,7 @@ pub const TOKEN_WORDS: usize = TOKENS * TOKEN_ROW;
 pub const DACL_BYTES: usize = TOKENS * DACL_ROW;
 /// Size of the handles part.
 pub const HANDLE_ROWS: usize = HANDLES;
-/// Size of the stations part.
-pub const STATION_WORDS: usize = STATION_WORD + STATIONS * STATION_ROW;
+/// Size of the control part.
+pub const CONTROL_WORDS: usize = control_word::STATIONS + STATIONS * STATION_ROW;
 /// Size of the pending part.
 pub const PENDING_BYTES: usize = STATIONS * PENDING_ROW;

@@ -29,17 +29,21 @@ mod valid;
 pub use feed::{Fed, MIN_BUFFER};
 pub use frame::{framed, MAX_BODY, MAX_LENGTH_BYTES};
 pub use layout::{
-    handle_byte, station_word, token_word, DACL_BYTES, DACL_ROW, HANDLE_BYTES, HANDLE_ROWS,
-    NEXT_HANDLE, NEXT_TOKEN, PENDING_BYTES, PENDING_ROW, STATION_ROW, STATION_WORD, STATION_WORDS,
-    TOKEN_ROW, TOKEN_WORDS,
+    control_word, handle_byte, station_word, token_word, ATTRIBUTES_BIT, CONTROL_WORDS, DACL_BYTES,
+    DACL_ROW, HANDLE_BYTES, HANDLE_ROWS, PENDING_BYTES, PENDING_ROW, STATION_ROW, TOKEN_ROW,
+    TOKEN_WORDS,
 };
 pub use memory::{Bytes, Memory, PARTS};
-pub use number::{write_number, Reader};
-pub use privileges::{Privileges, ALL_PRIVILEGES, ASSIGN_PRIMARY, CREATE_TOKEN, IMPERSONATE, TCB};
+pub use number::{number_length, write_number, Reader, MORE};
+pub use privileges::{
+    Privileges, ALL_PRIVILEGES, ASSIGN_PRIMARY, CREATE_TOKEN, FIRST_PRIVILEGE, IMPERSONATE,
+    LAST_PRIVILEGE, TCB,
+};
 pub use program::{program, MAX_CHUNK};
+pub use query::LAST_CLASS;
 pub use record::HandleRecord;
 pub use refusal::Refusal;
-pub use request::{Request, NO_CHANGE, RESET_GROUPS, RESET_PRIVILEGES};
+pub use request::{Request, LAST_REQUEST, NO_CHANGE, RESET_GROUPS, RESET_PRIVILEGES};
 pub use rights::Mask;
 pub use state::{Handle, Model, Station, HANDLES, STATIONS, TOKENS};
 pub use token::{

@@ -1,8 +1,8 @@
 //! The lent memory: the state written into five parts of fixed size.
 
 use crate::layout::{
-    station_word, token_word, DACL_ROW, NEXT_HANDLE, NEXT_TOKEN, PENDING_ROW, STATION_ROW,
-    STATION_WORD, TOKEN_ROW,
+    control_word, station_word, token_word, ATTRIBUTES_BIT, CONTROL_WORDS, DACL_ROW, PENDING_ROW,
+    STATION_ROW, TOKEN_ROW,
 };
 use crate::privileges::Privileges;
 use crate::record::HandleRecord;
@@ -10,7 +10,7 @@ use crate::state::{Model, Station};
 use crate::token::{Elevation, Group, Level, Token, TokenType};
 
 /// The names of the parts, in the order in which they are lent.
-pub const PARTS: [&str; 5] = ["tokens", "dacls", "handles", "stations", "pending"];
+pub const PARTS: [&str; 5] = ["tokens", "dacls", "handles", "control", "pending"];
 
 /// Every byte of every part, in that order.
 pub type Bytes = [Vec<u8>; PARTS.len()];
@@ -24,8 +24,8 @@ pub struct Memory {
     pub dacls: Vec<u8>,
     /// A record for each handle slot.
     pub handles: Vec<HandleRecord>,
-    /// The two next numbers; for each station its token, pending bytes and broken mark.
-    pub stations: Vec<u64>,
+    /// The control words: the two next numbers, then a row of words for each station.
+    pub control: Vec<u64>,
     /// A row of bytes for each station.
     pub pending: Vec<u8>,
 }
@@ -38,17 +38,27 @@ impl Model {
             None => vec![0; DACL_ROW],
         };
         let pending = |station: &Station| padded(&station.pending, PENDING_ROW);
-        let mut next = vec![0; STATION_WORD];
-        next[NEXT_TOKEN] = self.next_token;
-        next[NEXT_HANDLE] = self.next_handle.into();
-        let stations = self.stations.each_ref().map(station_row);
         Memory {
             tokens: self.tokens.each_ref().map(token_row).concat(),
             dacls: self.tokens.each_ref().map(dacl).concat(),
             handles: self.handles.iter().map(HandleRecord::of).collect(),
-            stations: [&next, stations.as_flattened()].concat(),
+            control: self.control(),
             pending: self.stations.each_ref().map(pending).concat(),
         }
+    }
+
+    /// The control words.
+    fn control(&self) -> Vec<u64> {
+        let mut words = vec![0; CONTROL_WORDS];
+        words[control_word::NEXT_TOKEN] = self.next_token;
+        words[control_word::NEXT_HANDLE] = self.next_handle.into();
+        let rows = words[control_word::STATIONS..].chunks_mut(STATION_ROW);
+        for (row, station) in rows.zip(&self.stations) {
+            row[station_word::TOKEN] = station.token;
+            row[station_word::PENDING_COUNT] = station.pending.len() as u64;
+            row[station_word::BROKEN] = station.broken.into();
+        }
+        words
     }
 }
 
@@ -95,21 +105,13 @@ fn token_row(slot: &Option<Token>) -> Vec<u64> {
     row
 }
 
-fn station_row(station: &Station) -> [u64; STATION_ROW] {
-    let mut row = [0; STATION_ROW];
-    row[station_word::TOKEN] = station.token;
-    row[station_word::PENDING_COUNT] = station.pending.len() as u64;
-    row[station_word::BROKEN] = station.broken.into();
-    row
-}
-
 fn group_word(group: &Group) -> u64 {
-    u64::from(group.sid) | u64::from(group.attributes) << 32
+    u64::from(group.sid) | u64::from(group.attributes) << ATTRIBUTES_BIT
 }
 
 /// The group that a word holds.
 pub(crate) fn word_group(word: u64) -> Group {
-    Group { sid: word as u32, attributes: (word >> 32) as u32 }
+    Group { sid: word as u32, attributes: (word >> ATTRIBUTES_BIT) as u32 }
 }
 
 impl Memory {
@@ -132,8 +134,8 @@ impl Memory {
             tokens: tokens.try_into().ok()?,
             handles: handles.try_into().ok()?,
             stations: stations.try_into().ok()?,
-            next_token: self.stations[NEXT_TOKEN],
-            next_handle: self.stations[NEXT_HANDLE].try_into().ok()?,
+            next_token: self.control[control_word::NEXT_TOKEN],
+            next_handle: self.control[control_word::NEXT_HANDLE].try_into().ok()?,
         })
     }
 
@@ -146,7 +148,7 @@ impl Memory {
     /// The stations, each with its row of pending bytes.
     pub(crate) fn station_rows(&self) -> impl Iterator<Item = StationRow<'_>> {
         let rows = self.pending.chunks(PENDING_ROW);
-        let stations = self.stations[STATION_WORD..].chunks(STATION_ROW);
+        let stations = self.control[control_word::STATIONS..].chunks(STATION_ROW);
         stations.zip(rows).map(|(words, row)| StationRow {
             token: words[station_word::TOKEN],
             count: words[station_word::PENDING_COUNT],
@@ -162,8 +164,8 @@ impl Memory {
             words.into_flattened()
         };
         let records: Vec<_> = self.handles.iter().map(HandleRecord::bytes).collect();
-        let (tokens, stations) = (words(&self.tokens), words(&self.stations));
-        [tokens, self.dacls.clone(), records.into_flattened(), stations, self.pending.clone()]
+        let (tokens, control) = (words(&self.tokens), words(&self.control));
+        [tokens, self.dacls.clone(), records.into_flattened(), control, self.pending.clone()]
     }
 }
 

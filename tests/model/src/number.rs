@@ -1,13 +1,27 @@
 //! Numbers on the wire: seven bits a byte, low bits first, the shortest form only.
 
+/// Bits of a number in each of its bytes.
+pub const NUMBER_BITS: u32 = 7;
+/// The bit of a byte that says that more of the number follows.
+pub const MORE: u8 = 1 << NUMBER_BITS;
+
 /// Appends the number's one form.
 pub fn write_number(number: u64, out: &mut Vec<u8>) {
-    let low = (number % 128) as u8;
-    if number < 128 {
+    let (low, rest) = (number as u8 & !MORE, number >> NUMBER_BITS);
+    if rest == 0 {
         out.push(low);
     } else {
-        out.push(low | 0x80);
-        write_number(number / 128, out);
+        out.push(low | MORE);
+        write_number(rest, out);
+    }
+}
+
+/// How many bytes the number's one form has.
+pub const fn number_length(number: u64) -> usize {
+    if number >> NUMBER_BITS == 0 {
+        1
+    } else {
+        1 + number_length(number >> NUMBER_BITS)
     }
 }
 
@@ -39,10 +53,10 @@ impl<'a> Reader<'a> {
     /// A number up to `largest`, in its shortest form.
     fn number(&mut self, largest: u64) -> Option<u64> {
         let mut value: u128 = 0;
-        for place in 0..10 {
+        for place in 0..number_length(u64::MAX) {
             let byte = *self.take(1)?.first()?;
-            value += u128::from(byte & 0x7F) << (7 * place);
-            if byte & 0x80 == 0 {
+            value += u128::from(byte & !MORE) << (place * NUMBER_BITS as usize);
+            if byte & MORE == 0 {
                 let shortest = place == 0 || byte != 0;
                 let value = u64::try_from(value).ok()?;
                 return (shortest && value <= largest).then_some(value);

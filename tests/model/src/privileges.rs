@@ -1,7 +1,11 @@
 //! The four privilege words of a token. Privilege n is bit n.
 
-/// Privileges 2 to 36.
-pub const ALL_PRIVILEGES: u64 = (1 << 37) - (1 << 2);
+/// The first privilege that exists.
+pub const FIRST_PRIVILEGE: u32 = 2;
+/// The last.
+pub const LAST_PRIVILEGE: u32 = 36;
+/// All that exist.
+pub const ALL_PRIVILEGES: u64 = (1 << (LAST_PRIVILEGE + 1)) - (1 << FIRST_PRIVILEGE);
 /// Create tokens.
 pub const CREATE_TOKEN: u32 = 2;
 /// Install primary tokens.

@@ -6,6 +6,9 @@ use crate::rights::Mask;
 use crate::state::Model;
 use crate::token::Token;
 
+/// The last class; the first is 1.
+pub const LAST_CLASS: u32 = 13;
+
 impl Model {
     /// 4: the report of a class, when it fits the capacity.
     pub(crate) fn query(

@@ -33,6 +33,9 @@ pub enum Refusal {
 }
 
 impl Refusal {
+    /// The one with the largest number.
+    pub const LAST: Refusal = Refusal::Memory;
+
     /// The number that document 01 gives the refusal.
     pub fn number(self) -> u32 {
         match self {

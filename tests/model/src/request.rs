@@ -9,6 +9,9 @@ pub const RESET_PRIVILEGES: (u32, u32) = (0, 0x8000_0000);
 /// The single pair that resets the groups.
 pub const RESET_GROUPS: (u32, u32) = (0xFFFF_FFFF, 0);
 
+/// The number of the last request; the first is 1.
+pub const LAST_REQUEST: u32 = 11;
+
 /// A request in its layout; its values may still be bad.
 #[derive(Clone, Debug, PartialEq, Eq)]
 #[allow(missing_docs)] // the fields are named as in document 01

@@ -13,7 +13,9 @@ pub const MAX_RESTRICTING: usize = 16;
 /// Longest default DACL in bytes.
 pub const MAX_DACL: usize = 256;
 /// The integrity values.
-pub const INTEGRITY_LEVELS: [u32; 5] = [0, 4096, 8192, 12288, 16384];
+pub const INTEGRITY_LEVELS: [u32; 5] = [0, 4096, 8192, 12288, HIGHEST_INTEGRITY];
+/// The first token's integrity.
+const HIGHEST_INTEGRITY: u32 = 16384;
 
 /// Primary or impersonation.
 #[derive(Clone, Copy, Debug, PartialEq, Eq)]
@@ -100,6 +102,8 @@ impl Group {
     /// The attributes that a create request may give.
     pub const GIVEN: u32 =
         Self::MANDATORY | Self::ENABLED_BY_DEFAULT | Self::OWNER | Self::DENY_ONLY | Self::LOGON_ID;
+    /// All attributes.
+    pub const ALL: u32 = Self::GIVEN | Self::ENABLED;
 
     /// Whether all the bits are set.
     pub fn has(self, bits: u32) -> bool {
@@ -160,9 +164,9 @@ pub struct Token {
     pub elevation: Elevation,
     /// The four privilege words.
     pub privileges: Privileges,
-    /// At most 64.
+    /// At most [`MAX_GROUPS`].
     pub groups: Vec<Group>,
-    /// At most 16.
+    /// At most [`MAX_RESTRICTING`].
     pub restricting: Vec<u32>,
     /// Restricting SIDs count for writes only.
     pub write_restricted: bool,
@@ -172,7 +176,7 @@ pub struct Token {
     pub owner: u16,
     /// Index of the primary group, likewise.
     pub primary_group: u16,
-    /// At most 256 bytes.
+    /// At most [`MAX_DACL`] bytes.
     pub dacl: Vec<u8>,
     /// The interactivity scope.
     pub scope: u32,
@@ -208,7 +212,7 @@ impl Token {
     pub fn first() -> Self {
         Token {
             privileges: Privileges::new(ALL_PRIVILEGES, ALL_PRIVILEGES),
-            integrity: 16384,
+            integrity: HIGHEST_INTEGRITY,
             ..Token::bare(1, SYSTEM_SID, 999)
         }
     }

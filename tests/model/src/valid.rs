@@ -4,7 +4,7 @@ use std::collections::HashSet;
 
 use crate::frame::may_be_pending;
 use crate::layout::{
-    DACL_BYTES, HANDLE_ROWS, NEXT_HANDLE, NEXT_TOKEN, PENDING_BYTES, STATION_WORDS, TOKEN_WORDS,
+    control_word, CONTROL_WORDS, DACL_BYTES, HANDLE_ROWS, PENDING_BYTES, TOKEN_WORDS,
 };
 use crate::memory::{Memory, TokenRow};
 use crate::privileges::ALL_PRIVILEGES;
@@ -19,7 +19,7 @@ use crate::token::{
 pub type Rule = (&'static str, fn(&Memory) -> bool);
 
 /// The rules in the paragraph's order.
-pub const RULES: [Rule; 15] = [
+pub const RULES: &[Rule] = &[
     ("size", size_is_right),
     ("next numbers", next_numbers_are_not_0),
     ("numbers", numbers_are_distinct_and_below_next),
@@ -75,12 +75,12 @@ fn size_is_right(memory: &Memory) -> bool {
     memory.tokens.len() == TOKEN_WORDS
         && memory.dacls.len() == DACL_BYTES
         && memory.handles.len() == HANDLE_ROWS
-        && memory.stations.len() == STATION_WORDS
+        && memory.control.len() == CONTROL_WORDS
         && memory.pending.len() == PENDING_BYTES
 }
 
 fn next_numbers_are_not_0(memory: &Memory) -> bool {
-    memory.stations[NEXT_TOKEN] != 0 && memory.stations[NEXT_HANDLE] != 0
+    memory.control[control_word::NEXT_TOKEN] != 0 && memory.control[control_word::NEXT_HANDLE] != 0
 }
 
 fn numbers_are_distinct_and_below_next(memory: &Memory) -> bool {
@@ -89,8 +89,8 @@ fn numbers_are_distinct_and_below_next(memory: &Memory) -> bool {
     let all_below = |numbers: &[u64], next| numbers.iter().all(|&number| number < next);
     are_distinct(&tokens)
         && are_distinct(&handles)
-        && all_below(&tokens, memory.stations[NEXT_TOKEN])
-        && all_below(&handles, memory.stations[NEXT_HANDLE])
+        && all_below(&tokens, memory.control[control_word::NEXT_TOKEN])
+        && all_below(&handles, memory.control[control_word::NEXT_HANDLE])
 }
 
 fn are_distinct(numbers: &[u64]) -> bool {
@@ -140,7 +140,7 @@ fn values_are_in_range(memory: &Memory) -> bool {
             usize::from(handle.station) < STATIONS && Mask(handle.mask.into()).is_valid()
         })
         && memory.station_rows().all(|row| row.broken <= 1)
-        && memory.stations[NEXT_HANDLE] <= u32::MAX.into()
+        && memory.control[control_word::NEXT_HANDLE] <= u32::MAX.into()
 }
 
 fn token_is_in_range(row: &TokenRow) -> bool {
@@ -173,9 +173,10 @@ fn present_and_used_exist(memory: &Memory) -> bool {
 }
 
 fn attributes_are_known(memory: &Memory) -> bool {
-    memory.live_tokens().flat_map(|row| row.groups()).all(|group| {
-        group.attributes & !(Group::GIVEN | Group::ENABLED) == 0 && group.logon_is_whole()
-    })
+    memory
+        .live_tokens()
+        .flat_map(|row| row.groups())
+        .all(|group| group.attributes & !Group::ALL == 0 && group.logon_is_whole())
 }
 
 fn primary_tokens_have_level_0(memory: &Memory) -> bool {

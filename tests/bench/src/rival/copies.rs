@@ -1,18 +1,14 @@
 //! Requests 3, 9 and 10: new tokens, made in the free slot.
 
-use model::{
-    token_word as word, Group, Mask, ALL_PRIVILEGES, ANONYMOUS_SID, CREATE_TOKEN, MAX_GROUPS,
-    MAX_RESTRICTING,
+use super::groups::{attribute, in_word, is_fixed, Set, WORD_GROUPS};
+use super::layout::{
+    right, word, ALL_PRIVILEGES, ANONYMOUS, ANONYMOUS_SID, CREATE_TOKEN, DEFAULT_ELEVATION,
+    DELEGATION, DENY_ONLY, ENABLED, ENABLED_BY_DEFAULT, GIVEN, GROUPS, IMPERSONATION,
+    INTEGRITY_STEP, LOGON_ID, MAX_GROUPS, MAX_INTEGRITY, MAX_RESTRICTING, PRIMARY,
 };
-
-use super::memory::{
-    Memory, ANONYMOUS, DEFAULT_ELEVATION, DELEGATION, GROUPS, IMPERSONATION, INTEGRITY_STEP,
-    MAX_INTEGRITY, PRIMARY,
-};
+use super::memory::Memory;
 use super::reader::{refuse, Body, Reader};
-use super::records::{
-    attribute, is_fixed, is_mask, DENY_ONLY, ENABLED, ENABLED_BY_DEFAULT, LOGON_ID,
-};
+use super::records::is_mask;
 use super::requests::Served;
 
 impl Memory<'_> {
@@ -22,15 +18,15 @@ impl Memory<'_> {
         let (mut groups, mut at, mut bad) = ([0; MAX_GROUPS], 0, count as usize > MAX_GROUPS);
         reader.each(count, |reader| {
             let (sid, attributes) = (reader.u32(), reader.u32());
-            let group = u64::from(sid) | u64::from(attributes) << 32;
+            let group = u64::from(sid) | in_word(attributes);
             let by_default = attribute(group, ENABLED_BY_DEFAULT);
             let logon = attributes & LOGON_ID;
-            bad |= attributes & !Group::GIVEN != 0
+            bad |= attributes & !GIVEN != 0
                 || logon != 0 && logon != LOGON_ID
                 || by_default && attribute(group, DENY_ONLY)
                 || !by_default && is_fixed(group, user.into());
             if let Some(place) = groups.get_mut(at) {
-                *place = group | (u64::from(by_default) * (u64::from(ENABLED) << 32));
+                *place = group | (u64::from(by_default) * in_word(ENABLED));
             }
             at += 1;
         });
@@ -56,7 +52,7 @@ impl Memory<'_> {
         row[word::GROUP_COUNT] = count.into();
         row[GROUPS].copy_from_slice(&groups);
         let number = self.number_token(slot);
-        out.number(self.place_handle(place, station, number, Mask::ALL.0));
+        out.number(self.place_handle(place, station, number, right::ALL));
         self.tokens[own][word::USED] |= 1 << CREATE_TOKEN;
         Ok(())
     }
@@ -66,7 +62,7 @@ impl Memory<'_> {
         let (kind, level) = (u64::from(reader.u32()), u64::from(reader.u32()));
         let mask = reader.u32();
         reader.end()?;
-        let (handle, source) = self.granted(station, handle, Mask::DUPLICATE)?;
+        let (handle, source) = self.granted(station, handle, right::DUPLICATE)?;
         let row = &self.tokens[source];
         refuse(
             5,
@@ -82,7 +78,7 @@ impl Memory<'_> {
         if kind == IMPERSONATION && level == ANONYMOUS {
             let used = self.tokens[source][word::USED];
             let row = &mut self.tokens[slot];
-            row[word::USER] = ANONYMOUS_SID.into();
+            row[word::USER] = ANONYMOUS_SID;
             row[word::TYPE] = IMPERSONATION;
             row[word::ELEVATION] = DEFAULT_ELEVATION;
             row[word::USED] = used;
@@ -101,14 +97,9 @@ impl Memory<'_> {
     pub fn restrict(&mut self, station: usize, reader: &mut Reader, out: &mut Body) -> Served {
         let (handle, write, remove) = (reader.u32(), reader.u32(), reader.u64());
         let (denies, count) = (reader.u32(), reader.u32());
-        let (mut deny, mut sids, mut at) = (0u64, [0; MAX_RESTRICTING], 0);
+        let (mut deny, mut sids, mut at) = (Set::default(), [0; MAX_RESTRICTING], 0);
         let mut bad = write > 1 || remove & !ALL_PRIVILEGES != 0;
-        reader.each(denies, |reader| {
-            let index = reader.u32();
-            let bit = 1u64.checked_shl(index).unwrap_or(0);
-            bad |= bit == 0 || deny & bit != 0;
-            deny |= bit;
-        });
+        reader.each(denies, |reader| bad |= !deny.add(reader.u32()));
         reader.each(count, |reader| {
             let sid = reader.u32();
             if let Some(place) = sids.get_mut(at) {
@@ -117,10 +108,11 @@ impl Memory<'_> {
             at += 1;
         });
         reader.end()?;
-        let (handle, source) = self.granted(station, handle, Mask::DUPLICATE)?;
+        let (handle, source) = self.granted(station, handle, right::DUPLICATE)?;
         let row = &self.tokens[source];
-        let (groups, had) = (row[word::GROUP_COUNT], row[word::RESTRICTING_COUNT] as usize);
-        refuse(5, !bad && (groups as usize == MAX_GROUPS || deny >> groups == 0))?;
+        let [groups, had] =
+            [word::GROUP_COUNT, word::RESTRICTING_COUNT].map(|word| row[word] as usize);
+        refuse(5, !bad && deny.is_below(groups))?;
         refuse(8, had + count as usize <= MAX_RESTRICTING)?;
         let (slot, place) = (self.free_token()?, self.free_handle()?);
         self.copy(source, slot);
@@ -131,9 +123,11 @@ impl Memory<'_> {
         for privileges in [word::PRESENT, word::ENABLED, word::DEFAULT] {
             row[privileges] &= !remove;
         }
-        for (at, group) in row[GROUPS].iter_mut().enumerate() {
-            if deny >> at & 1 == 1 {
-                *group = *group & !(u64::from(ENABLED) << 32) | u64::from(DENY_ONLY) << 32;
+        for (deny, groups) in deny.0.iter().zip(row[GROUPS].chunks_mut(WORD_GROUPS)) {
+            for (at, group) in groups.iter_mut().enumerate() {
+                if deny >> at & 1 == 1 {
+                    *group = *group & !in_word(ENABLED) | in_word(DENY_ONLY);
+                }
             }
         }
         row[word::RESTRICTING_COUNT] += u64::from(count);

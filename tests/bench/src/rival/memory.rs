@@ -1,12 +1,20 @@
 //! The lent parts, and the same parts as tables once their sizes are known to be right.
 
-use std::ops::Range;
-
-use model::{
-    station_word, token_word as word, Elevation, HandleRecord, Level, TokenType, ALL_PRIVILEGES,
-    DACL_ROW, HANDLES, NEXT_HANDLE, NEXT_TOKEN, PENDING_ROW, STATIONS, STATION_ROW, STATION_WORD,
-    SYSTEM_SID, TOKENS, TOKEN_ROW,
+use super::layout::{
+    station_word, word, ALL_PRIVILEGES, DACL_ROW, DEFAULT_ELEVATION, HANDLES, MAX_INTEGRITY,
+    NEXT_HANDLE, NEXT_NUMBERS, NEXT_TOKEN, PENDING_ROW, PRIMARY, STATIONS, STATION_ROW, SYSTEM_SID,
+    TOKENS, TOKEN_ROW,
 };
+
+/// A handle's record; a free one is all zero.
+#[derive(Clone, Copy, Default, PartialEq)]
+#[allow(missing_docs)] // named as the handle's fields
+pub struct Handle {
+    pub station: u16,
+    pub mask: u16,
+    pub number: u32,
+    pub token: u64,
+}
 
 /// The five parts as the host lends them.
 #[derive(Clone)]
@@ -16,9 +24,9 @@ pub struct Parts {
     /// Default DACLs.
     pub dacls: Vec<u8>,
     /// Handle records.
-    pub handles: Vec<HandleRecord>,
-    /// Next numbers and stations.
-    pub stations: Vec<u64>,
+    pub handles: Vec<Handle>,
+    /// Control words: next numbers and stations.
+    pub control: Vec<u64>,
     /// Pending bytes.
     pub pending: Vec<u8>,
 }
@@ -43,24 +51,12 @@ impl Station {
 
 pub type Row = [u64; TOKEN_ROW];
 
-/// Values of a token's fields.
-pub const PRIMARY: u64 = TokenType::Primary as u64;
-pub const IMPERSONATION: u64 = TokenType::Impersonation as u64;
-pub const ANONYMOUS: u64 = Level::Anonymous as u64;
-pub const DELEGATION: u64 = Level::Delegation as u64;
-pub const DEFAULT_ELEVATION: u64 = Elevation::Default as u64;
-pub const INTEGRITY_STEP: u64 = 4096;
-pub const MAX_INTEGRITY: u64 = 4 * INTEGRITY_STEP;
-
-/// The words of a row's groups.
-pub const GROUPS: Range<usize> = word::GROUPS..word::RESTRICTING;
-
 /// The parts as tables.
 pub struct Memory<'a> {
     pub tokens: &'a mut [Row; TOKENS],
     pub dacls: &'a mut [[u8; DACL_ROW]; TOKENS],
-    pub handles: &'a mut [HandleRecord; HANDLES],
-    pub next: &'a mut [u64; STATION_WORD],
+    pub handles: &'a mut [Handle; HANDLES],
+    pub next: &'a mut [u64; NEXT_NUMBERS],
     pub stations: &'a mut [[u64; STATION_ROW]; STATIONS],
     pub pending: &'a mut [[u8; PENDING_ROW]; STATIONS],
 }
@@ -68,7 +64,7 @@ pub struct Memory<'a> {
 impl Parts {
     /// The tables, when each part has its size.
     pub fn view(&mut self) -> Option<Memory<'_>> {
-        let (next, stations) = self.stations.split_first_chunk_mut()?;
+        let (next, stations) = self.control.split_first_chunk_mut()?;
         Some(Memory {
             tokens: table(&mut self.tokens)?,
             dacls: table(&mut self.dacls)?,
@@ -99,7 +95,7 @@ impl Memory<'_> {
         row[word::NUMBER] = 1;
         row[word::MODIFIED] = 1;
         row[word::SESSION] = 999;
-        row[word::USER] = SYSTEM_SID.into();
+        row[word::USER] = SYSTEM_SID;
         row[word::TYPE] = PRIMARY;
         row[word::ELEVATION] = DEFAULT_ELEVATION;
         row[word::INTEGRITY] = MAX_INTEGRITY;
@@ -108,7 +104,7 @@ impl Memory<'_> {
         }
         self.dacls.as_flattened_mut().fill(0);
         self.pending.as_flattened_mut().fill(0);
-        *self.handles = [HandleRecord::default(); HANDLES];
+        *self.handles = [Handle::default(); HANDLES];
         self.next[NEXT_TOKEN] = 2;
         self.next[NEXT_HANDLE] = 1;
         *self.stations = [[0; STATION_ROW]; STATIONS];

@@ -2,6 +2,8 @@
 //! tests all lent memory, then serves in place. It copies no more than it must and allocates nothing.
 
 mod copies;
+mod groups;
+mod layout;
 mod memory;
 mod reader;
 mod records;
@@ -10,9 +12,9 @@ mod requests;
 mod stream;
 mod valid;
 
-use model::{MIN_BUFFER, STATIONS};
+use layout::{MIN_BUFFER, STATIONS};
 
-pub use memory::Parts;
+pub use memory::{Handle, Parts};
 
 /// What a feed returns: refusal, bytes used, length of the answer.
 pub type Fed = (u32, usize, usize);

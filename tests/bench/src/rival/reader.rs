@@ -1,5 +1,14 @@
 //! The numbers of a body, and the answer's body while it is made.
 
+use super::layout::{MAX_GROUPS, MAX_LENGTH_BYTES};
+
+/// Bits of a number in each byte, and the bit that says that more follow.
+pub const BITS: usize = 7;
+pub const MORE: u8 = 0x80;
+/// Most bytes of a number of 64 and of 32 bits.
+const U64_BYTES: usize = 10;
+const U32_BYTES: usize = 5;
+
 /// Reads fields; what is not in its layout stays noted in `bad`.
 pub struct Reader<'a> {
     bytes: &'a [u8],
@@ -14,7 +23,7 @@ impl<'a> Reader<'a> {
     #[inline]
     fn number(&mut self, largest: u64) -> u64 {
         match *self.bytes {
-            [byte @ ..0x80, ref rest @ ..] => {
+            [byte @ ..MORE, ref rest @ ..] => {
                 self.bytes = rest;
                 byte.into()
             }
@@ -24,11 +33,11 @@ impl<'a> Reader<'a> {
 
     fn long_number(&mut self, largest: u64) -> u64 {
         let mut value = 0;
-        for (at, &byte) in self.bytes.iter().take(10).enumerate() {
-            value |= u64::from(byte & 0x7F) << (7 * at);
-            if byte < 0x80 {
+        for (at, &byte) in self.bytes.iter().take(U64_BYTES).enumerate() {
+            value |= u64::from(byte & !MORE) << (BITS * at);
+            if byte < MORE {
                 self.bytes = &self.bytes[at + 1..];
-                let is_shortest = byte != 0 && (at < 9 || byte == 1);
+                let is_shortest = byte != 0 && (at + 1 < U64_BYTES || byte == 1);
                 self.bad |= !is_shortest || value > largest;
                 return value;
             }
@@ -103,8 +112,8 @@ pub fn refuse(status: u8, passes: bool) -> Result<(), Refused> {
     }
 }
 
-/// Bytes that any answer's body fits in; the longest has 642.
-const BODY_BYTES: usize = 656;
+/// Bytes that any answer's body fits in: the status, a count and the longest groups.
+const BODY_BYTES: usize = (1 + U32_BYTES + MAX_GROUPS * 2 * U32_BYTES).next_multiple_of(16);
 
 /// The answer's body.
 pub struct Body {
@@ -127,10 +136,10 @@ impl Body {
 
     #[inline]
     pub fn number(&mut self, mut number: u64) {
-        while number >= 0x80 {
-            self.bytes[self.length] = number as u8 | 0x80;
+        while number >= MORE.into() {
+            self.bytes[self.length] = number as u8 | MORE;
             self.length += 1;
-            number >>= 7;
+            number >>= BITS;
         }
         self.bytes[self.length] = number as u8;
         self.length += 1;
@@ -144,13 +153,13 @@ impl Body {
     /// Writes the frame and gives its length.
     pub fn write(&self, answer: &mut [u8]) -> usize {
         let body = &self.bytes[..self.length];
-        let head = if body.len() < 0x80 {
+        let head = if body.len() < MORE.into() {
             answer[0] = body.len() as u8;
             1
         } else {
-            answer[0] = body.len() as u8 | 0x80;
-            answer[1] = (body.len() >> 7) as u8;
-            2
+            answer[0] = body.len() as u8 | MORE;
+            answer[1] = (body.len() >> BITS) as u8;
+            MAX_LENGTH_BYTES
         };
         answer[head..][..body.len()].copy_from_slice(body);
         head + body.len()

@@ -1,42 +1,20 @@
 //! Handles and tokens in their slots.
 
-use model::{
-    station_word, token_word as word, Group, HandleRecord, Mask, DACL_ROW, NEXT_HANDLE, NEXT_TOKEN,
-    TOKEN_ROW,
-};
-
-use super::memory::Memory;
+use super::layout::{right, station_word, word, DACL_ROW, NEXT_HANDLE, NEXT_TOKEN, TOKEN_ROW};
+use super::memory::{Handle, Memory};
 use super::reader::{refuse, Refused};
-
-pub const MANDATORY: u32 = Group::MANDATORY;
-pub const ENABLED_BY_DEFAULT: u32 = Group::ENABLED_BY_DEFAULT;
-pub const ENABLED: u32 = Group::ENABLED;
-pub const OWNER: u32 = Group::OWNER;
-pub const DENY_ONLY: u32 = Group::DENY_ONLY;
-pub const LOGON_ID: u32 = Group::LOGON_ID;
-
-/// Whether a group's word has any of the attributes.
-pub fn attribute(group: u64, attributes: u32) -> bool {
-    (group >> 32) as u32 & attributes != 0
-}
-
-/// Whether a group of a token of this user may not be disabled: mandatory, logon, the user's SID.
-pub fn is_fixed(group: u64, user: u64) -> bool {
-    attribute(group, MANDATORY | LOGON_ID) || group as u32 == user as u32
-}
 
 /// Whether a handle may have this mask.
 #[inline]
 pub fn is_mask(mask: u32) -> bool {
-    mask != 0 && mask & !Mask::ALL.0 == 0
+    mask != 0 && mask & !right::ALL == 0
 }
 
 impl Memory<'_> {
     /// The slot of the station's live handle; refusal 2.
     pub fn find(&self, station: usize, number: u32) -> Result<usize, Refused> {
-        let is_it = |handle: &HandleRecord| {
-            handle.number == number && usize::from(handle.station) == station
-        };
+        let is_it =
+            |handle: &Handle| handle.number == number && usize::from(handle.station) == station;
         let slot = self.handles.iter().position(is_it).filter(|_| number != 0);
         slot.ok_or(Refused { status: 2, size: 0 })
     }
@@ -46,10 +24,10 @@ impl Memory<'_> {
         &self,
         station: usize,
         number: u32,
-        right: Mask,
-    ) -> Result<(HandleRecord, usize), Refused> {
+        right: u32,
+    ) -> Result<(Handle, usize), Refused> {
         let handle = self.handles[self.find(station, number)?];
-        refuse(3, u32::from(handle.mask) & right.0 != 0)?;
+        refuse(3, u32::from(handle.mask) & right != 0)?;
         Ok((handle, self.slot(handle.token)))
     }
 
@@ -89,7 +67,7 @@ impl Memory<'_> {
         let number = self.next[NEXT_HANDLE];
         self.next[NEXT_HANDLE] += 1;
         let (station, mask) = (station as u16, mask as u16);
-        self.handles[slot] = HandleRecord { station, mask, number: number as u32, token };
+        self.handles[slot] = Handle { station, mask, number: number as u32, token };
         number
     }
 

@@ -1,7 +1,6 @@
 //! Request 4: a report is written once, and kept when it fits.
 
-use model::{token_word as word, Mask};
-
+use super::layout::{right, word, ATTRIBUTES, LAST_CLASS};
 use super::memory::{Memory, Row};
 use super::reader::{refuse, Body, Reader, Refused};
 use super::requests::Served;
@@ -10,8 +9,8 @@ impl Memory<'_> {
     pub fn query(&mut self, station: usize, reader: &mut Reader, out: &mut Body) -> Served {
         let (handle, class, room) = (reader.u32(), reader.u32(), reader.u32());
         reader.end()?;
-        let (_, slot) = self.granted(station, handle, Mask::QUERY)?;
-        refuse(5, (1..=13).contains(&class))?;
+        let (_, slot) = self.granted(station, handle, right::QUERY)?;
+        refuse(5, (1..=LAST_CLASS).contains(&class))?;
         let row = &self.tokens[slot];
         match class {
             1 => out.number(row[word::USER]),
@@ -19,7 +18,7 @@ impl Memory<'_> {
                 out.number(row[word::GROUP_COUNT]);
                 for &group in &row[word::GROUPS..][..row[word::GROUP_COUNT] as usize] {
                     out.number(group & u64::from(u32::MAX));
-                    out.number(group >> 32);
+                    out.number(group >> ATTRIBUTES);
                 }
             }
             3 => [word::PRESENT, word::ENABLED, word::DEFAULT, word::USED]

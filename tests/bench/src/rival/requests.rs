@@ -1,20 +1,16 @@
 //! The eleven requests on lent memory: reading, refusals in order, effect in place.
 
-use model::{
-    station_word, token_word as word, HandleRecord, Mask, ALL_PRIVILEGES, ASSIGN_PRIMARY, MAX_DACL,
-    MAX_GROUPS, NO_CHANGE, RESET_GROUPS, RESET_PRIVILEGES, TCB,
+use super::groups::{attribute, in_word, is_fixed, Set, SET_WORDS, WORD_GROUPS};
+use super::layout::{
+    right, station_word, word, ALL_PRIVILEGES, ASSIGN_PRIMARY, DENY_ONLY, ENABLED,
+    ENABLED_BY_DEFAULT, ENABLED_WORDS, MAX_DACL, NO_CHANGE, OWNER, PRIMARY, RESET_GROUPS,
+    RESET_PRIVILEGES, TCB,
 };
-
-use super::memory::{Memory, PRIMARY};
+use super::memory::{Handle, Memory};
 use super::reader::{refuse, Body, Reader, Refused};
-use super::records::{attribute, is_fixed, is_mask, DENY_ONLY, ENABLED, ENABLED_BY_DEFAULT, OWNER};
+use super::records::is_mask;
 
 pub type Served = Result<(), Refused>;
-
-const ENABLED_WORD: u64 = (ENABLED as u64) << 32;
-
-/// Words in the report of request 6; groups fill the first.
-const ENABLED_WORDS: usize = 16;
 
 impl Memory<'_> {
     /// Serves a body; writes the answer and gives its length.
@@ -65,7 +61,7 @@ impl Memory<'_> {
         reader.end()?;
         let slot = self.find(station, handle)?;
         let token = self.handles[slot].token;
-        self.handles[slot] = HandleRecord::default();
+        self.handles[slot] = Handle::default();
         self.free_if_last(token);
         Ok(())
     }
@@ -88,7 +84,7 @@ impl Memory<'_> {
             }
         });
         reader.end()?;
-        let (_, slot) = self.granted(station, handle, Mask::ADJUST_PRIVILEGES)?;
+        let (_, slot) = self.granted(station, handle, right::ADJUST_PRIVILEGES)?;
         let words = [word::PRESENT, word::ENABLED, word::DEFAULT];
         let [present, enabled, default] = words.map(|word| self.tokens[slot][word]);
         if reset {
@@ -108,51 +104,43 @@ impl Memory<'_> {
 
     fn adjust_groups(&mut self, station: usize, reader: &mut Reader, out: &mut Body) -> Served {
         let (handle, count) = (reader.u32(), reader.u32());
-        let (mut on, mut off) = (0u64, 0u64);
+        let (mut named, mut on) = (Set::default(), Set::default());
         let (mut bad, mut reset) = (count == 0, false);
         reader.each(count, |reader| {
             let entry = (reader.u32(), reader.u32());
             reset = count == 1 && entry == RESET_GROUPS;
-            let bit = 1u64.checked_shl(entry.0).unwrap_or(0);
-            bad |= bit == 0 || (on | off) & bit != 0 || entry.1 > 1;
-            *(if entry.1 == 1 { &mut on } else { &mut off }) |= bit;
+            bad |= !named.add(entry.0) || entry.1 > 1;
+            if entry.1 == 1 {
+                on.add(entry.0);
+            }
         });
         reader.end()?;
-        let (_, slot) = self.granted(station, handle, Mask::ADJUST_GROUPS)?;
+        let (_, slot) = self.granted(station, handle, right::ADJUST_GROUPS)?;
         let row = &mut self.tokens[slot];
         let (user, count) = (row[word::USER], row[word::GROUP_COUNT] as usize);
         let groups = &mut row[word::GROUPS..][..count];
         if !reset {
-            let range = if count == MAX_GROUPS { u64::MAX } else { (1 << count) - 1 };
-            refuse(5, !bad && (on | off) & !range == 0)?;
-            let is_protected = |at: usize, group: u64| match attribute(group, DENY_ONLY) {
-                true => on >> at & 1 == 1,
-                false => off >> at & 1 == 1 && is_fixed(group, user),
-            };
-            let protected = groups.iter().enumerate().any(|(at, &group)| is_protected(at, group));
+            refuse(5, !bad && named.is_below(count))?;
+            let mut words = groups.chunks(WORD_GROUPS).zip(named.0.iter().zip(&on.0));
+            let protected =
+                words.any(|(groups, (&named, &on))| any_protected(groups, user, named, on));
             refuse(6, !protected)?;
         }
-        let mut before = 0;
-        for (at, group) in groups.iter_mut().enumerate() {
-            before |= u64::from(attribute(*group, ENABLED)) << at;
-            let (set, clear) = match reset {
-                true if attribute(*group, DENY_ONLY) => (false, false),
-                true => (attribute(*group, ENABLED_BY_DEFAULT), true),
-                false => (on >> at & 1 == 1, off >> at & 1 == 1),
-            };
-            *group &= !(u64::from(clear) * ENABLED_WORD);
-            *group |= u64::from(set) * ENABLED_WORD;
+        let mut before = [0; SET_WORDS];
+        let words = groups.chunks_mut(WORD_GROUPS).zip(named.0.iter().zip(&on.0));
+        for (before, (groups, (&named, &on))) in before.iter_mut().zip(words) {
+            *before = if reset { reset_word(groups) } else { adjust_word(groups, named, on) };
         }
         self.step_modified(slot);
-        out.number(before);
-        out.extend(&[0; ENABLED_WORDS - 1]);
+        before.iter().for_each(|&word| out.number(word));
+        out.extend(&[0; ENABLED_WORDS - SET_WORDS]);
         Ok(())
     }
 
     fn adjust_scope(&mut self, station: usize, reader: &mut Reader) -> Served {
         let (handle, value) = (reader.u32(), reader.u32());
         reader.end()?;
-        let (_, slot) = self.granted(station, handle, Mask::ADJUST_SCOPE)?;
+        let (_, slot) = self.granted(station, handle, right::ADJUST_SCOPE)?;
         let own = self.held(station, TCB)?;
         self.tokens[slot][word::SCOPE] = value.into();
         self.step_modified(slot);
@@ -166,7 +154,7 @@ impl Memory<'_> {
         let (flag, length) = (reader.u32(), reader.u32());
         let dacl = reader.take(length);
         reader.end()?;
-        let (_, slot) = self.granted(station, handle, Mask::ADJUST_DEFAULT)?;
+        let (_, slot) = self.granted(station, handle, right::ADJUST_DEFAULT)?;
         let row = &mut self.tokens[slot];
         let count = row[word::GROUP_COUNT] as usize;
         let may_own = match usize::from(owner) {
@@ -198,7 +186,7 @@ impl Memory<'_> {
     fn install(&mut self, station: usize, reader: &mut Reader) -> Served {
         let handle = reader.u32();
         reader.end()?;
-        let (handle, slot) = self.granted(station, handle, Mask::ASSIGN_PRIMARY)?;
+        let (handle, slot) = self.granted(station, handle, right::ASSIGN_PRIMARY)?;
         let own = self.held(station, ASSIGN_PRIMARY)?;
         let (old, new) = (&self.tokens[own], &self.tokens[slot]);
         refuse(5, new[word::TYPE] == PRIMARY)?;
@@ -211,4 +199,37 @@ impl Memory<'_> {
         self.free_if_last(number);
         Ok(())
     }
+}
+
+/// Whether a named group of one word of a set may not be switched: a deny-only one on, a fixed one off.
+fn any_protected(groups: &[u64], user: u64, named: u64, on: u64) -> bool {
+    let is_protected = |(at, &group): (usize, &u64)| match attribute(group, DENY_ONLY) {
+        true => on >> at & 1 == 1,
+        false => (named & !on) >> at & 1 == 1 && is_fixed(group, user),
+    };
+    groups.iter().enumerate().any(is_protected)
+}
+
+/// Switches the named groups of one word of a set; gives those that were enabled.
+fn adjust_word(groups: &mut [u64], named: u64, on: u64) -> u64 {
+    let mut before = 0;
+    for (at, group) in groups.iter_mut().enumerate() {
+        before |= u64::from(attribute(*group, ENABLED)) << at;
+        *group &= !((named >> at & 1) * in_word(ENABLED));
+        *group |= (on >> at & 1) * in_word(ENABLED);
+    }
+    before
+}
+
+/// Sets the groups of one word of a set to their defaults; gives those that were enabled.
+fn reset_word(groups: &mut [u64]) -> u64 {
+    let mut before = 0;
+    for (at, group) in groups.iter_mut().enumerate() {
+        before |= u64::from(attribute(*group, ENABLED)) << at;
+        if !attribute(*group, DENY_ONLY) {
+            *group &= !in_word(ENABLED);
+            *group |= u64::from(attribute(*group, ENABLED_BY_DEFAULT)) * in_word(ENABLED);
+        }
+    }
+    before
 }

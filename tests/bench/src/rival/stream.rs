@@ -1,8 +1,11 @@
 //! Pending bytes: a frame that lies whole in the chunk is served from there.
 
-use model::{station_word, MAX_BODY, PENDING_ROW};
-
+use super::layout::{station_word, MAX_BODY, MAX_LENGTH_BYTES, PENDING_ROW};
 use super::memory::Memory;
+use super::reader::{BITS, MORE};
+
+/// The answer to the byte that breaks a stream: refusal 10.
+const BROKEN: [u8; 2] = [1, 10];
 
 /// What the first bytes say of a frame.
 enum Head {
@@ -18,16 +21,19 @@ fn head(first: Option<u8>, second: Option<u8>) -> Head {
     match (first, second) {
         (None, _) => Head::Partial,
         (Some(0), _) => Head::Broken(1),
-        (Some(first @ 1..0x80), _) => Head::Known(1, first.into()),
+        (Some(first @ 1..MORE), _) => Head::Known(1, first.into()),
         (Some(_), None) => Head::Partial,
-        (Some(_), Some(0 | 0x80..)) => Head::Broken(2),
-        (Some(first), Some(second)) => {
-            match usize::from(first & 0x7F) + 128 * usize::from(second) {
-                length @ ..=MAX_BODY => Head::Known(2, length),
-                _ => Head::Broken(2),
-            }
-        }
+        (Some(_), Some(0 | MORE..)) => Head::Broken(MAX_LENGTH_BYTES),
+        (Some(first), Some(second)) => match length(first, second) {
+            length @ ..=MAX_BODY => Head::Known(MAX_LENGTH_BYTES, length),
+            _ => Head::Broken(MAX_LENGTH_BYTES),
+        },
     }
+}
+
+/// The length that two bytes say.
+pub fn length(first: u8, second: u8) -> usize {
+    usize::from(first & !MORE) | usize::from(second) << BITS
 }
 
 impl Memory<'_> {
@@ -51,8 +57,8 @@ impl Memory<'_> {
             Head::Broken(at) => {
                 self.drop_pending(station, count);
                 self.stations[station][station_word::BROKEN] = 1;
-                answer[..2].copy_from_slice(&[1, 10]);
-                (at - count, 2)
+                answer[..BROKEN.len()].copy_from_slice(&BROKEN);
+                (at - count, BROKEN.len())
             }
             Head::Known(head, length) if count + chunk.len() < head + length => {
                 self.keep(station, count, chunk)

@@ -1,16 +1,16 @@
 //! The test of all lent memory. Loops over bytes gather by OR, so that they run many at a time.
 
-use model::{
-    token_word as word, Elevation, Group, HandleRecord, ALL_PRIVILEGES, DACL_ROW, HANDLES,
-    MAX_BODY, MAX_DACL, MAX_GROUPS, MAX_LENGTH_BYTES, MAX_RESTRICTING, NEXT_HANDLE, NEXT_TOKEN,
-    STATIONS, TOKENS,
+use super::groups::attribute;
+use super::layout::{
+    word, ALL_PRIVILEGES, ANONYMOUS, ATTRIBUTES, DACL_ROW, DELEGATION, DENY_ONLY, ENABLED, GIVEN,
+    GROUPS, HANDLES, IMPERSONATION, INTEGRITY_STEP, LIMITED, LOGON_ID, MAX_BODY, MAX_DACL,
+    MAX_GROUPS, MAX_INTEGRITY, MAX_LENGTH_BYTES, MAX_RESTRICTING, NEXT_HANDLE, NEXT_TOKEN, OWNER,
+    PRIMARY, STATIONS, TOKENS,
 };
-
-use super::memory::{
-    Memory, Row, Station, ANONYMOUS, DELEGATION, GROUPS, IMPERSONATION, INTEGRITY_STEP,
-    MAX_INTEGRITY, PRIMARY,
-};
-use super::records::{attribute, is_mask, DENY_ONLY, ENABLED, LOGON_ID, OWNER};
+use super::memory::{Handle, Memory, Row, Station};
+use super::reader::MORE;
+use super::records::is_mask;
+use super::stream::length;
 
 impl Memory<'_> {
     pub fn is_valid(&self) -> bool {
@@ -43,7 +43,7 @@ impl Memory<'_> {
         let mut referred = 0;
         for handle in self.handles.iter() {
             if handle.number == 0 {
-                if *handle != HandleRecord::default() {
+                if *handle != Handle::default() {
                     return false;
                 }
                 continue;
@@ -76,11 +76,11 @@ impl Memory<'_> {
             let begins = match (count, row[0], row[1]) {
                 (0, ..) => broken <= 1,
                 (_, 0, _) => false,
-                (count, first @ ..0x80, _) => count <= first.into(),
+                (count, first @ ..MORE, _) => count <= first.into(),
                 (1, ..) => true,
-                (_, _, 0 | 0x80..) => false,
+                (_, _, 0 | MORE..) => false,
                 (count, first, second) => {
-                    let length = usize::from(first & 0x7F) + 128 * usize::from(second);
+                    let length = length(first, second);
                     length <= MAX_BODY && count < MAX_LENGTH_BYTES + length
                 }
             };
@@ -127,9 +127,9 @@ fn token_is_valid(row: &Row, dacl: &[u8; DACL_ROW]) -> bool {
     let (kind, level, integrity) = (row[word::TYPE], row[word::LEVEL], row[word::INTEGRITY]);
     let counts = [word::GROUP_COUNT, word::RESTRICTING_COUNT, word::DACL_LENGTH];
     let [groups, restricting, length] = counts.map(|word| row[word] as usize);
-    (row[word::USER] | row[word::SCOPE]) >> 32 == 0
+    (row[word::USER] | row[word::SCOPE]) >> u32::BITS == 0
         && (kind == PRIMARY && level == ANONYMOUS || kind == IMPERSONATION && level <= DELEGATION)
-        && row[word::ELEVATION].wrapping_sub(1) < Elevation::Limited as u64
+        && row[word::ELEVATION].wrapping_sub(1) < LIMITED
         && (row[word::WRITE_RESTRICTED] | row[word::USER_DENY_ONLY]) <= 1
         && integrity % INTEGRITY_STEP == 0
         && integrity <= MAX_INTEGRITY
@@ -147,14 +147,14 @@ fn lists_are_valid(row: &Row, groups: usize, restricting: usize) -> bool {
     let (sids, free) = row[GROUPS.end..].split_at(restricting);
     let (mut all, mut both, mut halves) = (0, 0, 0);
     for group in groups {
-        let attributes = (group >> 32) as u32;
+        let attributes = (group >> ATTRIBUTES) as u32;
         all |= attributes;
         both |= attributes & (attributes >> 2);
         halves |= attributes ^ (attributes << 1);
     }
     const { assert!(DENY_ONLY == ENABLED << 2 && LOGON_ID == 3 << 30) };
-    let bad = all & !(Group::GIVEN | ENABLED) | both & ENABLED | halves & 1 << 31;
-    let wide = sids.iter().fold(0, |all, sid| all | sid) >> 32;
+    let bad = all & !(GIVEN | ENABLED) | both & ENABLED | halves & 1 << 31;
+    let wide = sids.iter().fold(0, |all, sid| all | sid) >> u32::BITS;
     let owns = match row[word::OWNER] {
         0 => true,
         owner => {

@@ -1,7 +1,7 @@
 //! Duplicate and restrict, requests 9 and 10.
 
 use super::{ask, body, create, handle, open, status, token_of, token_of_mut, with_groups};
-use crate::{Elevation, Group, Level, Model, Privileges, Token, TokenType};
+use crate::{Elevation, Group, Level, Model, Privileges, Token, TokenType, HANDLES, MAX_GROUPS};
 
 /// A handle on a token with something in every field.
 fn full() -> (Model, u64) {
@@ -214,18 +214,18 @@ fn a_copy_is_a_token_of_its_own() {
 
 #[test]
 fn all_denied_groups_stay_in_their_places() {
-    let (mut model, made) = with_groups(&[(60, 2); 64]);
-    let indexes: Vec<u64> = (0..64).rev().collect();
-    let request = [vec![10, made, 0, 0, 64, 0], indexes].concat();
+    let (mut model, made) = with_groups(&[(60, 2); MAX_GROUPS]);
+    let indexes: Vec<u64> = (0..MAX_GROUPS as u64).rev().collect();
+    let request = [vec![10, made, 0, 0, MAX_GROUPS as u64, 0], indexes].concat();
     let copy = handle(&mut model, 0, &request);
-    assert_eq!(token_of(&model, copy).groups, [Group { sid: 60, attributes: 0x12 }; 64]);
+    assert_eq!(token_of(&model, copy).groups, [Group { sid: 60, attributes: 0x12 }; MAX_GROUPS]);
 }
 
 #[test]
 fn bad_fields_come_before_a_full_table() {
     let mut model = Model::start();
     let own = open(&mut model, 0, 0x1EF);
-    for _ in 1..32 {
+    for _ in 1..HANDLES {
         open(&mut model, 0, 1);
     }
     assert_eq!(ask(&mut model, 0, &[9, own, 3, 0, 1]), [5]);

@@ -1,6 +1,7 @@
 //! Groups, request 6.
 
 use super::{ask, body, handle, open, send, status, token_of, with_groups};
+use crate::adjust::ENABLED_WORDS;
 use crate::{Group, Model};
 
 const LOGON: u64 = 0xC000_0000;
@@ -9,10 +10,11 @@ const RESET: u64 = 0xFFFF_FFFF;
 /// Mandatory, logon, user, plain enabled, plain disabled, deny-only.
 const GROUPS: [(u64, u64); 6] = [(60, 3), (61, LOGON | 2), (50, 2), (62, 2), (63, 8), (64, 0x10)];
 
+/// The answer's body: the status, then the words, of which groups here fill one.
 fn report(first: u64) -> Vec<u8> {
-    let mut words = vec![0; 17];
-    words[1] = first;
-    body(&words)
+    let mut words = [0; ENABLED_WORDS];
+    words[0] = first;
+    [body(&[0]), body(&words)].concat()
 }
 
 fn enabled(model: &Model, made: u64) -> Vec<bool> {

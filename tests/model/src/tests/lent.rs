@@ -1,10 +1,10 @@
 //! The three calls over lent memory.
 
-use crate::{Fed, Memory, Model, MIN_BUFFER, NEXT_HANDLE};
+use crate::{control_word, Fed, Memory, Model, MIN_BUFFER};
 
 fn damaged() -> Memory {
     let mut memory = Model::start().memory();
-    memory.stations[NEXT_HANDLE] = 0;
+    memory.control[control_word::NEXT_HANDLE] = 0;
     memory
 }
 

@@ -2,8 +2,8 @@
 
 use super::{handle, open, send};
 use crate::layout::{
-    station_word, token_word, DACL_ROW, HANDLE_BYTES, NEXT_HANDLE, NEXT_TOKEN, PENDING_ROW,
-    STATION_ROW, STATION_WORD, TOKEN_ROW,
+    control_word, station_word, token_word, DACL_ROW, HANDLE_BYTES, PENDING_ROW, STATION_ROW,
+    TOKEN_ROW,
 };
 use crate::{HandleRecord, Memory, Model, ALL_PRIVILEGES, HANDLES, MIN_BUFFER, PARTS, STATIONS};
 
@@ -26,8 +26,7 @@ fn the_start_in_memory() {
     assert_eq!(fields, row);
     assert!(rest.iter().all(|&word| word == 0));
     assert_eq!(memory.handles, [HandleRecord::default(); HANDLES]);
-    let stations = [vec![2, 1], [1, 0, 0].repeat(STATIONS)].concat();
-    assert_eq!(memory.stations, stations);
+    assert_eq!(memory.control, [vec![2, 1], [1, 0, 0].repeat(STATIONS)].concat());
     assert!(memory.dacls.iter().chain(&memory.pending).all(|&byte| byte == 0));
     assert_eq!(memory.model(), Some(Model::start()));
 }
@@ -54,7 +53,7 @@ fn token(slot: usize, word: usize) -> usize {
 
 /// Where a field of a station stands.
 fn station(station: usize, word: usize) -> usize {
-    STATION_WORD + station * STATION_ROW + word
+    control_word::STATIONS + station * STATION_ROW + word
 }
 
 #[test]
@@ -68,8 +67,8 @@ fn every_field_has_its_word() {
     assert_eq!(memory.dacls[2 * DACL_ROW..][..4], [7, 8, 9, 0]);
     let last = HandleRecord { station: 5, mask: 0x1EF, number: 3, token: 1 };
     assert_eq!(memory.handles[2], last);
-    assert_eq!(memory.stations[..STATION_WORD], [4, 4]);
-    assert_eq!(memory.stations[station(3, 0)..station(5, 0)], [1, 3, 0, 1, 0, 1]);
+    assert_eq!(memory.control[..control_word::STATIONS], [4, 4]);
+    assert_eq!(memory.control[station(3, 0)..station(5, 0)], [1, 3, 0, 1, 0, 1]);
     assert_eq!(memory.pending[3 * PENDING_ROW..][..4], [5, 1, 2, 0]);
 }
 
@@ -87,11 +86,11 @@ fn every_byte_of_a_record_is_of_a_field() {
 #[test]
 fn parts_are_the_bytes_of_their_elements() {
     let memory = busy().memory();
-    let [tokens, dacls, handles, stations, pending] = memory.bytes();
+    let [tokens, dacls, handles, control, pending] = memory.bytes();
     let word =
         |bytes: &[u8], at: usize| u64::from_ne_bytes(*bytes.as_chunks().0[at..].first().unwrap());
     assert!((0..memory.tokens.len()).all(|at| word(&tokens, at) == memory.tokens[at]));
-    assert!((0..memory.stations.len()).all(|at| word(&stations, at) == memory.stations[at]));
+    assert!((0..memory.control.len()).all(|at| word(&control, at) == memory.control[at]));
     assert_eq!((dacls, pending), (memory.dacls, memory.pending));
     let records = handles.as_chunks().0.iter().map(HandleRecord::from_bytes);
     assert!(records.eq(memory.handles));
@@ -128,8 +127,14 @@ fn what_valid_memory_does_not_ask() {
     assert!(valid_with(0, token_word::USED, ALL_PRIVILEGES), "any used");
     assert!(valid_with(1, token_word::GROUPS, 60 | 1 << 32), "no value 2");
     assert!(valid_with(2, token_word::TYPE, 2), "an impersonation token of level 0");
-    assert!(valid_after(|memory| memory.stations[NEXT_TOKEN] = u64::MAX), "the last next number");
-    assert!(valid_after(|memory| memory.stations[NEXT_HANDLE] = u32::MAX.into()), "the same");
+    assert!(
+        valid_after(|memory| memory.control[control_word::NEXT_TOKEN] = u64::MAX),
+        "the last next number"
+    );
+    assert!(
+        valid_after(|memory| memory.control[control_word::NEXT_HANDLE] = u32::MAX.into()),
+        "the same"
+    );
 }
 
 #[test]
@@ -141,8 +146,11 @@ fn what_it_does_ask() {
     assert!(!valid_with(2, token_word::OWNER, 1), "owner without the attribute");
     assert!(!valid_with(2, token_word::GROUPS, 60 | 0x16 << 32), "deny-only and enabled");
     let count = station(4, station_word::PENDING_COUNT);
-    assert!(!valid_after(|memory| memory.stations[count] = 1), "broken with pending");
-    assert!(!valid_after(|memory| memory.stations[NEXT_HANDLE] = 1 << 32), "next handle number");
+    assert!(!valid_after(|memory| memory.control[count] = 1), "broken with pending");
+    assert!(
+        !valid_after(|memory| memory.control[control_word::NEXT_HANDLE] = 1 << 32),
+        "next handle number"
+    );
     assert!(!valid_after(|memory| memory.tokens.push(0)), "size");
 }
 

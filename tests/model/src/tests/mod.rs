@@ -18,7 +18,7 @@ mod query;
 mod slips;
 mod streams;
 
-use crate::{framed, write_number, Model, Token, MIN_BUFFER};
+use crate::{framed, write_number, Model, Token, MAX_LENGTH_BYTES, MIN_BUFFER, MORE};
 
 /// The body that the numbers make.
 fn body(numbers: &[u64]) -> Vec<u8> {
@@ -46,7 +46,7 @@ fn send(model: &mut Model, station: u32, body: &[u8]) -> Vec<u8> {
 /// The answer's body without its length.
 fn unframed(answer: &[u8]) -> Vec<u8> {
     assert!(answer.len() <= MIN_BUFFER);
-    let length_bytes = if answer[0] < 0x80 { 1 } else { 2 };
+    let length_bytes = if answer[0] < MORE { 1 } else { MAX_LENGTH_BYTES };
     let body = answer[length_bytes..].to_vec();
     assert_eq!(framed(&body), answer);
     body

@@ -1,0 +1,86 @@
+-- For each layout: the fields that a cursor read one after the other are those of the request. Assumes nothing.
+use Prim.Native.Nat.{ℕ, _*_}
+use native.Mathlib.Omega.{arith}
+use mathlib.Core.Path.{_≡_, sym, _∙_}
+use mathlib.Core.Bool.{Bool, true}
+use mathlib.Core.List.{List}
+use lib.ListN.{getD, drop}
+use Rattle.rules.specs.Number.{readNumber, max16, max32, max64}
+use Rattle.rules.specs.Request.{create, query, scope, defaults, duplicate, restrict, u16, u32, u64, byte, times, group, entry, numberLayout, entriesLayout, createLayout, queryLayout, scopeLayout, defaultsLayout, duplicateLayout, restrictLayout, layouts, unknown, parse}
+use Rattle.number.specs.Rest.{readFrom, isEnd}
+use Rattle.number.specs.Meaning.{restOf, FieldAfter, Onward}
+use Rattle.number.specs.declared.cursor.Cursor.{Cursor}
+use Rattle.number.specs.declared.cursor.Field.{Field}
+use Rattle.body.specs.Layout.{whole, Begun, NumberRead, valuesAt, Listed, EntriesRead, RestrictRead}
+use Rattle.body.proofs.Layouts.{_then_, field, ends, at-end, values, list-there, list-was, list-ends, pairs-onward}
+
+pub begun : (s : List ℕ) (c : Cursor) (n : Field) → (c .at ≡ 0) × (c .ok ≡ true) → FieldAfter s c max32 n → Begun s n
+unfolding parse u32 readFrom
+begun s c n e p = record {
+  parsed = sym (field (λ k. getD layouts k unknown) p .same) ∙ rw (e .0, e .1);
+  inside = omega arith;
+}
+
+module _ (s : List ℕ) (c : Cursor) (ok : Bool) where
+  module _ (a : Field) (p : FieldAfter s c max32 a) where
+    pub number-read : ok ≡ isEnd (restOf s (a .next)) → NumberRead s c ok (a .value)
+    unfolding numberLayout u32
+    number-read e = record { parsed = λ request. ends _ e (field _ p) }
+
+    module _ (b : Field) (q : FieldAfter s (a .next) max32 b) where
+      pub scope-read : ok ≡ isEnd (restOf s (b .next)) → whole ok (scope (a .value) (b .value)) ≡ readFrom scopeLayout (restOf s c)
+      unfolding scopeLayout u32
+      scope-read e = ends _ e (field _ p then field _ q)
+
+      pub entries-read : (r : Cursor) → Onward s (b .next) (times (2 * b .value) (readNumber max32)) r → ok ≡ isEnd (restOf s r)
+          → EntriesRead s c ok (a .value) (b .next .at) (b .value)
+      unfolding entriesLayout u32 entry
+      entries-read r o e = record {
+        read =
+            λ request.
+            list-ends entry (b .value) (pairs-onward (λ k v. record { key = k; value = v }) (b .value) o) (request (a .value)) e (field _ p then field _ q);
+      }
+
+      module _ (d : Field) (t : FieldAfter s (b .next) max32 d) where
+        pub query-read : ok ≡ isEnd (restOf s (d .next)) → whole ok (query (a .value) (b .value) (d .value)) ≡ readFrom queryLayout (restOf s c)
+        unfolding queryLayout u32
+        query-read e = ends _ e (field _ p then field _ q then field _ t)
+
+        pub duplicate-read : (f : Field) → FieldAfter s (d .next) max32 f → ok ≡ isEnd (restOf s (f .next))
+            → whole ok (duplicate (a .value) (b .value) (d .value) (f .value)) ≡ readFrom duplicateLayout (restOf s c)
+        unfolding duplicateLayout u32
+        duplicate-read f u e = ends _ e (field _ p then field _ q then field _ t then field _ u)
+
+module _ (s : List ℕ) (c : Cursor) (ok : Bool) (r : Cursor) (e : ok ≡ isEnd (restOf s r)) where
+  pub defaults-read : (h o g f n : Field) → FieldAfter s c max32 h → FieldAfter s (h .next) max16 o → FieldAfter s (o .next) max16 g
+      → FieldAfter s (g .next) max32 f → FieldAfter s (f .next) max32 n → Onward s (n .next) (times (n .value) byte) r
+      → Listed s c byte defaultsLayout (defaults (h .value) (o .value) (g .value) (f .value) (valuesAt byte s (n .next .at) (n .value))) ok (n .next .at) (n .value)
+  unfolding defaultsLayout u16 u32
+  defaults-read h o g f n p q t u v w =
+      list-ends byte (n .value) w (defaults (h .value) (o .value) (g .value) (f .value)) e
+      (field _ p then field _ q then field _ t then field _ u then field _ v)
+
+  pub create-read : (a b d f g n : Field) → FieldAfter s c max32 a → FieldAfter s (a .next) max64 b → FieldAfter s (b .next) max32 d
+      → FieldAfter s (d .next) max64 f → FieldAfter s (f .next) max64 g → FieldAfter s (g .next) max32 n
+      → Onward s (n .next) (times (2 * n .value) (readNumber max32)) r
+      → Listed s c group createLayout (create (a .value) (b .value) (d .value) (f .value) (g .value) (valuesAt group s (n .next .at) (n .value))) ok (n .next .at) (n .value)
+  unfolding createLayout u32 u64 group
+  create-read a b d f g n p q t u v w o =
+      list-ends group (n .value) (pairs-onward (λ i x. record { sid = i; attributes = x }) (n .value) o)
+      (create (a .value) (b .value) (d .value) (f .value) (g .value)) e
+      (field _ p then field _ q then field _ t then field _ u then field _ v then field _ w)
+
+  pub restrict-read : (h m x d n : Field) (z : Cursor) → FieldAfter s c max32 h → FieldAfter s (h .next) max32 m → FieldAfter s (m .next) max64 x
+      → FieldAfter s (x .next) max32 d → FieldAfter s (d .next) max32 n → Onward s (n .next) (times (d .value) (readNumber max32)) z
+      → Onward s z (times (n .value) (readNumber max32)) r
+      → RestrictRead s c ok (h .value) (m .value) (x .value) (n .next .at) (d .value) (z .at) (n .value)
+  unfolding restrictLayout u32 u64
+  restrict-read h m x d n z p q t u v y w =
+      let fields = field _ p then field _ q then field _ t then field _ u then field _ v in
+      record {
+        sids =
+            list-ends u32 (n .value) w (restrict (h .value) (m .value) (x .value) (valuesAt u32 s (n .next .at) (d .value))) e
+            (fields then values u32 (d .value) y _);
+        deny = λ o. list-there u32 (d .value) y (list-was u32 (n .value) w (at-end (r .ok) (drop (r .at) s) (sym e ∙ o) .0));
+        inside = fields .inside;
+      }

@@ -1,0 +1,5 @@
+pub mod Pairs
+pub mod Passes
+pub mod Layouts
+pub mod Bodies
+pub mod Folding

@@ -1,0 +1,2 @@
+pub mod CreateEnding
+pub mod NewGroups

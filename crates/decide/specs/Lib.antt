@@ -1,0 +1,5 @@
+pub mod Carried
+pub mod Lookup
+pub mod Located
+pub mod Ending
+pub mod Issue

@@ -1,0 +1,91 @@
+//! Limits, places and sizes, by the names that include/obriska.h has them under.
+
+/// How many stations there are: 0 to 7.
+pub const STATIONS: usize = 8;
+/// How many tokens live at most.
+pub const TOKENS: usize = 16;
+/// How many handles live at most, of all stations together.
+pub const HANDLES: usize = 32;
+
+/// How many groups a token has at most.
+pub const MAX_GROUPS: usize = 64;
+/// How many restricting SIDs a token has at most.
+pub const MAX_RESTRICTING: usize = 16;
+/// The longest default DACL in bytes.
+pub const MAX_DACL: usize = 256;
+
+/// The longest answer in bytes.
+pub const MAX_ANSWER: usize = 1024;
+/// The longest body of a request in bytes.
+pub const MAX_BODY: usize = 2048;
+/// The most bytes that say a body's length.
+pub const LENGTH_BYTES: usize = 2;
+
+/// Words of a token slot.
+pub(crate) mod token_word {
+    pub const NUMBER: usize = 0;
+    pub const MODIFIED: usize = 1;
+    pub const SESSION: usize = 2;
+    pub const USER: usize = 3;
+    pub const TYPE: usize = 4;
+    pub const LEVEL: usize = 5;
+    pub const ELEVATION: usize = 6;
+    pub const WRITE_RESTRICTED: usize = 7;
+    pub const USER_DENY_ONLY: usize = 8;
+    pub const OWNER: usize = 9;
+    pub const PRIMARY_GROUP: usize = 10;
+    pub const SCOPE: usize = 11;
+    pub const INTEGRITY: usize = 12;
+    pub const PRESENT: usize = 13;
+    pub const ENABLED: usize = 14;
+    pub const DEFAULT: usize = 15;
+    pub const USED: usize = 16;
+    pub const GROUP_COUNT: usize = 17;
+    pub const RESTRICTING_COUNT: usize = 18;
+    pub const DACL_LENGTH: usize = 19;
+    /// The first group.
+    pub const GROUPS: usize = DACL_LENGTH + 1;
+    /// The first restricting SID.
+    pub const RESTRICTING: usize = GROUPS + super::MAX_GROUPS;
+}
+
+/// The bit at which a group's attributes begin in its word; the SID stands below.
+pub(crate) const ATTRIBUTES_BIT: u32 = u32::BITS;
+
+/// The control words.
+pub(crate) mod control_word {
+    pub const NEXT_TOKEN: usize = 0;
+    pub const NEXT_HANDLE: usize = 1;
+    /// The row of station 0; the others follow.
+    pub const FIRST_STATION: usize = NEXT_HANDLE + 1;
+}
+
+/// Words of a station's row.
+pub(crate) mod station_word {
+    pub const TOKEN: usize = 0;
+    pub const PENDING: usize = 1;
+    pub const BROKEN: usize = 2;
+}
+
+/// Words of a token slot.
+pub(crate) const TOKEN_WORDS: usize = token_word::RESTRICTING + MAX_RESTRICTING;
+/// Bytes of a DACL slot.
+pub(crate) const DACL_BYTES: usize = MAX_DACL;
+/// Bytes of a handle slot.
+pub(crate) const HANDLE_BYTES: usize = 16;
+/// Words of a station's row.
+pub(crate) const STATION_WORDS: usize = station_word::BROKEN + 1;
+/// Bytes of a station's pending part.
+pub(crate) const PENDING_BYTES: usize = LENGTH_BYTES + MAX_BODY;
+
+/// Elements of the arrays.
+pub(crate) const TOKENS_LEN: usize = TOKENS * TOKEN_WORDS;
+pub(crate) const DACLS_LEN: usize = TOKENS * DACL_BYTES;
+pub(crate) const CONTROL_LEN: usize = control_word::FIRST_STATION + STATIONS * STATION_WORDS;
+pub(crate) const PENDING_LEN: usize = STATIONS * PENDING_BYTES;
+
+/// How many bytes [`Broker::to_bytes`](crate::Broker::to_bytes) gives.
+pub const MEMORY_BYTES: usize = (TOKENS_LEN + CONTROL_LEN) * size_of::<u64>()
+    + DACLS_LEN
+    + HANDLES * HANDLE_BYTES
+    + PENDING_LEN;
