@@ -81,7 +81,7 @@ impl Wish<'_> {
 
     /// A request's number: open without handles, close when slots run out, groups if there are any.
     fn kind(&mut self) -> usize {
-        let mut weights: [_; RIGHTS.len()] = [0, 16, 6, 10, 14, 14, 14, 8, 12, 14, 14, 14];
+        let mut weights: [_; RIGHTS.len()] = [0, 16, 6, 10, 14, 14, 14, 8, 12, 14, 14, 20];
         let own = self.own_handles();
         if own.len() < 2 {
             weights[1] = 60;
@@ -267,10 +267,8 @@ impl Wish<'_> {
             return vec![RESET_GROUPS];
         }
         let named = self.groups_to_name(&kinds);
-        let mut entries: Vec<_> = named
-            .into_iter()
-            .map(|index| (index as u32, self.group_action(kinds[index])))
-            .collect();
+        let mut entries: Vec<_> =
+            named.into_iter().map(|index| (index as u32, self.rng.below(2) as u32)).collect();
         let (past, again) = (kinds.len() as u32, entries.first().copied().unwrap_or(RESET_GROUPS));
         if self.rng.percent(5) {
             entries.clear();
@@ -289,25 +287,15 @@ impl Wish<'_> {
         };
         let most = if self.rng.percent(10) { MAX_GROUPS } else { 4 };
         match self.rng.below(20) {
-            0..=8 => {
+            0..=12 => {
                 let mut present = kinds.to_vec();
                 present.sort_unstable();
                 present.dedup();
                 let kind = self.rng.pick_any(&present);
                 kind.and_then(|kind| self.rng.pick_any(&of(&[kind]))).into_iter().collect()
             }
-            9..=15 => self.rng.some(&of(&[Kind::User, Kind::Other]), most),
+            13..=16 => self.rng.some(&of(&[Kind::User, Kind::Other]), most),
             _ => self.rng.some(&all, most),
-        }
-    }
-
-    /// Seldom disables the user's group.
-    fn group_action(&mut self, kind: Kind) -> u32 {
-        let any = self.rng.below(2) as u32;
-        if kind == Kind::User && self.rng.percent(50) {
-            1
-        } else {
-            any
         }
     }
 

@@ -60,7 +60,7 @@ fn every_kind_of_group() {
         run(seed, with_groups(), 100, &mut counts);
     }
     println!("with groups:\n{counts}");
-    counts.check_groups(20);
+    counts.check_groups(10);
 }
 
 #[test]
