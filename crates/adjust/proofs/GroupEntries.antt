@@ -16,7 +16,7 @@ use Rattle.rules.specs.Basic.{if_then_else_, all, changeAt}
 use Rattle.rules.specs.Bits.{has}
 use Rattle.rules.specs.Number.{got, max32}
 use Rattle.rules.specs.Entry.{Entry, validEntries, applyAll}
-use Rattle.rules.specs.Group.{Group, noGroup, isDenyOnly, isEnabledByDefault, withEnabled}
+use Rattle.rules.specs.Group.{Group, noGroup, isMandatory, isDenyOnly, isLogon, isEnabledByDefault, withEnabled}
 use Rattle.rules.specs.Token.{maxGroups}
 use Rattle.rules.specs.Memory.{word32, pack, unpack}
 use Rattle.rules.specs.AdjustPrivileges.{named}
@@ -36,6 +36,11 @@ use Rattle.adjust.specs.declared.group_entries.Progress as Pass
 use Rattle.adjust.specs.GroupEntries.{groupsIn, mayEntry, judging, progressOf, judged, EntriesMade, GroupsSwitched}
 
 -- ---- one group
+
+pub protects : (user v : ℕ) (g : Group) {m d l u : Bool} → m ≡ isMandatory g → d ≡ isDenyOnly g → l ≡ isLogon g → u ≡ eqb (g .sid) user
+    → (m || d || l || (u && eqb v 0)) ≡ isProtected user v g
+unfolding isProtected
+protects user v g em ed el eu = rw (em, ed, el, eu)
 
 module _ (g : Group) (d : Bool) (ed : d ≡ isDenyOnly g) where
   pub reset-denied : d ≡ true → g ≡ resetGroup g
