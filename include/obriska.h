@@ -10,7 +10,7 @@
  *   3. reconnects a station when its line was cut.
  *
  * What every call returns and every lent byte after it are proved for any input, refusals too
- * (docs/CLAIMS.md): nothing of the stack and no padding is in them. What the host owes:
+ * (docs/CLAIMS.md): nothing of the stack and no padding is in the lent bytes. What the host owes:
  *
  *   - each pointer is not null, also before a length of 0, is aligned for its type, and has as many
  *     elements behind it as the length says;

@@ -11,7 +11,7 @@ ghost use Rattle.adjust.specs.GroupEntries.{groupsIn, mayEntry, judging,
 use crate::group_words::enabled_word;
 use crate::group_words::is_protected;
 use crate::group_words::reset_all;
-use crate::group_words::switch_at;
+use crate::group_words::set_enabled_at;
 use answer::refusal;
 use body::entry;
 use body::entry::Pair;
@@ -92,7 +92,7 @@ fn make(s: &[u8], start: usize, count: u64, groups: &mut [u64])
         let Pair::Got { key, value, next } = entry::read(s, at) else {
             return;
         };
-        switch_at(key, value == 1, groups);
+        set_enabled_at(key, value == 1, groups);
         at = next;
         left -= 1;
     }

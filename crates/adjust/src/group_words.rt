@@ -1,5 +1,5 @@
-// A token's groups: which of them are protected, and, in the words of the token's row, switching one, resetting all, and the report of the
-// enabled ones.
+// A token's groups: which of them are protected, and, in the words of the token's row, ENABLED of one set, all reset, and the report of
+// the enabled ones.
 ghost use mathlib.Core.Path.{_≡_};
 ghost use mathlib.Core.List.{map};
 ghost use Prim.Native.Nat.{_≤_};
@@ -35,7 +35,7 @@ fn reset_group(g: Group) -> Group
     if attributes::is_deny_only(g) {
         return g;
     }
-    attributes::switched(g, attributes::is_on_by_default(g))
+    attributes::with_enabled(g, attributes::is_enabled_by_default(g))
 }
 
 // ---- one word
@@ -46,16 +46,16 @@ fn reset_word(w: u64) -> u64
     words::pack(reset_group(words::unpack(w)))
 }
 
-fn switched_word(w: u64, on: bool) -> u64
+fn with_enabled_word(w: u64, on: bool) -> u64
     ensures { λ r. ⌜ r ≡ onWord (withEnabled on) w ⌝ }
 {
-    words::pack(attributes::switched(words::unpack(w), on))
+    words::pack(attributes::with_enabled(words::unpack(w), on))
 }
 
-fn on_bit(w: u64) -> u64
+fn enabled_bit(w: u64) -> u64
     ensures { λ r. ⌜ r ≡ (if isEnabled (unpack w) then 1 else 0) ⌝ }
 {
-    if attributes::is_on(words::unpack(w)) {
+    if attributes::is_enabled(words::unpack(w)) {
         1
     } else {
         0
@@ -74,13 +74,13 @@ pub fn reset_all(groups: &mut [u64])
     }
 }
 
-// Past the last group there is nothing to switch.
-pub fn switch_at(key: u64, on: bool, groups: &mut [u64])
+// Past the last group there is nothing to set.
+pub fn set_enabled_at(key: u64, on: bool, groups: &mut [u64])
     ensures { λ _. ⌜ now (groups .exit) ≡ changeAt key (onWord (withEnabled on)) (now (groups .entry)) ⌝ }
 {
     let i = key as usize;
     if i < groups.len() {
-        groups[i] = switched_word(groups[i], on);
+        groups[i] = with_enabled_word(groups[i], on);
     }
 }
 
@@ -93,7 +93,7 @@ pub fn enabled_word(groups: &[u64]) -> u64
     let mut w: u64 = 0;
     while 0 < i {
         i -= 1;
-        w = on_bit(groups[i]) + 2 * w;
+        w = enabled_bit(groups[i]) + 2 * w;
     }
     w
 }

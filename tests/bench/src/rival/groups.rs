@@ -16,7 +16,7 @@ pub const fn in_word(attributes: u32) -> u64 {
 /// Whether a group's word has any of the attributes.
 #[inline]
 pub fn attribute(group: u64, attributes: u32) -> bool {
-    group & in_word(attributes) != 0
+    (group >> ATTRIBUTES) as u32 & attributes != 0
 }
 
 /// Whether a new group of a token of this user must be enabled by default: mandatory, logon, the
