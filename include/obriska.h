@@ -161,7 +161,8 @@ enum obriska_refusal {
     OBRISKA_REFUSED_PRIVILEGE = 4,  /* the privilege is not enabled on the station's token */
     OBRISKA_REFUSED_FIELD = 5,      /* a bad field or entry, an unknown class, or installing a token
                                        that is not primary */
-    OBRISKA_REFUSED_PROTECTED = 6,  /* a protected group */
+    OBRISKA_REFUSED_PROTECTED = 6,  /* an entry names a mandatory, deny-only or logon group, or
+                                       disables one with the user's SID */
     OBRISKA_REFUSED_MISMATCH = 7,   /* installing a token of another user or session */
     OBRISKA_REFUSED_FULL = 8,       /* no free slot, no number left, or too many restricting SIDs */
     OBRISKA_REFUSED_CAPACITY = 9,   /* the report is larger than the capacity; its size follows */

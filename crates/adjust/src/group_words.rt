@@ -1,4 +1,4 @@
-// A token's groups: what of them may be switched, and, in the words of the token's row, ENABLED of one set, all reset, and the report of
+// A token's groups: which of them are protected, and, in the words of the token's row, ENABLED of one set, all reset, and the report of
 // the enabled ones.
 ghost use mathlib.Core.Path.{_≡_};
 ghost use mathlib.Core.List.{map};
@@ -8,7 +8,7 @@ ghost use Rattle.rules.specs.Basic.{if_then_else_, changeAt};
 ghost use Rattle.rules.specs.Group.{isEnabled, withEnabled};
 ghost use Rattle.rules.specs.Token.{maxGroups};
 ghost use Rattle.rules.specs.Memory.{unpack};
-ghost use Rattle.rules.specs.AdjustGroups.{maySwitch, resetGroup, enabledBits};
+ghost use Rattle.rules.specs.AdjustGroups.{isProtected, resetGroup, enabledBits};
 ghost use Rattle.token.specs.Meaning.{groupOf};
 ghost use Rattle.token.specs.Row.{onWord};
 ghost use Rattle.adjust.specs.GroupEntries.{groupsIn};
@@ -18,15 +18,14 @@ use token::words;
 
 // ---- one group
 
-// Protected: disabling a mandatory, logon or user-SID group that is not deny-only, and enabling a deny-only one.
-pub fn may_switch(user: u32, value: u64, g: Group) -> bool
-    ensures { λ r. ⌜ r ≡ maySwitch user value (groupOf g) ⌝ }
+// Protected: a mandatory, deny-only or logon group, whichever way an entry points, and a group with the user's SID on disabling.
+pub fn is_protected(user: u32, value: u64, g: Group) -> bool
+    ensures { λ r. ⌜ r ≡ isProtected user value (groupOf g) ⌝ }
 {
-    if value == 0 {
-        attributes::is_deny_only(g) | !attributes::is_fixed(user, g)
-    } else {
-        !attributes::is_deny_only(g)
-    }
+    attributes::is_mandatory(g)
+        | attributes::is_deny_only(g)
+        | attributes::is_logon(g)
+        | ((g.sid == user) & (value == 0))
 }
 
 // ENABLED from value 2, but in deny-only groups.
