@@ -177,7 +177,7 @@ enum obriska_refusal {
  * byte, low bits first, the top bit set on all bytes but the last:
  *
  *   1, 3, 9, 10  the number of the new handle;
- *   4            the report of the class;
+ *   4            the report of the class, in which a DACL's bytes are plain;
  *   5            two words of before the change, at the bits of the named privileges: which were
  *                present, then which were enabled. In both 0, a privilege was absent; in the first
  *                alone 1, it was disabled. A reset answers both words whole;
