@@ -17,7 +17,7 @@ libdir = build
 endif
 library = $(libdir)/libobriska.a
 
-.PHONY: lib help play talk example install check-hosts check-c clean
+.PHONY: lib help play talk example install check-hosts check-c bench-numbers clean
 lib: $(library)
 
 help:
@@ -27,6 +27,7 @@ help:
 	@echo "make example             build/first_minute, the example host in C"
 	@echo "make install PREFIX=..   header, library and pkg-config file (DESTDIR is honoured)"
 	@echo "make check-hosts         tests of the C header and example, the Rust crate and talk"
+	@echo "make bench-numbers       times the number reader beside the one before it"
 	@echo "make clean               removes build/ and host/target/"
 
 ifndef OBRISKA_LIB_DIR
@@ -66,6 +67,10 @@ check-c: $(library)
 
 check-hosts: check-c
 	$(cargo) test $(host)
+
+bench-numbers:
+	tests/numbers/libraries
+	OBRISKA_LIB_DIR=$(abspath target/numbers) cargo run --release --offline --manifest-path tests/Cargo.toml --package numbers
 
 clean:
 	rm -rf build host/target

@@ -10,7 +10,7 @@
  *   3. reconnects a station when its line was cut.
  *
  * What every call returns and every lent byte after it are proved for any input, refusals too
- * (docs/CLAIMS.md): nothing of the stack and no padding is in them. What the host owes:
+ * (docs/CLAIMS.md): nothing of the stack and no padding is in the lent bytes. What the host owes:
  *
  *   - each pointer is not null, also before a length of 0, is aligned for its type, and has as many
  *     elements behind it as the length says;
@@ -161,7 +161,8 @@ enum obriska_refusal {
     OBRISKA_REFUSED_PRIVILEGE = 4,  /* the privilege is not enabled on the station's token */
     OBRISKA_REFUSED_FIELD = 5,      /* a bad field or entry, an unknown class, or installing a token
                                        that is not primary */
-    OBRISKA_REFUSED_PROTECTED = 6,  /* a protected group */
+    OBRISKA_REFUSED_PROTECTED = 6,  /* an entry names a mandatory, deny-only or logon group, or
+                                       disables one with the user's SID */
     OBRISKA_REFUSED_MISMATCH = 7,   /* installing a token of another user or session */
     OBRISKA_REFUSED_FULL = 8,       /* no free slot, no number left, or too many restricting SIDs */
     OBRISKA_REFUSED_CAPACITY = 9,   /* the report is larger than the capacity; its size follows */

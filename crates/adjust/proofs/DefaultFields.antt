@@ -1,7 +1,6 @@
 -- Request 8's fields: the judgement by the words of the row, and the changes. Assumes nothing.
-use Prim.Native.Nat.{ℕ, zero, suc, _+_, _-_, _%_, _^_, _≤_, _<_}
+use Prim.Native.Nat.{ℕ, zero, suc, _+_, _-_, _≤_, _<_}
 use native.Mathlib.Numerals.{sub-one}
-use native.Mathlib.Nat.{div-div-eq-div-mul}
 use native.Mathlib.Omega.{arith}
 use mathlib.Core.Path.{_≡_, refl, sym, ap, _∙_}
 use mathlib.Core.Bool.{Bool, true, false, not, _&&_, _||_}
@@ -12,11 +11,10 @@ use lib.ListN.{length, take, drop, getD, set, List·getD-map}
 use lib.Seq.{getD-take, getD-drop}
 use borrow.Author.Tests.{eqb-true, eq-eqb, ne-eqb, leb-true, lt-ltb, le-ltb, not-true, not-false}
 use Rattle.rules.specs.Basic.{if_then_else_, isEmpty}
-use Rattle.rules.specs.Bits.{has}
 use Rattle.rules.specs.Group.{Group, noGroup, isOwner}
 use Rattle.rules.specs.Token.{Token, maxGroups, maxDacl, withDefaults, nextModified}
 use Rattle.rules.specs.Valid.{groupsValid, tokenValid}
-use Rattle.rules.specs.Memory.{headWords, word32, unpack, head, tokenRow, daclRow, groupsAt, tokenAt}
+use Rattle.rules.specs.Memory.{headWords, unpack, head, tokenRow, daclRow, groupsAt, tokenAt}
 use Rattle.rules.specs.AdjustDefaults.{noChange, validOwner, validGroup, validDacl, validDefaults, orKept, adjusted, adjustedToken}
 use Rattle.rules.proofs.Logic.{and-l, and-r, or-e}
 use Rattle.rules.proofs.Facts.{token-facts}
@@ -68,21 +66,15 @@ module _ (ws : List ℕ) (i : ℕ) (h : i ≡ 0 → ⊥) where
   pub owner-past : getD ws 17 0 ≤ i - 1 → OwnerJudged i ws false
   owner-past l = record { judged = λ t v e. past (t .groups) i h (omega (arith, count-in-row t e)) }
 
-  -- OWNER is bit 3 of the attributes
-  owner-bit : (w : ℕ) → has 35 w ≡ isOwner (unpack w)
-  unfolding has isOwner unpack
-  owner-bit w = ap (λ (x : ℕ). eqb (x % 2) 1) (sym (div-div-eq-div-mul w word32 (2 ^ 3)))
-
-  pub owner-group : (b : Bool) → i - 1 < getD ws 17 0 → b ≡ has 35 (getD ws (headWords + (i - 1)) 0) → OwnerJudged i ws b
+  pub owner-group : (b : Bool) → i - 1 < getD ws 17 0 → b ≡ isOwner (unpack (getD ws (headWords + (i - 1)) 0)) → OwnerJudged i ws b
   unfolding validOwner
   owner-group b l e = record { judged = λ t v q. by t v q i h l e }
     where
-      by : (t : Token) → tokenValid t ≡ true → ws ≡ tokenRow t → (i : ℕ) → (i ≡ 0 → ⊥) → i - 1 < getD ws 17 0 → b ≡ has 35 (getD ws (headWords + (i - 1)) 0) → b ≡ validOwner (t .groups) i
+      by : (t : Token) → tokenValid t ≡ true → ws ≡ tokenRow t → (i : ℕ) → (i ≡ 0 → ⊥) → i - 1 < getD ws 17 0 → b ≡ isOwner (unpack (getD ws (headWords + (i - 1)) 0)) → b ≡ validOwner (t .groups) i
       by t v q zero h l e = absurd (h refl)
       by t v q (suc k) h l e =
           let c = count-in-row t q in
-          e ∙ ap (λ (j : ℕ). has 35 (getD ws (headWords + j) 0)) (sub-one (suc k))
-          ∙ owner-bit (getD ws (headWords + k) 0)
+          e ∙ ap (λ (j : ℕ). isOwner (unpack (getD ws (headWords + j) 0))) (sub-one (suc k))
           ∙ ap isOwner (sym (group-in-row t v q k (omega arith)))
           ∙ rw (lt-ltb k (length (t .groups)) (omega arith))
 

@@ -48,15 +48,15 @@ module _ (owner group flag : ℕ) (bytes : List ℕ) where
       by true = refl
       by false = refl
 
-module _ (s n owner group flag : ℕ) (bytes : List ℕ) (hs : List Handle) (ss ts ds : List ℕ) (token held : ℕ) (x : Located) (g : TokenLocated s n mask.adjustDefault hs ts token held x) where
+module _ (s n owner group flag : ℕ) (bytes : List ℕ) (hs : List Handle) (cs ts ds : List ℕ) (token held : ℕ) (x : Located) (g : TokenLocated s n mask.adjustDefault hs ts token held x) where
   pub no-handle : (r : Outcome) → (x .refusal ≡ 0 → ⊥) → Ends (answers.Refused (x .refusal)) r
-      → DefaultsCarried s n owner group flag bytes hs ss ts ds ss ts ds r
+      → DefaultsCarried s n owner group flag bytes ts ds hs cs ts ds cs r
   unfolding adjust
   no-handle r f i = record { carried = not-located g (rest owner group flag bytes) r i f }
 
   pub adjusts : (ws bs : List ℕ) (a : Answer) (r : Outcome) → x .refusal ≡ 0
       → RowsEnd (defaultsEnding owner group flag bytes) (lent (x .slot) ts) (lent-dacl (x .slot) ds) ws bs a → Ends a r
-      → DefaultsCarried s n owner group flag bytes hs ss ts ds ss (back (x .slot) ws ts) (back-dacl (x .slot) bs ds) r
+      → DefaultsCarried s n owner group flag bytes ts ds hs cs (back (x .slot) ws ts) (back-dacl (x .slot) bs ds) cs r
   unfolding adjust
   adjusts ws bs a r z e i = record {
     carried = rows-end g z (rest owner group flag bytes) (defaultsEnding owner group flag bytes) (rule owner group flag bytes) (number-kept owner group flag bytes) e r i;

@@ -16,11 +16,11 @@ use Rattle.rules.specs.Basic.{if_then_else_, all, changeAt}
 use Rattle.rules.specs.Bits.{has}
 use Rattle.rules.specs.Number.{got, max32}
 use Rattle.rules.specs.Entry.{Entry, validEntries, applyAll}
-use Rattle.rules.specs.Group.{Group, noGroup, isDenyOnly, isEnabledByDefault, isFixed, withEnabled}
+use Rattle.rules.specs.Group.{Group, noGroup, isMandatory, isDenyOnly, isLogon, isEnabledByDefault, withEnabled}
 use Rattle.rules.specs.Token.{maxGroups}
 use Rattle.rules.specs.Memory.{word32, pack, unpack}
 use Rattle.rules.specs.AdjustPrivileges.{named}
-use Rattle.rules.specs.AdjustGroups.{isReset, validEntry, maySwitch, applied, resetGroup, adjusted, enabledBits}
+use Rattle.rules.specs.AdjustGroups.{isReset, validEntry, isProtected, applied, resetGroup, adjusted, enabledBits}
 use Rattle.rules.specs.Request.{times, entry}
 use Rattle.rules.proofs.Logic.{and-l, and-r, length-changeAt}
 use Rattle.token.specs.declared.Group as Code
@@ -37,16 +37,10 @@ use Rattle.adjust.specs.GroupEntries.{groupsIn, mayEntry, judging, progr
 
 -- ---- one group
 
-module _ (user : ℕ) (g : Group) (d : Bool) (ed : d ≡ isDenyOnly g) where
-  pub may-disable : (a : ℕ) (f : Bool) → a ≡ 0 → f ≡ isFixed user g → (d || not f) ≡ maySwitch user a g
-  unfolding maySwitch
-  may-disable zero f h ef = ap₂ (λ (x y : Bool). x || not y) ed ef
-  may-disable (suc a) f h ef = absurd (omega arith)
-
-  pub may-enable : (a : ℕ) → (a ≡ 0 → ⊥) → not d ≡ maySwitch user a g
-  unfolding maySwitch
-  may-enable zero h = absurd (h refl)
-  may-enable (suc a) h = ap not ed
+pub protects : (user v : ℕ) (g : Group) {m d l u : Bool} → m ≡ isMandatory g → d ≡ isDenyOnly g → l ≡ isLogon g → u ≡ eqb (g .sid) user
+    → (m || d || l || (u && eqb v 0)) ≡ isProtected user v g
+unfolding isProtected
+protects user v g em ed el eu = rw (em, ed, el, eu)
 
 module _ (g : Group) (d : Bool) (ed : d ≡ isDenyOnly g) where
   pub reset-denied : d ≡ true → g ≡ resetGroup g
@@ -121,9 +115,9 @@ module _ (gw : List ℕ) where
   entry-valid k a = ap (λ (n : ℕ). ltb k n && leb a 1) (sym (length-map gw unpack))
 
   -- the group that an entry names
-  pub named-group : (user k a : ℕ) {m : Bool} {g : Code.Group} → g ≡ groupIn (getD gw k 0) → m ≡ maySwitch user a (groupOf g) → m ≡ mayEntry user (groupsIn gw) (entryOf k a)
+  pub named-group : (user k a : ℕ) {m : Bool} {g : Code.Group} → g ≡ groupIn (getD gw k 0) → m ≡ isProtected user a (groupOf g) → not m ≡ mayEntry user (groupsIn gw) (entryOf k a)
   unfolding mayEntry noGroup unpack
-  named-group user k a eg e = e ∙ ap (maySwitch user a) (ap groupOf eg ∙ sym (List·getD-map unpack gw k 0))
+  named-group user k a eg e = ap not (e ∙ ap (isProtected user a) (ap groupOf eg ∙ sym (List·getD-map unpack gw k 0)))
 
   module _ (o n : Bool) (k a : ℕ) (h : (o && (ltb k (length gw) && leb a 1) && not n) ≡ true) where
     -- a good index is one of a group

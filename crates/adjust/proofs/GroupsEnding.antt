@@ -157,13 +157,13 @@ kept f es t e = by (isGood (t .groups) es) (isFree (t .identity .user) (t .group
     by true false = refl
     by false c = refl
 
-module _ {s n : ℕ} {hs : List Handle} (body : List ℕ) (at count : ℕ) {ss ts ds : List ℕ} {token held : ℕ} {y : Located} (g : TokenLocated s n mask.adjustGroups hs ts token held y) where
-  pub no-handle : (r : Outcome) → (y .refusal ≡ 0 → ⊥) → Ends (answers.Refused (y .refusal)) r → EntriesCarried adjust s n body at count hs ss ts ds ss ts ds r
+module _ {s n : ℕ} {hs : List Handle} (body : List ℕ) (at count : ℕ) {cs ts ds : List ℕ} {token held : ℕ} {y : Located} (g : TokenLocated s n mask.adjustGroups hs ts token held y) where
+  pub no-handle : (r : Outcome) → (y .refusal ≡ 0 → ⊥) → Ends (answers.Refused (y .refusal)) r → EntriesCarried adjust s n body at count ts ds hs cs ts ds cs r
   unfolding adjust
   no-handle r f i = record { carried = λ es later h. not-located g (rest es) r i f }
 
   pub adjusts : y .refusal ≡ 0 → {ws : List ℕ} {a : Answer} → RowSwitched count (drop at body) (lent (y .slot) ts) ws a → (r : Outcome) → Ends a r
-      → EntriesCarried adjust s n body at count hs ss ts ds ss (back (y .slot) ws ts) ds r
+      → EntriesCarried adjust s n body at count ts ds hs cs (back (y .slot) ws ts) ds cs r
   unfolding adjust adjustedToken withGroups nextModified
   adjusts z x r w = record {
     carried = λ es later h. row-ends g z (rest es) (ending es) (rule es)

@@ -92,13 +92,13 @@ unfolding nextModified withPrivileges
 same-dacl t (done p w v) = refl
 same-dacl t refused = refl
 
-module _ {s n : ℕ} {hs : List Handle} (body : List ℕ) (at count : ℕ) {ss ts ds : List ℕ} {token held : ℕ} {x : Located} (g : TokenLocated s n mask.adjustPrivileges hs ts token held x) where
-  pub no-handle : {r : Ended.Outcome} → (x .refusal ≡ 0 → ⊥) → Ends (answers.Refused (x .refusal)) r → EntriesCarried adjust s n body at count hs ss ts ds ss ts ds r
+module _ {s n : ℕ} {hs : List Handle} (body : List ℕ) (at count : ℕ) {cs ts ds : List ℕ} {token held : ℕ} {x : Located} (g : TokenLocated s n mask.adjustPrivileges hs ts token held x) where
+  pub no-handle : {r : Ended.Outcome} → (x .refusal ≡ 0 → ⊥) → Ends (answers.Refused (x .refusal)) r → EntriesCarried adjust s n body at count ts ds hs cs ts ds cs r
   unfolding adjust
   no-handle {r} f i = record { carried = λ es later h. not-located g (rest es) r i f }
 
   pub row-adjusted : {ws : List ℕ} {a : Answer} {r : Ended.Outcome} → x .refusal ≡ 0 → RowEnds (privilegesEnding (times count entry (drop at body))) (lent (x .slot) ts) ws a → Ends a r
-      → EntriesCarried adjust s n body at count hs ss ts ds ss (back (x .slot) ws ts) ds r
+      → EntriesCarried adjust s n body at count ts ds hs cs (back (x .slot) ws ts) ds cs r
   unfolding adjust
   row-adjusted {ws} {a} {r} z e i = record {
     carried = λ es later h. row-ends g z (rest es) (privilegesEnding (got es later)) (rule es later)

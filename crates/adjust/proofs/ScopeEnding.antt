@@ -23,7 +23,7 @@ use Rattle.token.specs.Row.{Becomes}
 use Rattle.state.specs.TokenCalls.{FoundAt, WordsChanged, Held, Used}
 use Rattle.state.proofs.InPlace.{lent, back, words-changed, words-unchanged}
 use Rattle.state.specs.ReleaseFacts.{PartsIn}
-use Rattle.state.proofs.TokenFrames.{with-slots, with-tokens, used-stations, used-handles}
+use Rattle.state.proofs.TokenFrames.{with-slots, with-tokens, used-control, used-handles}
 use Rattle.answer.specs.declared.Answer.the-variants as answers
 use Rattle.decide.specs.declared.outcome.Outcome.{Outcome}
 use Rattle.decide.specs.Carried.{Ends, Carried}
@@ -46,7 +46,7 @@ module _ {n i : ℕ} (v : ℕ) {ts : List ℕ} (at : FoundAt n ts i) where
   unfolding scopedToken withScope nextModified
   scope-nowhere l = words-unchanged at (scopedToken v) (λ t. refl) l
 
-pub scope-applied : {s n v : ℕ} {ss ts ts₁ ts₂ : List ℕ} → s < stationCount → Used tcb s ts ss ts₁ → WordsChanged n (scopedToken v) ts₁ ts₂ → ScopeApplied s n v ts ss ts₂
+pub scope-applied : {s n v : ℕ} {cs ts ts₁ ts₂ : List ℕ} → s < stationCount → Used tcb s ts cs ts₁ → WordsChanged n (scopedToken v) ts₁ ts₂ → ScopeApplied s n v ts cs ts₂
 unfolding has
 scope-applied {s = s} in8 m c = record {
   tokens = λ σ w i j.
@@ -60,30 +60,30 @@ scope-applied {s = s} in8 m c = record {
 abbrev go : ℕ → ℕ → State → rules.Handle → Rules.Token → Decision
 go s v σ h t = need held σ s tcb else privilegeNotHeld then success (changeToken (h .token) (scopedToken v) (used tcb s σ)) []
 
-module _ {s n : ℕ} (v : ℕ) {hs : List Handle} {ss ts ds : List ℕ} {h : Handle} {k : ℕ} (l : LookedUp s n adjustScope hs h k) where
+module _ {s n : ℕ} (v : ℕ) {hs : List Handle} {cs ts ds : List ℕ} {h : Handle} {k : ℕ} (l : LookedUp s n adjustScope hs h k) where
   pub scope-handle-refused : {r : Outcome} → (k ≡ 0 → ⊥) → Ends (answers.Refused k) r
-      → Carried (λ σ. scope σ s n v) hs ss ts ds ss ts ds r
+      → Carried (λ σ. scope σ s n v) ts ds hs cs ts ds cs r
   unfolding scope
   scope-handle-refused {r} f e = handle-refuses l (go s v) r e f
 
-  module _ (found : k ≡ 0) {b : Bool} (is : Held tcb s ts ss b) where
-    decided : (σ : State) → valid σ ≡ true → PartsIn σ hs ss ts ds
+  module _ (found : k ≡ 0) {b : Bool} (is : Held tcb s ts cs b) where
+    decided : (σ : State) → valid σ ≡ true → PartsIn σ ts ds hs cs
         → carriedOut σ (scope σ s n v) ≡ carriedOut σ (need b else privilegeNotHeld then success (changeToken (h .token) (scopedToken v) (used tcb s σ)) [])
     unfolding scope
     decided σ w p =
-        looked-up l σ w (p .handles) (go s v σ) found ∙ rw (sym (is .held σ w (p .tokens) (p .stations)))
+        looked-up l σ w (p .handles) (go s v σ) found ∙ rw (sym (is .held σ w (p .tokens) (p .control)))
 
-    pub scope-not-held : {r : Outcome} → not b ≡ true → Ends (answers.Refused 4) r → Carried (λ σ. scope σ s n v) hs ss ts ds ss ts ds r
+    pub scope-not-held : {r : Outcome} → not b ≡ true → Ends (answers.Refused 4) r → Carried (λ σ. scope σ s n v) ts ds hs cs ts ds cs r
     unfolding carriedOut refusal
     scope-not-held {r} f e = refuses 4 r e (omega arith) (λ σ w p. decided σ w p ∙ rw (not-true b f))
 
-    pub scope-changes : {r : Outcome} {ts′ : List ℕ} → not b ≡ false → ScopeApplied s (h .token) v ts ss ts′ → Ends answers.Done r
-        → Carried (λ σ. scope σ s n v) hs ss ts ds ss ts′ ds r
+    pub scope-changes : {r : Outcome} {ts′ : List ℕ} → not b ≡ false → ScopeApplied s (h .token) v ts cs ts′ → Ends answers.Done r
+        → Carried (λ σ. scope σ s n v) ts ds hs cs ts′ ds cs r
     unfolding carriedOut changeToken putToken
     scope-changes {r} f c e = ends-with answers.Done r e (λ σ w p. tt)
         (λ σ w p. rw (decided σ w p, not-false b f) (record {
           handles = with-tokens (used-handles (p .handles) tcb s) _;
-          stations = with-slots (used-stations (p .stations) tcb s) _;
-          tokens = c .tokens σ w (p .tokens) (p .stations);
+          control = with-slots (used-control (p .control) tcb s) _;
+          tokens = c .tokens σ w (p .tokens) (p .control);
         }))
         (λ σ w p. rw (decided σ w p, not-false b f))

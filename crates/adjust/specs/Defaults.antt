@@ -37,5 +37,5 @@ pub record DefaultsSet (owner group flag : ℕ) (bytes ws bs ws′ bs′ : List 
 abbrev pub defaultsEnding : ℕ → ℕ → ℕ → List ℕ → Token → Ending
 defaultsEnding owner group flag bytes t = if validDefaults t owner group flag bytes then becomes (adjustedToken owner group flag bytes t) [] else refused 5
 
-pub record DefaultsCarried (station number owner group flag : ℕ) (bytes : List ℕ) (hs : List Handle) (ss ts ds ss′ ts′ ds′ : List ℕ) (r : Outcome) : Type 0 where
-  pub carried : Carried (λ σ. adjust σ station number owner group flag bytes) hs ss ts ds ss′ ts′ ds′ r
+pub record DefaultsCarried (station number owner group flag : ℕ) (bytes ts ds : List ℕ) (hs : List Handle) (cs ts′ ds′ cs′ : List ℕ) (r : Outcome) : Type 0 where
+  pub carried : Carried (λ σ. adjust σ station number owner group flag bytes) ts ds hs cs ts′ ds′ cs′ r

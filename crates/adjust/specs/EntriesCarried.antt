@@ -13,7 +13,7 @@ use Rattle.decide.specs.Carried.{Carried}
 use Rattle.decide.specs.declared.outcome.Outcome.{Outcome}
 
 -- the layout was read before: the entries are there
-pub record EntriesCarried (rule : State → ℕ → ℕ → List Entry → Decision) (station number : ℕ) (s : List ℕ) (at count : ℕ)
-    (hs : List Handle) (ss ts ds ss′ ts′ ds′ : List ℕ) (r : Outcome) : Type 0 where
+pub record EntriesCarried (rule : State → ℕ → ℕ → List Entry → Decision) (station number : ℕ) (s : List ℕ) (at count : ℕ) (ts ds : List ℕ) (hs : List Handle)
+    (cs ts′ ds′ cs′ : List ℕ) (r : Outcome) : Type 0 where
   pub carried : (es : List Entry) (later : List ℕ) → times count entry (drop at s) ≡ got es later
-      → Carried (λ σ. rule σ station number es) hs ss ts ds ss′ ts′ ds′ r
+      → Carried (λ σ. rule σ station number es) ts ds hs cs ts′ ds′ cs′ r

@@ -1,7 +1,7 @@
 -- What request 6's entries do to the words of a token's groups. Assumes nothing.
 use Prim.Native.Nat.{ℕ}
 use mathlib.Core.Path.{_≡_}
-use mathlib.Core.Bool.{Bool, _&&_, _||_}
+use mathlib.Core.Bool.{Bool, not, _&&_, _||_}
 use mathlib.Core.List.{List, map}
 use lib.ListN.{getD}
 use Rattle.rules.specs.Basic.{if_then_else_, all}
@@ -11,7 +11,7 @@ use Rattle.rules.specs.Request.{times, entry}
 use Rattle.rules.specs.Group.{Group, noGroup}
 use Rattle.rules.specs.Token.{Token}
 use Rattle.rules.specs.Memory.{pack, unpack}
-use Rattle.rules.specs.AdjustGroups.{isReset, validEntry, maySwitch, applied, adjusted, enabledBits, enabledWords, reportWords, adjustedToken}
+use Rattle.rules.specs.AdjustGroups.{isReset, validEntry, isProtected, applied, adjusted, enabledBits, enabledWords, reportWords, adjustedToken}
 use Rattle.answer.specs.declared.Answer.{Answer}
 use Rattle.body.specs.Entries as entries
 use Rattle.decide.specs.Ending.{Ending, refused, becomes, RowEnds}
@@ -27,7 +27,7 @@ groupsIn gw = map unpack gw
 
 -- an entry asks for nothing that is protected
 unfoldable pub mayEntry : ℕ → List Group → Entry → Bool
-mayEntry user gs e = maySwitch user e.value (getD gs e.key noGroup)
+mayEntry user gs e = not (isProtected user e.value (getD gs e.key noGroup))
 
 abbrev pub judging : ℕ → List Group → Entry → Bool → Bool
 judging user gs e free = free && mayEntry user gs e

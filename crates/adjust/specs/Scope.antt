@@ -7,7 +7,8 @@ use Rattle.rules.specs.Privileges.{tcb}
 use Rattle.rules.specs.Valid.{valid}
 use Rattle.rules.specs.State.{State, used, changeToken}
 use Rattle.rules.specs.AdjustScope.{scopedToken}
-use Rattle.state.specs.Parts.{TokensIn, StationsIn}
+use Rattle.control.specs.Control.{ControlIn}
+use Rattle.state.specs.Parts.{TokensIn}
 
-pub record ScopeApplied (s n v : ℕ) (ts ss ts′ : List ℕ) : Type 0 where
-  pub tokens : (σ : State) → valid σ ≡ true → {ds : List ℕ} → TokensIn σ ts ds → StationsIn σ ss → TokensIn (changeToken n (scopedToken v) (used tcb s σ)) ts′ ds
+pub record ScopeApplied (s n v : ℕ) (ts cs ts′ : List ℕ) : Type 0 where
+  pub tokens : (σ : State) → valid σ ≡ true → {ds : List ℕ} → TokensIn σ ts ds → ControlIn σ cs → TokensIn (changeToken n (scopedToken v) (used tcb s σ)) ts′ ds

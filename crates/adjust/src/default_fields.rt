@@ -15,7 +15,6 @@ use crate::default_dacl;
 use answer::Answer;
 use answer::refusal;
 use body::fields::DefaultsFields;
-use privilege::words::has;
 use token::layout::GROUP_COUNT;
 use token::layout::HEAD_WORDS;
 use token::layout::MAX_DACL;
@@ -25,9 +24,6 @@ use token::layout::PRIMARY_GROUP;
 use token::row;
 
 const NO_CHANGE: u32 = 0xFFFF;
-
-// OWNER, bit 3 of the attributes, in a group's word.
-const OWNER_BIT: u64 = 35;
 
 // An owner index names the user or an OWNER group.
 fn is_owner(words: &[u64], i: u32) -> bool
@@ -44,7 +40,7 @@ fn is_owner(words: &[u64], i: u32) -> bool
     if words[GROUP_COUNT] <= k as u64 {
         return false;
     }
-    has(words[HEAD_WORDS + k], OWNER_BIT)
+    token::words::is_owner(words[HEAD_WORDS + k])
 }
 
 // A primary-group index names the user or any group. Flag 0 goes with no bytes, flag 1 with at most 256.

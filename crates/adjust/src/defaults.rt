@@ -26,10 +26,10 @@ pub fn adjust_defaults(
     handles: &[u64; HANDLE_WORDS],
     tokens: &mut [u64],
     dacls: &mut [u8],
-    stations: &[u64],
+    control: &[u64],
 ) -> Outcome
-    requires { ⌜ Lent (now tokens) (now dacls) (now stations) × (f .at ≤ length (now s)) × There byte (now s) (f .at) (f .size) [] ⌝ }
-    ensures { λ r. ⌜ DefaultsCarried station (f .handle) (f .owner) (f .group) (f .flag) (valuesAt byte (now (s .entry)) (f .at) (f .size)) (recordsIn (now (handles .entry))) (now (stations .entry)) (now (tokens .entry)) (now (dacls .entry)) (now (stations .entry)) (now (tokens .exit)) (now (dacls .exit)) r ⌝ }
+    requires { ⌜ Lent (now tokens) (now dacls) (now control) × (f .at ≤ length (now s)) × There byte (now s) (f .at) (f .size) [] ⌝ }
+    ensures { λ r. ⌜ DefaultsCarried station (f .handle) (f .owner) (f .group) (f .flag) (valuesAt byte (now (s .entry)) (f .at) (f .size)) (now (tokens .entry)) (now (dacls .entry)) (recordsIn (now (handles .entry))) (now (control .entry)) (now (tokens .exit)) (now (dacls .exit)) (now (control .entry)) r ⌝ }
 {
     let found = find_handle(station, f.handle, handles);
     let x = locate(found, mask_of(found).may_adjust_default(), tokens);

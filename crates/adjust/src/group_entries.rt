@@ -9,9 +9,9 @@ ghost use Rattle.rules.specs.AdjustGroups.{validEntry};
 ghost use Rattle.body.specs.Entries.{entryOf, turned, passed};
 ghost use Rattle.adjust.specs.GroupEntries.{groupsIn, mayEntry, judging, progressOf, EntriesMade, GroupsSwitched};
 use crate::group_words::enabled_word;
-use crate::group_words::may_switch;
+use crate::group_words::is_protected;
 use crate::group_words::reset_all;
-use crate::group_words::switch_at;
+use crate::group_words::set_enabled_at;
 use answer::refusal;
 use body::entry;
 use body::entry::Pair;
@@ -36,7 +36,7 @@ fn is_unprotected(user: u32, key: u64, value: u64, groups: &[u64]) -> bool
     ensures { λ r. ⌜ r ≡ mayEntry user (groupsIn (now (groups .entry))) (entryOf key value) ⌝ }
 {
     let i = key as usize;
-    may_switch(user, value, unpack(groups[i]))
+    !is_protected(user, value, unpack(groups[i]))
 }
 
 fn turn(user: u32, g: Progress, key: u64, value: u64, groups: &[u64]) -> Progress
@@ -92,7 +92,7 @@ fn make(s: &[u8], start: usize, count: u64, groups: &mut [u64])
         let Pair::Got { key, value, next } = entry::read(s, at) else {
             return;
         };
-        switch_at(key, value == 1, groups);
+        set_enabled_at(key, value == 1, groups);
         at = next;
         left -= 1;
     }

@@ -1,5 +1,5 @@
-// A token's groups: what of them may be switched, and, in the words of the token's row, switching one, resetting all, and the report of the
-// enabled ones.
+// A token's groups: which of them are protected, and, in the words of the token's row, ENABLED of one set, all reset, and the report of
+// the enabled ones.
 ghost use mathlib.Core.Path.{_≡_};
 ghost use mathlib.Core.List.{map};
 ghost use Prim.Native.Nat.{_≤_};
@@ -8,7 +8,7 @@ ghost use Rattle.rules.specs.Basic.{if_then_else_, changeAt};
 ghost use Rattle.rules.specs.Group.{isEnabled, withEnabled};
 ghost use Rattle.rules.specs.Token.{maxGroups};
 ghost use Rattle.rules.specs.Memory.{unpack};
-ghost use Rattle.rules.specs.AdjustGroups.{maySwitch, resetGroup, enabledBits};
+ghost use Rattle.rules.specs.AdjustGroups.{isProtected, resetGroup, enabledBits};
 ghost use Rattle.token.specs.Meaning.{groupOf};
 ghost use Rattle.token.specs.Row.{onWord};
 ghost use Rattle.adjust.specs.GroupEntries.{groupsIn};
@@ -18,15 +18,14 @@ use token::words;
 
 // ---- one group
 
-// Protected: disabling a mandatory, logon or user-SID group that is not deny-only, and enabling a deny-only one.
-pub fn may_switch(user: u32, value: u64, g: Group) -> bool
-    ensures { λ r. ⌜ r ≡ maySwitch user value (groupOf g) ⌝ }
+// Protected: a mandatory, deny-only or logon group, whichever way an entry points, and a group with the user's SID on disabling.
+pub fn is_protected(user: u32, value: u64, g: Group) -> bool
+    ensures { λ r. ⌜ r ≡ isProtected user value (groupOf g) ⌝ }
 {
-    if value == 0 {
-        attributes::is_deny_only(g) | !attributes::is_fixed(user, g)
-    } else {
-        !attributes::is_deny_only(g)
-    }
+    attributes::is_mandatory(g)
+        | attributes::is_deny_only(g)
+        | attributes::is_logon(g)
+        | ((g.sid == user) & (value == 0))
 }
 
 // ENABLED from value 2, but in deny-only groups.
@@ -36,7 +35,7 @@ fn reset_group(g: Group) -> Group
     if attributes::is_deny_only(g) {
         return g;
     }
-    attributes::switched(g, attributes::is_on_by_default(g))
+    attributes::with_enabled(g, attributes::is_enabled_by_default(g))
 }
 
 // ---- one word
@@ -47,16 +46,16 @@ fn reset_word(w: u64) -> u64
     words::pack(reset_group(words::unpack(w)))
 }
 
-fn switched_word(w: u64, on: bool) -> u64
+fn with_enabled_word(w: u64, on: bool) -> u64
     ensures { λ r. ⌜ r ≡ onWord (withEnabled on) w ⌝ }
 {
-    words::pack(attributes::switched(words::unpack(w), on))
+    words::pack(attributes::with_enabled(words::unpack(w), on))
 }
 
-fn on_bit(w: u64) -> u64
+fn enabled_bit(w: u64) -> u64
     ensures { λ r. ⌜ r ≡ (if isEnabled (unpack w) then 1 else 0) ⌝ }
 {
-    if attributes::is_on(words::unpack(w)) {
+    if attributes::is_enabled(words::unpack(w)) {
         1
     } else {
         0
@@ -75,13 +74,13 @@ pub fn reset_all(groups: &mut [u64])
     }
 }
 
-// Past the last group there is nothing to switch.
-pub fn switch_at(key: u64, on: bool, groups: &mut [u64])
+// Past the last group there is nothing to set.
+pub fn set_enabled_at(key: u64, on: bool, groups: &mut [u64])
     ensures { λ _. ⌜ now (groups .exit) ≡ changeAt key (onWord (withEnabled on)) (now (groups .entry)) ⌝ }
 {
     let i = key as usize;
     if i < groups.len() {
-        groups[i] = switched_word(groups[i], on);
+        groups[i] = with_enabled_word(groups[i], on);
     }
 }
 
@@ -94,7 +93,7 @@ pub fn enabled_word(groups: &[u64]) -> u64
     let mut w: u64 = 0;
     while 0 < i {
         i -= 1;
-        w = on_bit(groups[i]) + 2 * w;
+        w = enabled_bit(groups[i]) + 2 * w;
     }
     w
 }

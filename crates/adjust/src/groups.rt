@@ -44,10 +44,10 @@ pub fn adjust_groups(
     handles: &[u64; HANDLE_WORDS],
     tokens: &mut [u64],
     dacls: &[u8],
-    stations: &[u64],
+    control: &[u64],
 ) -> Outcome
-    requires { ⌜ Lent (now tokens) (now dacls) (now stations) ⌝ }
-    ensures { λ r. ⌜ EntriesCarried adjust station (f .handle) (now (s .entry)) (f .at) (f .count) (recordsIn (now (handles .entry))) (now (stations .entry)) (now (tokens .entry)) (now (dacls .entry)) (now (stations .entry)) (now (tokens .exit)) (now (dacls .entry)) r ⌝ }
+    requires { ⌜ Lent (now tokens) (now dacls) (now control) ⌝ }
+    ensures { λ r. ⌜ EntriesCarried adjust station (f .handle) (now (s .entry)) (f .at) (f .count) (now (tokens .entry)) (now (dacls .entry)) (recordsIn (now (handles .entry))) (now (control .entry)) (now (tokens .exit)) (now (dacls .entry)) (now (control .entry)) r ⌝ }
 {
     let found = find_handle(station, f.handle, handles);
     let x = locate(found, mask_of(found).may_adjust_groups(), tokens);

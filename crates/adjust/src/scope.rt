@@ -3,10 +3,9 @@ ghost use mathlib.Core.Path.{_≡_};
 ghost use Prim.Native.Nat.{_*_, _<_};
 ghost use lib.ListN.{length};
 ghost use Rattle.rules.specs.State.{tokenSlots, stationCount};
-ghost use Rattle.rules.specs.Memory.{tokenWords};
+ghost use Rattle.rules.specs.Memory.{tokenWords, controlWords};
 ghost use Rattle.rules.specs.AdjustScope as rules;
 ghost use Rattle.state.specs.Parts.{Lent};
-ghost use Rattle.state.specs.StationFacts.{stationsSize};
 ghost use Rattle.state.specs.TokenCalls.{WordsChanged};
 ghost use Rattle.token.specs.Row.{Becomes};
 ghost use Rattle.handle.specs.Words.{recordsIn};
@@ -51,11 +50,11 @@ fn set_scope(token: u64, value: u32, tokens: &mut [u64])
 }
 
 // The effect: the caller's token used TCB, then the token of that number, which may be the same, gets the scope.
-fn apply(station: u32, token: u64, value: u32, tokens: &mut [u64], stations: &[u64])
-    requires { ⌜ (length (now tokens) ≡ tokenSlots * tokenWords) × (length (now stations) ≡ stationsSize) × (station < stationCount) ⌝ }
-    ensures { λ _. ⌜ ScopeApplied station token value (now (tokens .entry)) (now (stations .entry)) (now (tokens .exit)) ⌝ }
+fn apply(station: u32, token: u64, value: u32, tokens: &mut [u64], control: &[u64])
+    requires { ⌜ (length (now tokens) ≡ tokenSlots * tokenWords) × (length (now control) ≡ controlWords) × (station < stationCount) ⌝ }
+    ensures { λ _. ⌜ ScopeApplied station token value (now (tokens .entry)) (now (control .entry)) (now (tokens .exit)) ⌝ }
 {
-    used(Privileges::TCB, station, tokens, stations);
+    used(Privileges::TCB, station, tokens, control);
     set_scope(token, value, tokens);
 }
 
@@ -65,19 +64,19 @@ pub fn scope(
     handles: &[u64; HANDLE_WORDS],
     tokens: &mut [u64],
     dacls: &[u8],
-    stations: &[u64],
+    control: &[u64],
 ) -> Outcome
-    requires { ⌜ Lent (now tokens) (now dacls) (now stations) × (station < stationCount) ⌝ }
-    ensures { λ r. ⌜ Carried (λ σ. rules.scope σ station (f .handle) (f .value)) (recordsIn (now (handles .entry))) (now (stations .entry)) (now (tokens .entry)) (now (dacls .entry)) (now (stations .entry)) (now (tokens .exit)) (now (dacls .entry)) r ⌝ }
+    requires { ⌜ Lent (now tokens) (now dacls) (now control) × (station < stationCount) ⌝ }
+    ensures { λ r. ⌜ Carried (λ σ. rules.scope σ station (f .handle) (f .value)) (now (tokens .entry)) (now (dacls .entry)) (recordsIn (now (handles .entry))) (now (control .entry)) (now (tokens .exit)) (now (dacls .entry)) (now (control .entry)) r ⌝ }
 {
     let found = find_handle(station, f.handle, handles);
     let refused = handle_refusal(found, mask_of(found).may_adjust_scope());
     if refused != 0 {
         return outcome::refused(refused);
     }
-    if !held(Privileges::TCB, station, tokens, stations) {
+    if !held(Privileges::TCB, station, tokens, control) {
         return outcome::refused(refusal::PRIVILEGE_NOT_HELD);
     }
-    apply(station, found.token, f.value, tokens, stations);
+    apply(station, found.token, f.value, tokens, control);
     outcome::ends(Answer::Done)
 }

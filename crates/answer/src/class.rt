@@ -5,6 +5,7 @@ ghost use lib.ListN.{length};
 ghost use Rattle.rules.specs.Number.{encodeAll};
 ghost use Rattle.rules.specs.Memory.{tokenWords};
 ghost use Rattle.answer.specs.Classes.{groupNumbers, sidNumbers, statistics, IsOne, RowSid, RowOne, RowCounted};
+use table::WORD_32;
 use token::layout::*;
 use token::row;
 

@@ -15,6 +15,7 @@ ghost use Rattle.rules.specs.Query.{classBytes};
 ghost use Rattle.number.specs.Answer.{maxFields};
 ghost use Rattle.answer.specs.Classes.{groupNumbers, sidNumbers, privilegeWords, statistics};
 ghost use Rattle.answer.specs.Answer.{tokenIn, answerOf, Fit, Room, WroteFrame};
+use table::WORD_32;
 use token::layout::*;
 use token::row;
 

@@ -5,9 +5,9 @@ use mathlib.Core.Path.{_≡_, refl, sym, ap, ap₂, subst, _∙_}
 use mathlib.Core.Bool.{Bool, true, false}
 use mathlib.Core.List.{List, [], _∷_, _++_}
 use lib.ListN.{length, take, drop, getD, set, replicate, length-map}
-use lib.Seq.{set-out, set-getD, length-take-le}
+use lib.Seq.{set-out, length-take-le}
 use Rattle.table.specs.Lists.{pad, take-pad}
-use Rattle.table.specs.Table.{flat, record-at, put-record, record-flat, put-flat, part-at, put-lent}
+use Rattle.table.specs.Table.{flat, record-at, put-record, record-flat, put-back, part-at, put-lent}
 use Rattle.rules.specs.Basic.{all, implies, isEmpty}
 use Rattle.rules.specs.Number.{encode, encodeIn, lowFirst}
 use Rattle.rules.specs.Frame as Frame
@@ -17,7 +17,7 @@ use Rattle.rules.specs.Station.{Station, startStation, withPending, cleared, br
 use Rattle.rules.specs.State.{State, handleSlots, stationCount, withStations, stationAt, changeStation, stationToken}
 use Rattle.rules.specs.Valid.{isPart, streamValid, valid}
 use Rattle.rules.specs.Memory as Memory
-use Rattle.rules.specs.Memory.{pendingBytes, slotHandle, pendingRow, decode}
+use Rattle.rules.specs.Memory.{pendingBytes, slotHandle, stationRow, pendingRow, decode}
 use Rattle.rules.specs.Model.{fedFrom}
 use Rattle.rules.specs.Calls.{written, buffer}
 use Rattle.rules.proofs.Logic.{and-l, and-r, getD-mem}
@@ -25,8 +25,11 @@ use Rattle.rules.proofs.Facts.{valid-facts, facts-valid}
 use Rattle.rules.proofs.Changes.{stream-facts}
 use Rattle.rules.proofs.Memory.{valid-state}
 use Rattle.rules.proofs.Rows.{length-pendingRow, part-short}
+use Rattle.rules.proofs.Control.{row-put}
 use Rattle.handle.specs.Meaning.{none, handleOf}
 use Rattle.handle.specs.declared.Handle.{Handle}
+use Rattle.control.specs.Stations.{StreamGiven, streamRow, StreamSet}
+use Rattle.control.specs.declared.stations.Stream.{Stream}
 use Rattle.state.specs.Parts.{HandlesIn}
 use Rattle.state.specs.HandleFacts.{changed}
 use Rattle.state.specs.ReleaseFacts.{PartsIn}
@@ -39,11 +42,9 @@ use Rattle.valid.specs.Meaning.{memoryOf}
 use Rattle.serve.specs.Served.{Held, BodyServed}
 use Rattle.serve.specs.declared.Reply.{Reply}
 use Rattle.answer.specs.Answer.{WroteFrame}
-use Rattle.broker.specs.Streams.{withStream, StreamGiven, StreamSet}
 use Rattle.broker.specs.Accepted.{quiet, zeroed, body, PartKept, BrokenOff, FrameServed, RowHeld, RowFed, Accepted}
-use Rattle.broker.specs.declared.station.Stream.{Stream}
 use Rattle.broker.specs.declared.by_value.Turn.{Turn}
-use Rattle.broker.proofs.StreamWords.{row-put, no-pending}
+use Rattle.broker.proofs.Dropping.{no-pending}
 use Rattle.broker.proofs.Parts.{written-as, held-parts, held-pending}
 use Rattle.broker.proofs.StreamsKept.{served-rows}
 use Rattle.broker.proofs.PendingRows.{drop-take, joined-longer, row-joined, row-zeroed}
@@ -54,27 +55,27 @@ pub cleared-valid : (σ : State) (s : ℕ) → valid σ ≡ true → valid (chan
 unfolding stationToken cleared withPending streamValid all isPart framed framedBy lengthOf implies isEmpty
 cleared-valid σ s v = facts-valid (changeStation s cleared σ) (stream-facts σ s cleared (λ x. refl) (λ x m. refl) (valid-facts σ v))
 
-module _ {s n : ℕ} {b : Bool} {hs : List Handle} {ss ts ds ss′ : List ℕ} (w : StreamSet s n b ss ss′) (σ : State) (bytes : List ℕ) (e : length bytes ≡ n) where
-  parts-set : PartsIn σ hs ss ts ds → PartsIn (changeStation s (withStream bytes b) σ) hs ss′ ts ds
-  unfolding changeStation withStations
-  parts-set p = record {
-    handles = record { records = p .handles .records };
-    stations = w .stations σ bytes e (p .stations);
-    tokens = record { words = p .tokens .words; bytes = p .tokens .bytes };
-  }
+parts-set : {s n : ℕ} {b : Bool} {hs : List Handle} {cs ts ds cs′ : List ℕ} → StreamSet s n b cs cs′ → (σ : State) (f : Station → Station)
+    → ((x : Station) → stationRow (f x) ≡ streamRow n b (stationRow x)) → PartsIn σ ts ds hs cs → PartsIn (changeStation s f σ) ts ds hs cs′
+unfolding changeStation withStations
+parts-set w σ f q p = record {
+  handles = record { records = p .handles .records };
+  control = w .control σ f q (p .control);
+  tokens = record { words = p .tokens .words; bytes = p .tokens .bytes };
+}
 
-parts-cleared : {s : ℕ} {hs : List Handle} {ss ts ds ss′ : List ℕ} → StreamSet s 0 false ss ss′ → (σ : State) → PartsIn σ hs ss ts ds → PartsIn (changeStation s cleared σ) hs ss′ ts ds
-unfolding withStream cleared withPending
-parts-cleared w σ p = parts-set w σ [] refl p
+parts-cleared : {s : ℕ} {hs : List Handle} {cs ts ds cs′ : List ℕ} → StreamSet s 0 false cs cs′ → (σ : State) → PartsIn σ ts ds hs cs → PartsIn (changeStation s cleared σ) ts ds hs cs′
+unfolding stationRow cleared withPending
+parts-cleared w σ p = parts-set w σ cleared (λ x. refl) p
 
-pub held-cleared : {s : ℕ} {hs : List Handle} {ss ts ds ss′ : List ℕ} → StreamSet s 0 false ss ss′ → Held hs ss ts ds → Held hs ss′ ts ds
+pub held-cleared : {s : ℕ} {hs : List Handle} {cs ts ds cs′ : List ℕ} → StreamSet s 0 false cs cs′ → Held ts ds hs cs → Held ts ds hs cs′
 held-cleared {s} w k = record { state = changeStation s cleared (k .state); isValid = cleared-valid (k .state) s (k .isValid); parts = parts-cleared w (k .state) (k .parts) }
 
 -- ---- a frame's body is served
 
-pub frame-served : (s start count used : ℕ) (hs : List Handle) {ss ts ds row out ss₁ ss′ ts′ ds′ row′ out′ : List ℕ} (r : Reply) → StreamSet s 0 false ss ss₁
-    → BodyServed s (take (count - start) (drop start row)) hs ss₁ ts ds ss′ ts′ ds′ out out′ r → row′ ≡ zeroed count row
-    → FrameServed s start count used hs ss ts ds row out ss′ ts′ ds′ row′ out′ (record { fed = record { refusal = 0; used = used; answered = r .written }; change = r .change })
+pub frame-served : (s start count used : ℕ) (hs : List Handle) {cs ts ds row out cs₁ cs′ ts′ ds′ row′ out′ : List ℕ} (r : Reply) → StreamSet s 0 false cs cs₁
+    → BodyServed s (take (count - start) (drop start row)) ts ds hs cs₁ ts′ ds′ cs′ out out′ r → row′ ≡ zeroed count row
+    → FrameServed s start count used ts ds hs cs row out ts′ ds′ cs′ row′ out′ (record { fed = record { refusal = 0; used = used; answered = r .written }; change = r .change })
 frame-served s start count used hs r w b e = record {
   refusal = refl;
   used = refl;
@@ -85,12 +86,12 @@ frame-served s start count used hs r w b e = record {
 
 -- ---- the stream breaks
 
-pub broken-off : (s count used n : ℕ) {ss row out ss′ row′ out′ : List ℕ} → row′ ≡ zeroed count row → StreamSet s 0 true ss ss′ → WroteFrame (streamBroken ∷ []) out out′ n
-    → BrokenOff s count used ss row out ss′ row′ out′ (record { fed = record { refusal = 0; used = used; answered = n }; change = record { slot = handleSlots; handle = none } })
+pub broken-off : (s count used n : ℕ) {cs row out cs′ row′ out′ : List ℕ} → row′ ≡ zeroed count row → StreamSet s 0 true cs cs′ → WroteFrame (streamBroken ∷ []) out out′ n
+    → BrokenOff s count used cs row out cs′ row′ out′ (record { fed = record { refusal = 0; used = used; answered = n }; change = record { slot = handleSlots; handle = none } })
 unfolding frame encode encodeIn lowFirst
 broken-off s count used n e w a = record {
   turn = ap (λ (k : ℕ). record { fed = record { refusal = 0; used = used; answered = k }; change = record { slot = handleSlots; handle = none } }) (a .size);
-  stations = w;
+  control = w;
   emptied = e;
   answer = a .bytes;
 }
@@ -106,7 +107,7 @@ module _ (σ : State) (v : valid σ ≡ true) where
       set-out hs handleSlots none
       (omega (arith, length-map hs handleOf, ap length (i .records), length-map (σ .handles .slots) slotHandle, valid-facts σ v .loose .handles .sized))
 
-  parts-kept : {hs : List Handle} {ss ts ds : List ℕ} → PartsIn σ hs ss ts ds → PartsIn σ (set hs handleSlots none) ss ts ds
+  parts-kept : {hs : List Handle} {cs ts ds : List ℕ} → PartsIn σ ts ds hs cs → PartsIn σ ts ds (set hs handleSlots none) cs
   parts-kept p = rw (none-changed (p .handles)) p
 
   module _ (s : ℕ) (h : s < stationCount) where
@@ -124,21 +125,21 @@ module _ (σ : State) (v : valid σ ≡ true) where
     -- the station's own row is put back
     row-back : put-record pendingBytes s (pendingRow (stationAt σ s)) (flat pendingRow (σ .stations)) ≡ flat pendingRow (σ .stations)
     unfolding stationAt
-    row-back = put-flat pendingRow pendingBytes length-pendingRow s (getD (σ .stations) s startStation) (σ .stations) inside ∙ ap (flat pendingRow) (set-getD (σ .stations) s startStation)
+    row-back = put-back pendingRow pendingBytes length-pendingRow s (σ .stations) startStation inside
 
     -- a row of zeros is put
     row-emptied : (f : Station → Station) → ((x : Station) → f x .pending ≡ []) → put-record pendingBytes s (replicate pendingBytes 0) (flat pendingRow (σ .stations)) ≡ flat pendingRow (changeStation s f σ .stations)
     unfolding pendingRow cleared withPending
-    row-emptied f e = ap (λ (r : List ℕ). put-record pendingBytes s r (flat pendingRow (σ .stations))) (sym (no-pending (stationAt σ s)) ∙ ap (pad pendingBytes) (sym (e (stationAt σ s)))) ∙ row-put σ s f inside
+    row-emptied f e = ap (λ (r : List ℕ). put-record pendingBytes s r (flat pendingRow (σ .stations))) (sym (no-pending (stationAt σ s)) ∙ ap (pad pendingBytes) (sym (e (stationAt σ s)))) ∙ row-put pendingRow pendingBytes length-pendingRow σ s f inside
 
 -- ---- what join asks
 
-module _ {s : ℕ} {hs : List Handle} {ss ts ds row : List ℕ} (k : RowHeld s hs ss ts ds row) where
-  pub held-row : Held hs ss ts ds
+module _ {s : ℕ} {hs : List Handle} {cs ts ds row : List ℕ} (k : RowHeld s ts ds hs cs row) where
+  pub held-row : Held ts ds hs cs
   held-row = record { state = k .state; isValid = k .isValid; parts = k .parts }
 
-  pub count-short : (g : Stream) → s < stationCount → StreamGiven s ss g → g .count < pendingBytes
-  count-short g h i = rw (i .count (k .state) (k .parts .stations)) (short (k .state) (k .isValid) s h)
+  pub count-short : (g : Stream) → s < stationCount → StreamGiven s cs g → g .count < pendingBytes
+  count-short g h i = rw (i .count (k .state) (k .parts .control)) (short (k .state) (k .isValid) s h)
 
 -- what the joined bytes are asked for
 
@@ -151,12 +152,12 @@ module _ {chunk row row₁ : List ℕ} {n : ℕ} {r : Stopped} (j : Joined chunk
 
 -- ---- a chunk
 
-module _ (s : ℕ) (chunk : List ℕ) {hs : List Handle} {ss ts ds row : List ℕ} (g : Stream) (h : s < stationCount) (i : StreamGiven s ss g) where
+module _ (s : ℕ) (chunk : List ℕ) {hs : List Handle} {cs ts ds row : List ℕ} (g : Stream) (h : s < stationCount) (i : StreamGiven s cs g) where
   -- the stream is broken
-  pub chunk-eaten : {out : List ℕ} {u : Turn} → g .broken ≡ true → u ≡ quiet 0 (length chunk) handleSlots → RowFed s chunk hs ss ts ds row out ss ts ds row out u
+  pub chunk-eaten : {out : List ℕ} {u : Turn} → g .broken ≡ true → u ≡ quiet 0 (length chunk) handleSlots → RowFed s chunk ts ds hs cs row out ts ds cs row out u
   unfolding buffer
   chunk-eaten b q = record {
-    fed = λ σ v p e. rw (stream-eaten σ s chunk (sym (i .broken σ (p .stations)) ∙ b), q) (record {
+    fed = λ σ v p e. rw (stream-eaten σ s chunk (sym (i .broken σ (p .control)) ∙ b), q) (record {
       refusal = refl;
       used = refl;
       answered = refl;
@@ -167,13 +168,13 @@ module _ (s : ℕ) (chunk : List ℕ) {hs : List Handle} {ss ts ds row : List �
   }
 
   module _ (intact : g .broken ≡ false) {row₁ : List ℕ} (r : Stopped) (j : Joined chunk row (g .count) row₁ r) (l : length row₁ ≡ length row) where
-    module _ (σ : State) (v : valid σ ≡ true) (p : PartsIn σ hs ss ts ds) (e : row ≡ pendingRow (stationAt σ s)) where
+    module _ (σ : State) (v : valid σ ≡ true) (p : PartsIn σ ts ds hs cs) (e : row ≡ pendingRow (stationAt σ s)) where
       unbroken : stationAt σ s .isBroken ≡ false
-      unbroken = sym (i .broken σ (p .stations)) ∙ intact
+      unbroken = sym (i .broken σ (p .control)) ∙ intact
 
       before : take (g .count) row ≡ stationAt σ s .pending
       unfolding pendingRow
-      before = ap₂ (λ (n : ℕ) (x : List ℕ). take n x) (i .count σ (p .stations)) e ∙ take-pad pendingBytes (stationAt σ s .pending) (omega (arith, short σ v s h))
+      before = ap₂ (λ (n : ℕ) (x : List ℕ). take n x) (i .count σ (p .control)) e ∙ take-pad pendingBytes (stationAt σ s .pending) (omega (arith, short σ v s h))
 
       stop : stopOf row₁ r ≡ stopAt σ s chunk
       stop = j .means ∙ ap (λ (x : List ℕ). stopped x chunk) before
@@ -194,9 +195,9 @@ module _ (s : ℕ) (chunk : List ℕ) {hs : List Handle} {ss ts ds row : List �
       zeroed-row : zeroed (r .count) row₁ ≡ replicate pendingBytes 0
       zeroed-row = row-zeroed (stationAt σ s .pending) (stopAt σ s chunk .joined) row₁ (r .count) (joined-longer (stationAt σ s .pending) chunk) joined-count (j .fits) after
 
-    pub chunk-joins : r .what ≡ code.Part → {ss′ out : List ℕ} {u : Turn} → PartKept s (r .count) (r .used) ss ss′ u
-        → RowFed s chunk hs ss ts ds row out ss′ ts ds row₁ out u
-    unfolding buffer pendingRow withPending withStream
+    pub chunk-joins : r .what ≡ code.Part → {cs′ out : List ℕ} {u : Turn} → PartKept s (r .count) (r .used) cs cs′ u
+        → RowFed s chunk ts ds hs cs row out ts ds cs′ row₁ out u
+    unfolding buffer stationRow pendingRow withPending
     chunk-joins q w = record {
       fed = λ σ v p e.
           let t = stop σ v p e in
@@ -205,16 +206,16 @@ module _ (s : ℕ) (chunk : List ℕ) {hs : List Handle} {ss ts ds row : List �
             used = ap (λ x. x .used) t;
             answered = refl;
             answer = refl;
-            parts = parts-set (w .stations) σ (stopAt σ s chunk .joined) (joined-count σ v p e) (parts-kept σ v p);
+            parts = parts-set (w .control) σ (withPending (stopAt σ s chunk .joined)) (λ x. ap (λ (n : ℕ). streamRow n false (stationRow x)) (joined-count σ v p e)) (parts-kept σ v p);
             pending =
                 ap (λ (x : List ℕ). put-record pendingBytes s x (flat pendingRow (σ .stations))) (joined-row σ v p e)
-                ∙ row-put σ s (withPending (stopAt σ s chunk .joined)) (inside σ v s h);
+                ∙ row-put pendingRow pendingBytes length-pendingRow σ s (withPending (stopAt σ s chunk .joined)) (inside σ v s h);
           });
     }
 
-    pub chunk-breaks : r .what ≡ code.Broken → {out ss′ row′ out′ : List ℕ} {u : Turn} → BrokenOff s (r .count) (r .used) ss row₁ out ss′ row′ out′ u
-        → RowFed s chunk hs ss ts ds row out ss′ ts ds row′ out′ u
-    unfolding buffer frame encode encodeIn lowFirst brokenOff withStream
+    pub chunk-breaks : r .what ≡ code.Broken → {out cs′ row′ out′ : List ℕ} {u : Turn} → BrokenOff s (r .count) (r .used) cs row₁ out cs′ row′ out′ u
+        → RowFed s chunk ts ds hs cs row out ts ds cs′ row′ out′ u
+    unfolding buffer frame encode encodeIn lowFirst stationRow brokenOff
     chunk-breaks q w = record {
       fed = λ σ v p e.
           let t = stop σ v p e in
@@ -223,16 +224,16 @@ module _ (s : ℕ) (chunk : List ℕ) {hs : List Handle} {ss ts ds row : List �
             used = ap (λ x. x .used) t;
             answered = refl;
             answer = w .answer;
-            parts = parts-set (w .stations) σ [] refl (parts-kept σ v p);
+            parts = parts-set (w .control) σ brokenOff (λ x. refl) (parts-kept σ v p);
             pending =
                 ap (λ (x : List ℕ). put-record pendingBytes s x (flat pendingRow (σ .stations))) (w .emptied ∙ zeroed-row σ v p e)
                 ∙ row-emptied σ v s h brokenOff (λ x. refl);
           });
     }
 
-    pub chunk-serves : (start : ℕ) → r .what ≡ code.Whole start → {out ss′ ts′ ds′ row′ out′ : List ℕ} {u : Turn}
-        → FrameServed s start (r .count) (r .used) hs ss ts ds row₁ out ss′ ts′ ds′ row′ out′ u
-        → RowFed s chunk hs ss ts ds row out ss′ ts′ ds′ row′ out′ u
+    pub chunk-serves : (start : ℕ) → r .what ≡ code.Whole start → {out cs′ ts′ ds′ row′ out′ : List ℕ} {u : Turn}
+        → FrameServed s start (r .count) (r .used) ts ds hs cs row₁ out ts′ ds′ cs′ row′ out′ u
+        → RowFed s chunk ts ds hs cs row out ts′ ds′ cs′ row′ out′ u
     unfolding buffer cleared withPending
     chunk-serves start q w = record {
       fed = λ σ v p e.
@@ -253,34 +254,34 @@ module _ (s : ℕ) (chunk : List ℕ) {hs : List Handle} {ss ts ds row : List �
 
 -- ---- valid memory
 
-module _ (s : ℕ) (chunk : List ℕ) (hs : List Handle) (ts ds ss ps : List ℕ) (h : s < stationCount) (v : Memory.valid (memoryOf ts ds hs ss ps) ≡ true) where
+module _ (s : ℕ) (chunk : List ℕ) (hs : List Handle) (ts ds cs ps : List ℕ) (h : s < stationCount) (v : Memory.valid (memoryOf ts ds hs cs ps) ≡ true) where
   abbrev held : State
-  held = decode (memoryOf ts ds hs ss ps)
+  held = decode (memoryOf ts ds hs cs ps)
 
   abbrev lent : List ℕ
   lent = take (s * pendingBytes + pendingBytes - s * pendingBytes) (drop (s * pendingBytes) ps)
 
   state-valid : valid held ≡ true
-  state-valid = valid-state (memoryOf ts ds hs ss ps) v
+  state-valid = valid-state (memoryOf ts ds hs cs ps) v
 
   lent-row : lent ≡ pendingRow (stationAt held s)
   unfolding stationAt
   lent-row =
       part-at pendingBytes s ps
-      ∙ ap (record-at pendingBytes s) (held-pending ts ds hs ss ps v .rows)
+      ∙ ap (record-at pendingBytes s) (held-pending ts ds hs cs ps v .rows)
       ∙ record-flat pendingRow pendingBytes length-pendingRow s (held .stations) startStation (inside held state-valid s h)
 
   pub lent-long : length lent ≡ pendingBytes
   lent-long = ap length lent-row ∙ length-pendingRow (stationAt held s)
 
-  pub row-held : RowHeld s hs ss ts ds lent
-  row-held = record { state = held; isValid = state-valid; parts = held-parts ts ds hs ss ps v; pending = lent-row }
+  pub row-held : RowHeld s ts ds hs cs lent
+  row-held = record { state = held; isValid = state-valid; parts = held-parts ts ds hs cs ps v; pending = lent-row }
 
-  pub accepts : {out ss′ ts′ ds′ row′ out′ : List ℕ} {u : Turn} → RowFed s chunk hs ss ts ds lent out ss′ ts′ ds′ row′ out′ u
-      → Accepted s chunk hs ts ds ss ps out ts′ ds′ ss′ (take (s * pendingBytes) ps ++ (row′ ++ drop (s * pendingBytes + pendingBytes - s * pendingBytes) (drop (s * pendingBytes) ps))) out′ u
+  pub accepts : {out cs′ ts′ ds′ row′ out′ : List ℕ} {u : Turn} → RowFed s chunk ts ds hs cs lent out ts′ ds′ cs′ row′ out′ u
+      → Accepted s chunk ts ds hs cs ps out ts′ ds′ cs′ (take (s * pendingBytes) ps ++ (row′ ++ drop (s * pendingBytes + pendingBytes - s * pendingBytes) (drop (s * pendingBytes) ps))) out′ u
   unfolding written
-  accepts {out} {ss′} {ts′} {ds′} {row′} {out′} {u} r =
-      let f = r .fed held state-valid (held-parts ts ds hs ss ps v) lent-row in
+  accepts {out} {cs′} {ts′} {ds′} {row′} {out′} {u} r =
+      let f = r .fed held state-valid (held-parts ts ds hs cs ps v) lent-row in
       record {
         fed = record {
           refusal = f .refusal;
@@ -288,7 +289,7 @@ module _ (s : ℕ) (chunk : List ℕ) (hs : List Handle) (ts ds ss ps : List ℕ
           answered = f .answered;
           answer = f .answer;
           memory =
-              written-as ts′ ds′ (changed hs (u .change)) ss′ _ (fedFrom 0 s chunk held .after) (f .parts)
-              (record { rows = put-lent pendingBytes s ps refl ∙ ap (put-record pendingBytes s row′) (held-pending ts ds hs ss ps v .rows) ∙ f .pending });
+              written-as ts′ ds′ (changed hs (u .change)) cs′ _ (fedFrom 0 s chunk held .after) (f .parts)
+              (record { rows = put-lent pendingBytes s ps refl ∙ ap (put-record pendingBytes s row′) (held-pending ts ds hs cs ps v .rows) ∙ f .pending });
         };
       }

@@ -53,7 +53,7 @@ record-free m v i z =
     ∙ ap slotHandle (List·getD-map handleAt (m .handles) i rules.noHandle)
     ∙ rw z
 
-module _ (ts ds : List ℕ) (hs : List Handle) (ss ps : List ℕ) (c : Change) (v : valid (memoryOf ts ds (changed hs c) ss ps) ≡ true) (z : c .handle .number ≡ 0) where
+module _ (ts ds : List ℕ) (hs : List Handle) (cs ps : List ℕ) (c : Change) (v : valid (memoryOf ts ds (changed hs c) cs ps) ≡ true) (z : c .handle .number ≡ 0) where
   placed : c .slot < length hs → getD (map handleOf (changed hs c)) (c .slot) rules.noHandle ≡ handleOf (c .handle)
   unfolding rules.noHandle
   placed l = List·getD-map handleOf (changed hs c) (c .slot) none ∙ ap handleOf (getD-set-same hs (c .slot) (c .handle) none l)
@@ -61,7 +61,7 @@ module _ (ts ds : List ℕ) (hs : List Handle) (ss ps : List ℕ) (c : Change) (
   is-none : c .slot < length hs → c .handle ≡ none
   unfolding rules.noHandle
   is-none l =
-      let e : handleOf (c .handle) ≡ rules.noHandle = sym (placed l) ∙ record-free (memoryOf ts ds (changed hs c) ss ps) v (c .slot) (ap (λ (x : rules.Handle). x .number) (placed l) ∙ z) in
+      let e : handleOf (c .handle) ≡ rules.noHandle = sym (placed l) ∙ record-free (memoryOf ts ds (changed hs c) cs ps) v (c .slot) (ap (λ (x : rules.Handle). x .number) (placed l) ∙ z) in
       ap (λ (x : rules.Handle). record { station = x .station; number = x .number; token = x .token; mask = x .mask }) e
 
   pub slot-freed : changed hs c ≡ set hs (c .slot) none

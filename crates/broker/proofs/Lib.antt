@@ -1,5 +1,5 @@
-pub mod StreamWords
 pub mod Parts
+pub mod Dropping
 pub mod Reconnecting
 pub mod Starting
 pub mod StreamsKept

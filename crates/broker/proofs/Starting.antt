@@ -4,7 +4,7 @@ use native.Mathlib.Omega.{arith}
 use native.Mathlib.Nat.{suc-mul, add-comm}
 use mathlib.Core.Path.{_≡_, refl, sym, ap, ap₂, _∙_}
 use mathlib.Core.Bool.{Bool, true, false, not}
-use mathlib.Core.List.{List, [], _∷_, _++_, map, append-nil}
+use mathlib.Core.List.{List, [], _++_, map, append-nil}
 use lib.ListN.{length, take, drop, replicate, replicate-append-replicate, drop-of-length-le, length-replicate}
 use Rattle.table.specs.Lists.{pad}
 use Rattle.table.specs.Table.{flat, record-at, put-record, record-flat, put-flat}
@@ -15,7 +15,7 @@ use Rattle.rules.specs.Table.{Slot, free, live, placed}
 use Rattle.rules.specs.Handle.{noHandle}
 use Rattle.rules.specs.Station.{startStation}
 use Rattle.rules.specs.State.{start, tokenSlots, handleSlots, stationCount}
-use Rattle.rules.specs.Memory.{tokenWords, pendingBytes, mark, tokenRow, daclRow, slotRow, slotDacl, slotHandle, stationRow, pendingRow, sized}
+use Rattle.rules.specs.Memory.{tokenWords, pendingBytes, tokenRow, daclRow, slotRow, slotDacl, slotHandle, pendingRow}
 use Rattle.rules.specs.Calls.{refusedOn, startOn}
 use Rattle.rules.specs.Refusal.{invalidMemory}
 use Rattle.rules.proofs.Rows.{length-slotRow}
@@ -24,12 +24,13 @@ use Rattle.privilege.specs.declared.privileges.Privileges.{Privileges}
 use Rattle.token.specs.NewRow.{Headed}
 use Rattle.token.proofs.NewRow.{no-groups}
 use Rattle.handle.specs.Meaning.{none, handleOf}
-use Rattle.handle.specs.declared.Handle.{Handle}
-use Rattle.valid.specs.Meaning.{memoryOf, Lent}
+use Rattle.control.specs.Control.{ControlIn}
+use Rattle.valid.specs.Meaning.{memoryOf}
+use Rattle.valid.specs.Tested.{SizesTested}
+use Rattle.valid.proofs.Sizes.{sizes-wrong, sizes-right, right-count}
 use Rattle.broker.specs.Promise.{StartsWith}
-use Rattle.broker.specs.Initial.{FirstTokens, FirstStations, Begun}
-use Rattle.broker.specs.Tested.{SizesTested}
-use Rattle.broker.proofs.Parts.{written-as, sizes-of, count-of, passed, failed}
+use Rattle.broker.specs.Initial.{FirstTokens, Begun}
+use Rattle.broker.proofs.Parts.{written-as}
 
 -- ---- rows of zeros are zeros
 
@@ -64,13 +65,6 @@ module _ {zs : List ℕ} (h : zs ≡ replicate (tokenSlots * tokenWords) 0) wher
 
 -- ---- the memory
 
-abbrev firstWords : List ℕ
-firstWords = 2 ∷ 1 ∷ 1 ∷ 0 ∷ 0 ∷ 1 ∷ 0 ∷ 0 ∷ 1 ∷ 0 ∷ 0 ∷ 1 ∷ 0 ∷ 0 ∷ 1 ∷ 0 ∷ 0 ∷ 1 ∷ 0 ∷ 0 ∷ 1 ∷ 0 ∷ 0 ∷ 1 ∷ 0 ∷ 0 ∷ []
-
-first-words : firstWords ≡ start .tokens .next ∷ start .handles .next ∷ flat stationRow (start .stations)
-unfolding start flat stationRow startStation mark
-first-words = refl
-
 none-pending : pendingRow startStation ≡ replicate pendingBytes 0
 unfolding pendingRow startStation pad
 none-pending = refl
@@ -103,56 +97,37 @@ tokens-begun p {zs} {bs} {ws} hz hb e h = record {
   };
 }
 
-pub stations-begun : (ss : List ℕ) → ss ≡ firstWords → FirstStations ss
-stations-begun ss e = record { stations = record { words = e ∙ first-words } }
-
-pub begun : {ts ds ss ps : List ℕ} → FirstTokens ts ds → FirstStations ss → ps ≡ replicate (stationCount * pendingBytes) 0 → Begun ts ds ss ps
-begun {ts} {ds} {ss} {ps} t s e = record {
+pub begun : {ts ds cs ps : List ℕ} → FirstTokens ts ds → ControlIn start cs → ps ≡ replicate (stationCount * pendingBytes) 0 → Begun ts ds cs ps
+begun {ts} {ds} {cs} {ps} t s e = record {
   memory =
-      written-as ts ds (replicate handleSlots none) ss ps start
-      (record { handles = record { records = first-handles }; stations = s .stations; tokens = t .tokens })
+      written-as ts ds (replicate handleSlots none) cs ps start
+      (record { handles = record { records = first-handles }; control = s; tokens = t .tokens })
       (record { rows = e ∙ first-pending });
 }
 
 -- ---- what start returns
 
-module _ (count : ℕ) (ts ds ss ps : List ℕ) (b : Bool) (t : SizesTested (length ts) (length ds) count (length ss) (length ps) b) where
-  pub start-refused : not b ≡ true → StartsWith count ts ds ss ps ts ds ss ps (record { refusal = invalidMemory; freed = 0 })
+module _ (count : ℕ) (ts ds cs ps : List ℕ) (b : Bool) (t : SizesTested (length ts) (length ds) count (length cs) (length ps) b) where
+  pub start-refused : not b ≡ true → StartsWith count ts ds cs ps ts ds cs ps (record { refusal = invalidMemory; freed = 0 })
   unfolding startOn refusedOn
   start-refused f = record {
-    started = λ hs l.
-        let e : sized (memoryOf ts ds hs ss ps) ≡ false = sym (t .sizes ts ds ss ps hs refl refl l refl refl) ∙ failed b f in
-        record { refusal = rw e; memory = rw e };
+    started = λ hs l. let e = sizes-wrong count ts ds cs ps b t f hs l in record { refusal = rw e; memory = rw e };
     inside = omega arith;
   }
 
-  module _ (f : not b ≡ false) where
-    right : (hs : List Handle) → length hs ≡ count → sized (memoryOf ts ds hs ss ps) ≡ true
-    right hs l = sym (t .sizes ts ds ss ps hs refl refl l refl refl) ∙ passed b f
-
-    -- of some list, as of any
-    some : List Handle
-    some = replicate count none
-
-    some-long : length some ≡ count
-    unfolding some
-    some-long = length-replicate count none
-
-    pub start-lent : Lent ts ds ss ps
-    start-lent = sizes-of ts ds some ss ps (right some some-long)
-
-    pub starts : {ts′ ds′ ss′ ps′ : List ℕ} → Begun ts′ ds′ ss′ ps′ → StartsWith count ts ds ss ps ts′ ds′ ss′ ps′ (record { refusal = 0; freed = handleSlots })
-    unfolding startOn
-    starts {ts′} {ds′} {ss′} {ps′} w = record {
-      started = λ hs l.
-          let e = right hs l in
-          let n = count-of ts ds hs ss ps e in
-          record {
-            refusal = rw e;
-            memory =
-                ap (λ is. memoryOf ts′ ds′ is ss′ ps′)
-                (ap (λ is. replicate handleSlots none ++ is) (drop-of-length-le hs {i = handleSlots} (omega arith)) ∙ append-nil (replicate handleSlots none))
-                ∙ w .memory ∙ sym (rw e);
-          };
-      inside = omega (arith, some-long, count-of ts ds some ss ps (right some some-long));
-    }
+  pub starts : (f : not b ≡ false) → {ts′ ds′ cs′ ps′ : List ℕ} → Begun ts′ ds′ cs′ ps′ → StartsWith count ts ds cs ps ts′ ds′ cs′ ps′ (record { refusal = 0; freed = handleSlots })
+  unfolding startOn
+  starts f {ts′} {ds′} {cs′} {ps′} w =
+      let n : count ≡ handleSlots = right-count count ts ds cs ps b t f in
+      record {
+        started = λ hs l.
+            let e = sizes-right count ts ds cs ps b t f hs l in
+            record {
+              refusal = rw e;
+              memory =
+                  ap (λ is. memoryOf ts′ ds′ is cs′ ps′)
+                  (ap (λ is. replicate handleSlots none ++ is) (drop-of-length-le hs {i = handleSlots} (omega arith)) ∙ append-nil (replicate handleSlots none))
+                  ∙ w .memory ∙ sym (rw e);
+            };
+        inside = omega arith;
+      }

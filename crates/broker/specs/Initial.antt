@@ -6,15 +6,12 @@ use lib.ListN.{replicate}
 use Rattle.rules.specs.State.{start, handleSlots}
 use Rattle.rules.specs.Memory.{encode}
 use Rattle.handle.specs.Meaning.{none}
-use Rattle.state.specs.Parts.{TokensIn, StationsIn}
+use Rattle.state.specs.Parts.{TokensIn}
 use Rattle.valid.specs.Meaning.{memoryOf}
 
 pub record FirstTokens (ts ds : List ℕ) : Type 0 where
   pub tokens : TokensIn start ts ds
 
-pub record FirstStations (ss : List ℕ) : Type 0 where
-  pub stations : StationsIn start ss
-
 -- with 32 free handles beside it
-pub record Begun (ts ds ss ps : List ℕ) : Type 0 where
-  pub memory : memoryOf ts ds (replicate handleSlots none) ss ps ≡ encode start
+pub record Begun (ts ds cs ps : List ℕ) : Type 0 where
+  pub memory : memoryOf ts ds (replicate handleSlots none) cs ps ≡ encode start

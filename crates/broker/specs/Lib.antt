@@ -2,5 +2,4 @@ pub mod Promise
 pub mod Accepted
 pub mod Initial
 pub mod Streams
-pub mod Tested
 pub mod WholeRun

@@ -47,17 +47,17 @@ ReconnectPromise m s m′ r = Does (reconnectOn m s) m′ r
 abbrev pub freed : ℕ → List Handle → List Handle
 freed n hs = replicate n none ++ drop n hs
 
-pub record StartsWith (count : ℕ) (ts ds ss ps ts′ ds′ ss′ ps′ : List ℕ) (r : Started) : Type 0 where
+pub record StartsWith (count : ℕ) (ts ds cs ps ts′ ds′ cs′ ps′ : List ℕ) (r : Started) : Type 0 where
   pub started : (hs : List Handle) → length hs ≡ count
-      → StartPromise (memoryOf ts ds hs ss ps) (memoryOf ts′ ds′ (freed (r .freed) hs) ss′ ps′) (r .refusal)
+      → StartPromise (memoryOf ts ds hs cs ps) (memoryOf ts′ ds′ (freed (r .freed) hs) cs′ ps′) (r .refusal)
   pub inside : r .freed ≤ count
 
-pub record FeedsWith (station : ℕ) (chunk : List ℕ) (count : ℕ) (items : List Handle) (ts ds ss ps out ts′ ds′ ss′ ps′ out′ : List ℕ) (r : Turn) : Type 0 where
+pub record FeedsWith (station : ℕ) (chunk : List ℕ) (count : ℕ) (items : List Handle) (ts ds cs ps out ts′ ds′ cs′ ps′ out′ : List ℕ) (r : Turn) : Type 0 where
   pub fed : (hs : List Handle) → length hs ≡ count → loaded hs ≡ items
-      → FeedPromise (memoryOf ts ds hs ss ps) station chunk out (memoryOf ts′ ds′ (changed hs (r .change)) ss′ ps′) out′ (r .fed)
+      → FeedPromise (memoryOf ts ds hs cs ps) station chunk out (memoryOf ts′ ds′ (changed hs (r .change)) cs′ ps′) out′ (r .fed)
   -- a handle of number 0 frees its slot
   pub clears : (hs : List Handle) → length hs ≡ count → loaded hs ≡ items → r .change .handle .number ≡ 0 → changed hs (r .change) ≡ set hs (r .change .slot) none
 
-pub record ReconnectsWith (station count : ℕ) (items : List Handle) (ts ds ss ps ss′ ps′ : List ℕ) (r : ℕ) : Type 0 where
+pub record ReconnectsWith (station count : ℕ) (items : List Handle) (ts ds cs ps cs′ ps′ : List ℕ) (r : ℕ) : Type 0 where
   pub reconnected : (hs : List Handle) → length hs ≡ count → loaded hs ≡ items
-      → ReconnectPromise (memoryOf ts ds hs ss ps) station (memoryOf ts ds hs ss′ ps′) r
+      → ReconnectPromise (memoryOf ts ds hs cs ps) station (memoryOf ts ds hs cs′ ps′) r

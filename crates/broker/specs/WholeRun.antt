@@ -83,7 +83,7 @@ pub record WholeRun (σ : State) {m m′ : Memory} {cs : List Call} {rs : List D
   pub begins : m ≡ encode σ
   -- 'after the list the memory holds what the plain desk holds'
   pub memory : m′ ≡ encode (Run.after cs σ)
-  -- 'each call has returned and answered what the plain desk does', and so is the memory after each
+  -- 'each call has returned and answered what the plain desk does', and the memory after it holds what the plain desk then holds
   pub returns : rs ≡ map written (returnsOf cs σ)
   -- 'bytes after the answer stay'
   pub rest : AllStay x

@@ -6,24 +6,23 @@ ghost use lib.ListN.{length};
 ghost use Rattle.rules.specs.Frame.{maxAnswer};
 ghost use Rattle.rules.specs.State.{stationCount};
 ghost use Rattle.rules.specs.Memory as Memory;
-ghost use Rattle.rules.specs.Memory.{pendingBytes};
+ghost use Rattle.rules.specs.Memory.{pendingBytes, controlWords};
 ghost use Rattle.handle.specs.Words.{recordsIn};
 ghost use Rattle.state.specs.Parts.{Lent};
-ghost use Rattle.state.specs.StationFacts.{stationsSize};
 ghost use Rattle.valid.specs.Meaning as Sizes;
 ghost use Rattle.valid.specs.Meaning.{memoryOf};
 ghost use Rattle.serve.specs.Served.{Held};
 ghost use Rattle.broker.specs.Accepted.{quiet, PartKept, BrokenOff, FrameServed, RowHeld, RowFed, Accepted};
 use crate::Fed;
 use crate::by_value::Turn;
-use crate::station;
 use answer::Answer;
+use control::stations;
 use handle::HANDLE_WORDS;
 use handle::NONE;
 use handle::SLOTS;
 use state::handles::Change;
 use stream::Framed;
-use valid::layout::PENDING_BYTES;
+use stream::PENDING_BYTES;
 
 // The answer to a break, with document 01's number.
 const STREAM_BROKEN: u64 = 10;
@@ -46,11 +45,11 @@ pub fn unanswered(refusal: u32, used: usize, slots: usize) -> Turn
 }
 
 // The first count bytes of the row are a part of a frame: they stay pending.
-fn keep(station: u32, count: usize, used: usize, stations: &mut [u64]) -> Turn
-    requires { ⌜ (station < stationCount) × (length (now stations) ≡ stationsSize) ⌝ }
-    ensures { λ r. ⌜ PartKept station count used (now (stations .entry)) (now (stations .exit)) r ⌝ }
+fn keep(station: u32, count: usize, used: usize, control: &mut [u64]) -> Turn
+    requires { ⌜ (station < stationCount) × (length (now control) ≡ controlWords) ⌝ }
+    ensures { λ r. ⌜ PartKept station count used (now (control .entry)) (now (control .exit)) r ⌝ }
 {
-    station::set_stream(station, count, false, stations);
+    stations::set_stream(station, count, false, control);
     unanswered(0, used, SLOTS)
 }
 
@@ -61,15 +60,15 @@ fn break_off(
     used: usize,
     tokens: &[u64],
     dacls: &[u8],
-    stations: &mut [u64],
+    control: &mut [u64],
     row: &mut [u8],
     out: &mut [u8],
 ) -> Turn
-    requires { ⌜ Lent (now tokens) (now dacls) (now stations) × (station < stationCount) × (count ≤ length (now row)) × (maxAnswer ≤ length (now out)) ⌝ }
-    ensures { λ r. ⌜ BrokenOff station count used (now (stations .entry)) (now (row .entry)) (now (out .entry)) (now (stations .exit)) (now (row .exit)) (now (out .exit)) r ⌝ }
+    requires { ⌜ Lent (now tokens) (now dacls) (now control) × (station < stationCount) × (count ≤ length (now row)) × (maxAnswer ≤ length (now out)) ⌝ }
+    ensures { λ r. ⌜ BrokenOff station count used (now (control .entry)) (now (row .entry)) (now (out .entry)) (now (control .exit)) (now (row .exit)) (now (out .exit)) r ⌝ }
 {
     stream::clear(row, count);
-    station::set_stream(station, 0, true, stations);
+    stations::set_stream(station, 0, true, control);
     let written = answer::write(Answer::Refused(STREAM_BROKEN), tokens, dacls, out);
     Turn {
         fed: Fed {
@@ -93,21 +92,21 @@ fn serve_frame(
     handles: &[u64; HANDLE_WORDS],
     tokens: &mut [u64],
     dacls: &mut [u8],
-    stations: &mut [u64],
+    control: &mut [u64],
     row: &mut [u8],
     out: &mut [u8],
 ) -> Turn
-    requires { ⌜ Lent (now tokens) (now dacls) (now stations) × (station < stationCount) × (maxAnswer ≤ length (now out)) × Held (recordsIn (now handles)) (now stations) (now tokens) (now dacls) × (start ≤ count) × (count ≤ length (now row)) ⌝ }
-    ensures { λ r. ⌜ FrameServed station start count used (recordsIn (now (handles .entry))) (now (stations .entry)) (now (tokens .entry)) (now (dacls .entry)) (now (row .entry)) (now (out .entry)) (now (stations .exit)) (now (tokens .exit)) (now (dacls .exit)) (now (row .exit)) (now (out .exit)) r ⌝ }
+    requires { ⌜ Lent (now tokens) (now dacls) (now control) × (station < stationCount) × (maxAnswer ≤ length (now out)) × Held (now tokens) (now dacls) (recordsIn (now handles)) (now control) × (start ≤ count) × (count ≤ length (now row)) ⌝ }
+    ensures { λ r. ⌜ FrameServed station start count used (now (tokens .entry)) (now (dacls .entry)) (recordsIn (now (handles .entry))) (now (control .entry)) (now (row .entry)) (now (out .entry)) (now (tokens .exit)) (now (dacls .exit)) (now (control .exit)) (now (row .exit)) (now (out .exit)) r ⌝ }
 {
-    station::set_stream(station, 0, false, stations);
+    stations::set_stream(station, 0, false, control);
     let reply = serve::serve(
         station,
         &row[start..count],
         handles,
         tokens,
         dacls,
-        stations,
+        control,
         out,
     );
     stream::clear(row, count);
@@ -129,14 +128,14 @@ fn accept_row(
     handles: &[u64; HANDLE_WORDS],
     tokens: &mut [u64],
     dacls: &mut [u8],
-    stations: &mut [u64],
+    control: &mut [u64],
     row: &mut [u8],
     out: &mut [u8],
 ) -> Turn
-    requires { ⌜ Lent (now tokens) (now dacls) (now stations) × (station < stationCount) × (maxAnswer ≤ length (now out)) × (length (now row) ≡ pendingBytes) × RowHeld station (recordsIn (now handles)) (now stations) (now tokens) (now dacls) (now row) ⌝ }
-    ensures { λ r. ⌜ RowFed station (now (chunk .entry)) (recordsIn (now (handles .entry))) (now (stations .entry)) (now (tokens .entry)) (now (dacls .entry)) (now (row .entry)) (now (out .entry)) (now (stations .exit)) (now (tokens .exit)) (now (dacls .exit)) (now (row .exit)) (now (out .exit)) r ⌝ }
+    requires { ⌜ Lent (now tokens) (now dacls) (now control) × (station < stationCount) × (maxAnswer ≤ length (now out)) × (length (now row) ≡ pendingBytes) × RowHeld station (now tokens) (now dacls) (recordsIn (now handles)) (now control) (now row) ⌝ }
+    ensures { λ r. ⌜ RowFed station (now (chunk .entry)) (now (tokens .entry)) (now (dacls .entry)) (recordsIn (now (handles .entry))) (now (control .entry)) (now (row .entry)) (now (out .entry)) (now (tokens .exit)) (now (dacls .exit)) (now (control .exit)) (now (row .exit)) (now (out .exit)) r ⌝ }
 {
-    let before = station::stream_of(station, stations);
+    let before = stations::stream_of(station, control);
     if before.broken {
         return unanswered(0, chunk.len(), SLOTS);
     }
@@ -145,8 +144,8 @@ fn accept_row(
     let count = stop.count;
     let what = stop.what;
     match what {
-        Framed::Part => keep(station, count, used, stations),
-        Framed::Broken => break_off(station, count, used, tokens, dacls, stations, row, out),
+        Framed::Part => keep(station, count, used, control),
+        Framed::Broken => break_off(station, count, used, tokens, dacls, control, row, out),
         Framed::Whole { start } => serve_frame(
             station,
             start,
@@ -155,7 +154,7 @@ fn accept_row(
             handles,
             tokens,
             dacls,
-            stations,
+            control,
             row,
             out,
         ),
@@ -168,12 +167,12 @@ pub fn accept(
     handles: &[u64; HANDLE_WORDS],
     tokens: &mut [u64],
     dacls: &mut [u8],
-    stations: &mut [u64],
+    control: &mut [u64],
     pending: &mut [u8],
     out: &mut [u8],
 ) -> Turn
-    requires { ⌜ Sizes.Lent (now tokens) (now dacls) (now stations) (now pending) × (Memory.valid (memoryOf (now tokens) (now dacls) (recordsIn (now handles)) (now stations) (now pending)) ≡ true) × (station < stationCount) × (maxAnswer ≤ length (now out)) ⌝ }
-    ensures { λ r. ⌜ Accepted station (now (chunk .entry)) (recordsIn (now (handles .entry))) (now (tokens .entry)) (now (dacls .entry)) (now (stations .entry)) (now (pending .entry)) (now (out .entry)) (now (tokens .exit)) (now (dacls .exit)) (now (stations .exit)) (now (pending .exit)) (now (out .exit)) r ⌝ }
+    requires { ⌜ Sizes.Lent (now tokens) (now dacls) (now control) (now pending) × (Memory.valid (memoryOf (now tokens) (now dacls) (recordsIn (now handles)) (now control) (now pending)) ≡ true) × (station < stationCount) × (maxAnswer ≤ length (now out)) ⌝ }
+    ensures { λ r. ⌜ Accepted station (now (chunk .entry)) (now (tokens .entry)) (now (dacls .entry)) (recordsIn (now (handles .entry))) (now (control .entry)) (now (pending .entry)) (now (out .entry)) (now (tokens .exit)) (now (dacls .exit)) (now (control .exit)) (now (pending .exit)) (now (out .exit)) r ⌝ }
 {
     let at = station as usize * PENDING_BYTES;
     let end = at + PENDING_BYTES;
@@ -183,7 +182,7 @@ pub fn accept(
         handles,
         tokens,
         dacls,
-        stations,
+        control,
         &mut pending[at..end],
         out,
     )

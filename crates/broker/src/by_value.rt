@@ -4,13 +4,12 @@ ghost use Rattle.broker.specs.Promise.{StartsWith, FeedsWith, Reconnects
 use crate::Fed;
 use crate::accept;
 use crate::initial;
-use crate::memory;
 use crate::station;
 use handle::Handles;
 use handle::SLOTS;
 use state::handles::Change;
 
-const STATIONS: u32 = 8;
+const STATIONS: u32 = control::layout::STATIONS as u32;
 
 // The refusals of whole calls, with document 01's numbers.
 const NO_STATION: u32 = 11;
@@ -38,22 +37,22 @@ pub fn start(
     tokens: &mut [u64],
     dacls: &mut [u8],
     count: usize,
-    stations: &mut [u64],
+    control: &mut [u64],
     pending: &mut [u8],
 ) -> Started
-    ensures { λ r. ⌜ StartsWith count (now (tokens .entry)) (now (dacls .entry)) (now (stations .entry)) (now (pending .entry)) (now (tokens .exit)) (now (dacls .exit)) (now (stations .exit)) (now (pending .exit)) r ⌝ }
+    ensures { λ r. ⌜ StartsWith count (now (tokens .entry)) (now (dacls .entry)) (now (control .entry)) (now (pending .entry)) (now (tokens .exit)) (now (dacls .exit)) (now (control .exit)) (now (pending .exit)) r ⌝ }
 {
     let t = tokens.len();
     let d = dacls.len();
-    let s = stations.len();
+    let c = control.len();
     let p = pending.len();
-    if !memory::is_sized(t, d, count, s, p) {
+    if !valid::is_sized(t, d, count, c, p) {
         return Started {
             refusal: INVALID_MEMORY,
             freed: 0,
         };
     }
-    initial::write(tokens, dacls, stations, pending);
+    initial::write(tokens, dacls, control, pending);
     Started {
         refusal: 0,
         freed: SLOTS,
@@ -68,10 +67,10 @@ pub fn feed(
     dacls: &mut [u8],
     count: usize,
     handles: Handles,
-    stations: &mut [u64],
+    control: &mut [u64],
     pending: &mut [u8],
 ) -> Turn
-    ensures { λ r. ⌜ FeedsWith station (now (chunk .entry)) count (recordsIn (handles .words)) (now (tokens .entry)) (now (dacls .entry)) (now (stations .entry)) (now (pending .entry)) (now (out .entry)) (now (tokens .exit)) (now (dacls .exit)) (now (stations .exit)) (now (pending .exit)) (now (out .exit)) r ⌝ }
+    ensures { λ r. ⌜ FeedsWith station (now (chunk .entry)) count (recordsIn (handles .words)) (now (tokens .entry)) (now (dacls .entry)) (now (control .entry)) (now (pending .entry)) (now (out .entry)) (now (tokens .exit)) (now (dacls .exit)) (now (control .exit)) (now (pending .exit)) (now (out .exit)) r ⌝ }
 {
     if STATIONS <= station {
         return accept::unanswered(NO_STATION, 0, count);
@@ -79,7 +78,7 @@ pub fn feed(
     if out.len() < MAX_ANSWER {
         return accept::unanswered(SHORT_BUFFER, 0, count);
     }
-    if !memory::is_valid(tokens, dacls, count, &handles.words, stations, pending) {
+    if !valid::valid(tokens, dacls, count, &handles.words, control, pending) {
         return accept::unanswered(INVALID_MEMORY, 0, count);
     }
     accept::accept(
@@ -88,7 +87,7 @@ pub fn feed(
         &handles.words,
         tokens,
         dacls,
-        stations,
+        control,
         pending,
         out,
     )
@@ -100,17 +99,17 @@ pub fn reconnect(
     dacls: &[u8],
     count: usize,
     handles: Handles,
-    stations: &mut [u64],
+    control: &mut [u64],
     pending: &mut [u8],
 ) -> u32
-    ensures { λ r. ⌜ ReconnectsWith station count (recordsIn (handles .words)) (now (tokens .entry)) (now (dacls .entry)) (now (stations .entry)) (now (pending .entry)) (now (stations .exit)) (now (pending .exit)) r ⌝ }
+    ensures { λ r. ⌜ ReconnectsWith station count (recordsIn (handles .words)) (now (tokens .entry)) (now (dacls .entry)) (now (control .entry)) (now (pending .entry)) (now (control .exit)) (now (pending .exit)) r ⌝ }
 {
     if STATIONS <= station {
         return NO_STATION;
     }
-    if !memory::is_valid(tokens, dacls, count, &handles.words, stations, pending) {
+    if !valid::valid(tokens, dacls, count, &handles.words, control, pending) {
         return INVALID_MEMORY;
     }
-    station::drop_stream(station, stations, pending);
+    station::drop_stream(station, control, pending);
     0
 }

@@ -5,9 +5,8 @@ ghost use lib.ListN.{length};
 ghost use Rattle.rules.specs.Token.{maxDacl};
 ghost use Rattle.rules.specs.State.{tokenSlots};
 ghost use Rattle.rules.specs.Memory.{tokenWords};
-ghost use Rattle.state.specs.StationFacts.{stationsSize};
 ghost use Rattle.valid.specs.Meaning.{Lent};
-ghost use Rattle.broker.specs.Initial.{FirstTokens, FirstStations, Begun};
+ghost use Rattle.broker.specs.Initial.{FirstTokens, Begun};
 use privilege::privileges::Privileges;
 use table::slices;
 use token::Identity;
@@ -27,7 +26,7 @@ fn write_tokens(tokens: &mut [u64], dacls: &mut [u8])
     let identity = Identity {
         user: 18,
         session: 999,
-        kind: 1,
+        kind: Identity::PRIMARY,
         level: 0,
         integrity: 16384,
     };
@@ -35,48 +34,12 @@ fn write_tokens(tokens: &mut [u64], dacls: &mut [u8])
     row::set_head(&mut tokens[0..TOKEN_WORDS], 1, identity, privileges, 0);
 }
 
-// The next numbers are 2 and 1; token 1 is primary at every station, whose stream is empty and not broken.
-fn write_stations(stations: &mut [u64])
-    requires { ⌜ length (now stations) ≡ stationsSize ⌝ }
-    ensures { λ _. ⌜ FirstStations (now (stations .exit)) ⌝ }
-{
-    let first = [
-        2,
-        1,
-        1,
-        0,
-        0,
-        1,
-        0,
-        0,
-        1,
-        0,
-        0,
-        1,
-        0,
-        0,
-        1,
-        0,
-        0,
-        1,
-        0,
-        0,
-        1,
-        0,
-        0,
-        1,
-        0,
-        0,
-    ];
-    slices::copy_words(&first, stations);
-}
-
 // Any memory of the right sizes is overwritten.
-pub fn write(tokens: &mut [u64], dacls: &mut [u8], stations: &mut [u64], pending: &mut [u8])
-    requires { ⌜ Lent (now tokens) (now dacls) (now stations) (now pending) ⌝ }
-    ensures { λ _. ⌜ Begun (now (tokens .exit)) (now (dacls .exit)) (now (stations .exit)) (now (pending .exit)) ⌝ }
+pub fn write(tokens: &mut [u64], dacls: &mut [u8], control: &mut [u64], pending: &mut [u8])
+    requires { ⌜ Lent (now tokens) (now dacls) (now control) (now pending) ⌝ }
+    ensures { λ _. ⌜ Begun (now (tokens .exit)) (now (dacls .exit)) (now (control .exit)) (now (pending .exit)) ⌝ }
 {
     write_tokens(tokens, dacls);
-    write_stations(stations);
+    control::initial::write(control);
     slices::zero_bytes(PENDING, pending);
 }

@@ -12,7 +12,6 @@ use handle::list;
 mod accept;
 pub mod by_value;
 mod initial;
-mod memory;
 mod station;
 
 // What a feed returns: the refusal (0, or 11 to 13), the bytes used, the whole answer's length.
@@ -29,12 +28,12 @@ pub extern "C" fn obriska_start(
     tokens: &mut [u64],
     dacls: &mut [u8],
     handles: &mut [Handle],
-    stations: &mut [u64],
+    control: &mut [u64],
     pending: &mut [u8],
 ) -> u32
-    ensures { λ r. ⌜ StartPromise (memoryOf (now (tokens .entry)) (now (dacls .entry)) (now (handles .entry)) (now (stations .entry)) (now (pending .entry))) (memoryOf (now (tokens .exit)) (now (dacls .exit)) (now (handles .exit)) (now (stations .exit)) (now (pending .exit))) r ⌝ }
+    ensures { λ r. ⌜ StartPromise (memoryOf (now (tokens .entry)) (now (dacls .entry)) (now (handles .entry)) (now (control .entry)) (now (pending .entry))) (memoryOf (now (tokens .exit)) (now (dacls .exit)) (now (handles .exit)) (now (control .exit)) (now (pending .exit))) r ⌝ }
 {
-    let s = by_value::start(tokens, dacls, handles.len(), stations, pending);
+    let s = by_value::start(tokens, dacls, handles.len(), control, pending);
     list::clear_first(handles, s.freed);
     s.refusal
 }
@@ -48,10 +47,10 @@ pub extern "C" fn obriska_feed(
     tokens: &mut [u64],
     dacls: &mut [u8],
     handles: &mut [Handle],
-    stations: &mut [u64],
+    control: &mut [u64],
     pending: &mut [u8],
 ) -> Fed
-    ensures { λ r. ⌜ FeedPromise (memoryOf (now (tokens .entry)) (now (dacls .entry)) (now (handles .entry)) (now (stations .entry)) (now (pending .entry))) station (now (chunk .entry)) (now (answer .entry)) (memoryOf (now (tokens .exit)) (now (dacls .exit)) (now (handles .exit)) (now (stations .exit)) (now (pending .exit))) (now (answer .exit)) r ⌝ }
+    ensures { λ r. ⌜ FeedPromise (memoryOf (now (tokens .entry)) (now (dacls .entry)) (now (handles .entry)) (now (control .entry)) (now (pending .entry))) station (now (chunk .entry)) (now (answer .entry)) (memoryOf (now (tokens .exit)) (now (dacls .exit)) (now (handles .exit)) (now (control .exit)) (now (pending .exit))) (now (answer .exit)) r ⌝ }
 {
     let count = handles.len();
     let held = list::load(handles);
@@ -63,7 +62,7 @@ pub extern "C" fn obriska_feed(
         dacls,
         count,
         held,
-        stations,
+        control,
         pending,
     );
     if turn.change.handle.number == 0 {
@@ -81,10 +80,10 @@ pub extern "C" fn obriska_reconnect(
     tokens: &[u64],
     dacls: &[u8],
     handles: &[Handle],
-    stations: &mut [u64],
+    control: &mut [u64],
     pending: &mut [u8],
 ) -> u32
-    ensures { λ r. ⌜ ReconnectPromise (memoryOf (now (tokens .entry)) (now (dacls .entry)) (now (handles .entry)) (now (stations .entry)) (now (pending .entry))) station (memoryOf (now (tokens .entry)) (now (dacls .entry)) (now (handles .entry)) (now (stations .exit)) (now (pending .exit))) r ⌝ }
+    ensures { λ r. ⌜ ReconnectPromise (memoryOf (now (tokens .entry)) (now (dacls .entry)) (now (handles .entry)) (now (control .entry)) (now (pending .entry))) station (memoryOf (now (tokens .entry)) (now (dacls .entry)) (now (handles .entry)) (now (control .exit)) (now (pending .exit))) r ⌝ }
 {
     let held = list::load(handles);
     by_value::reconnect(
@@ -93,7 +92,7 @@ pub extern "C" fn obriska_reconnect(
         dacls,
         handles.len(),
         held,
-        stations,
+        control,
         pending,
     )
 }

@@ -19,7 +19,7 @@ use Rattle.rules.specs.Token.{Token, maxGroups, maxRestricting, maxDacl, withGr
 use Rattle.rules.specs.State as state
 use Rattle.rules.specs.State.{State}
 use Rattle.rules.specs.Valid.{is32, groupValid, groupsValid, limitsValid, valid, tokenValid}
-use Rattle.rules.specs.Memory.{tokenWords, head, tokenRow, daclRow}
+use Rattle.rules.specs.Memory.{tokenWords, tokenCounter, head, tokenRow, daclRow}
 use Rattle.rules.specs.Request.{times, u32}
 use Rattle.rules.specs.Decision.{Decision, carriedOut, need_else_then_, canIssue, issued}
 use Rattle.rules.specs.Restrict.{isBelow, validRestrict, limited, restricted, restrict}
@@ -27,7 +27,7 @@ use Rattle.rules.proofs.Logic.{and-l, and-r, all-mem}
 use Rattle.rules.proofs.Facts.{token-facts}
 use Rattle.handle.specs.declared.Handle.{Handle}
 use Rattle.token.proofs.Changing.{few-groups}
-use Rattle.state.specs.TokenCalls.{NextToken}
+use Rattle.control.specs.Counters.{NextGiven}
 use Rattle.state.specs.ReleaseFacts.{PartsIn}
 use Rattle.state.proofs.InPlace.{lent, in-slot}
 use Rattle.answer.specs.declared.Answer.the-variants as answers
@@ -79,9 +79,9 @@ makes n mark removed k s denyAt denyCount sidAt sidCount a b c = record {
       c .made sids (l .later) (l .added) _ (z .restricting) (b .made deny (l .after) (l .denied) (limitedTo n mark removed t) (z .groups) p (a .made .row t e));
 }
 
-pub issues-restricted : (k : Counts) (mark removed : ℕ) (body : List ℕ) (denyAt denyCount sidAt sidCount : ℕ) {n i s mask : ℕ} {hs : List Handle} {ss ts ds ss′ ts′ ds′ : List ℕ} {r : Outcome}
-    {ws ws′ bs : List ℕ} → NextToken ss n → RowCopied tokenWords i ts ws → CopyMade n k mark removed body denyAt denyCount sidAt sidCount ws ws′ → RowCopied maxDacl i ds bs
-    → RowIssued s mask ws′ bs hs ss ts ds ss′ ts′ ds′ r → RestrictedIssued i k mark removed body denyAt denyCount sidAt sidCount s mask hs ss ts ds ss′ ts′ ds′ r
+pub issues-restricted : (k : Counts) (mark removed : ℕ) (body : List ℕ) (denyAt denyCount sidAt sidCount : ℕ) {n i s mask : ℕ} {hs : List Handle} {cs ts ds cs′ ts′ ds′ : List ℕ} {r : Outcome}
+    {ws ws′ bs : List ℕ} → NextGiven tokenCounter cs n → RowCopied tokenWords i ts ws → CopyMade n k mark removed body denyAt denyCount sidAt sidCount ws ws′ → RowCopied maxDacl i ds bs
+    → RowIssued s mask ws′ bs ts ds hs cs ts′ ds′ cs′ r → RestrictedIssued i k mark removed body denyAt denyCount sidAt sidCount s mask ts ds hs cs ts′ ds′ cs′ r
 unfolding restrictedAs restricted daclRow
 issues-restricted k mark removed body denyAt denyCount sidAt sidCount next w c b e = record {
   copy = λ deny sids l z. issues-made (restrictedAs mark removed deny sids) (w .inside) next
@@ -102,7 +102,7 @@ module _ (k : Counts) (mark removed : ℕ) (s : List ℕ) (denyAt denyCount sidC
       (j .judged deny later g ∙ ap (λ (n : ℕ). all (isBelow n) deny && distinct deny) (sym (z .groups)))
       ∙ sym (and-assoc (leb mark 1 && within removed existing) (all (isBelow (length (t .groups))) deny) (distinct deny))
 
-  pub bad-restrict : {hs : List Handle} {ss ts : List ℕ} → not ok ≡ true → RestrictRefusal k mark removed s denyAt denyCount sidCount hs ss ts 5
+  pub bad-restrict : {hs : List Handle} {cs ts : List ℕ} → not ok ≡ true → RestrictRefusal k mark removed s denyAt denyCount sidCount ts hs cs 5
   bad-restrict f = record {
     small = omega arith;
     left = λ e. absurd (omega arith);
@@ -115,7 +115,7 @@ module _ (k : Counts) (mark removed : ℕ) (s : List ℕ) (denyAt denyCount sidC
         → r ≡ refusalNumber (validRestrict t mark removed deny) b
     good b r e deny later g t z = e ∙ ap (λ (x : Bool). if x then (if b then 0 else 8) else 5) (sym (not-false ok f) ∙ ok-valid deny later g t z)
 
-    pub too-many : {hs : List Handle} {ss ts : List ℕ} → maxRestricting - k .restricting < sidCount → RestrictRefusal k mark removed s denyAt denyCount sidCount hs ss ts 8
+    pub too-many : {hs : List Handle} {cs ts : List ℕ} → maxRestricting - k .restricting < sidCount → RestrictRefusal k mark removed s denyAt denyCount sidCount ts hs cs 8
     too-many h = record {
       small = omega arith;
       left = λ e. absurd (omega arith);
@@ -126,15 +126,15 @@ module _ (k : Counts) (mark removed : ℕ) (s : List ℕ) (denyAt denyCount sidC
           (ap (λ (b : Bool). if b && canIssue σ then 0 else 8) (sym (lt-leb (length (t .limits .restricting) + length sids) maxRestricting (omega arith)))) deny later g t z;
     }
 
-    module _ (h : sidCount ≤ maxRestricting - k .restricting) (small : k .restricting ≤ maxRestricting) {hs : List Handle} {ss ts : List ℕ} {b : Bool} (i : IssueRoom hs ts ss b) where
+    module _ (h : sidCount ≤ maxRestricting - k .restricting) (small : k .restricting ≤ maxRestricting) {hs : List Handle} {cs ts : List ℕ} {b : Bool} (i : IssueRoom ts hs cs b) where
       by-room : (r : ℕ) → r ≡ (if b then 0 else 8) → (deny later : List ℕ) → times denyCount u32 (drop denyAt s) ≡ got deny later → (sids : List ℕ) → length sids ≡ sidCount
-          → (t : Token) → Counted t k → (σ : State) → valid σ ≡ true → {ds : List ℕ} → PartsIn σ hs ss ts ds → r ≡ refusalNumber (validRestrict t mark removed deny) (hasRoom t sids σ)
+          → (t : Token) → Counted t k → (σ : State) → valid σ ≡ true → {ds : List ℕ} → PartsIn σ ts ds hs cs → r ≡ refusalNumber (validRestrict t mark removed deny) (hasRoom t sids σ)
       by-room r e deny later g sids n t z σ u p =
           let restricting = z .restricting in
           good (hasRoom t sids σ) r
           (e ∙ ap₂ (λ (x y : Bool). if x && y then 0 else 8) (sym (le-leb (length (t .limits .restricting) + length sids) maxRestricting (omega arith))) (i .room σ u p)) deny later g t z
 
-      pub may-restrict : b ≡ true → RestrictRefusal k mark removed s denyAt denyCount sidCount hs ss ts 0
+      pub may-restrict : b ≡ true → RestrictRefusal k mark removed s denyAt denyCount sidCount ts hs cs 0
       may-restrict e = record {
         small = omega arith;
         left = λ z. i .left e;
@@ -142,7 +142,7 @@ module _ (k : Counts) (mark removed : ℕ) (s : List ℕ) (denyAt denyCount sidC
         refusal = by-room 0 (rw e);
       }
 
-      pub no-room : b ≡ false → RestrictRefusal k mark removed s denyAt denyCount sidCount hs ss ts 8
+      pub no-room : b ≡ false → RestrictRefusal k mark removed s denyAt denyCount sidCount ts hs cs 8
       no-room e = record {
         small = omega arith;
         left = λ z. absurd (omega arith);
@@ -174,29 +174,29 @@ goes-on true true σ rest e z = refl
 goes-on true false σ rest e z = absurd (omega arith)
 goes-on false room σ rest e z = absurd (omega arith)
 
-module _ {s n mark removed : ℕ} {body : List ℕ} {denyAt denyCount sidAt sidCount : ℕ} {hs : List Handle} {ss ts ds : List ℕ} {token held : ℕ} {x : Located} (g : TokenLocated s n Mask.duplicate hs ts token held x) where
+module _ {s n mark removed : ℕ} {body : List ℕ} {denyAt denyCount sidAt sidCount : ℕ} {hs : List Handle} {cs ts ds : List ℕ} {token held : ℕ} {x : Located} (g : TokenLocated s n Mask.duplicate hs ts token held x) where
   pub restrict-unknown : {r : Outcome} → (x .refusal ≡ 0 → ⊥) → Ends (answers.Refused (x .refusal)) r
-      → RestrictCarried s n mark removed body denyAt denyCount sidAt sidCount hs ss ts ds ss ts ds r
+      → RestrictCarried s n mark removed body denyAt denyCount sidAt sidCount ts ds hs cs ts ds cs r
   unfolding restrict
   restrict-unknown {r} f e = record { carried = λ deny sids l. not-located g (go mark removed deny sids s) r e f }
 
-  module _ (z : x .refusal ≡ 0) {k : Counts} (c : CountsAt (x .slot) ts k) {f : ℕ} (j : RestrictRefusal k mark removed body denyAt denyCount sidCount hs ss ts f) where
+  module _ (z : x .refusal ≡ 0) {k : Counts} (c : CountsAt (x .slot) ts k) {f : ℕ} (j : RestrictRefusal k mark removed body denyAt denyCount sidCount ts hs cs f) where
     -- the refusal, in the state
-    refused : (deny sids : List ℕ) → Lists body denyAt denyCount sidAt sidCount deny sids → (σ : State) → valid σ ≡ true → PartsIn σ hs ss ts ds
+    refused : (deny sids : List ℕ) → Lists body denyAt denyCount sidAt sidCount deny sids → (σ : State) → valid σ ≡ true → PartsIn σ ts ds hs cs
         → f ≡ refusalNumber (validRestrict (state.tokenOf σ token) mark removed deny) (hasRoom (state.tokenOf σ token) sids σ)
     refused deny sids l σ v p =
         let there = in-slot token (g .slot z) v (p .tokens) (g .inside) in
         j .refusal deny (l .after) (l .denied) sids (subst (Long u32 sidCount) (l .added) (times-long u32 sidCount (drop sidAt body)))
         (state.tokenOf σ token) (c .counted (state.tokenOf σ token) (there .isValid) (there .words)) σ v p
 
-    pub restrict-refused : {r : Outcome} → (f ≡ 0 → ⊥) → Ends (answers.Refused f) r → RestrictCarried s n mark removed body denyAt denyCount sidAt sidCount hs ss ts ds ss ts ds r
+    pub restrict-refused : {r : Outcome} → (f ≡ 0 → ⊥) → Ends (answers.Refused f) r → RestrictCarried s n mark removed body denyAt denyCount sidAt sidCount ts ds hs cs ts ds cs r
     unfolding restrict
     restrict-refused {r} y e = record {
       carried = λ deny sids l. on-located g z (go mark removed deny sids s) (λ h m. refuses f r e (j .small) (λ σ v p. stops _ _ σ _ (refused deny sids l σ v p) y));
     }
 
-    pub restricts : {ss′ ts′ ds′ : List ℕ} {r : Outcome} → f ≡ 0 → RestrictedIssued (x .slot) k mark removed body denyAt denyCount sidAt sidCount s held hs ss ts ds ss′ ts′ ds′ r
-        → RestrictCarried s n mark removed body denyAt denyCount sidAt sidCount hs ss ts ds ss′ ts′ ds′ r
+    pub restricts : {cs′ ts′ ds′ : List ℕ} {r : Outcome} → f ≡ 0 → RestrictedIssued (x .slot) k mark removed body denyAt denyCount sidAt sidCount s held ts ds hs cs ts′ ds′ cs′ r
+        → RestrictCarried s n mark removed body denyAt denyCount sidAt sidCount ts ds hs cs ts′ ds′ cs′ r
     unfolding restrict restrictedAs
     restricts y i = record {
       carried = λ deny sids l. on-located g z (go mark removed deny sids s) (λ h m. carried-as

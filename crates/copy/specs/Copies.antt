@@ -1,23 +1,16 @@
--- Requests 9 and 10: a copy of the token in a slot, judged and issued. Assumes nothing.
+-- Requests 9 and 10: a copy of the token in a slot, made and issued. Assumes nothing.
 use Prim.Native.Nat.{ℕ, _<_}
 use mathlib.Core.Path.{_≡_}
-use mathlib.Core.Bool.{Bool, true}
 use mathlib.Core.List.{List}
 use lib.ListN.{length}
 use Rattle.table.specs.Table.{record-at}
 use Rattle.rules.specs.Token as rules
-use Rattle.rules.specs.Handle as rules-handle
 use Rattle.rules.specs.State as state
 use Rattle.rules.specs.State.{tokenSlots}
 use Rattle.rules.specs.Decision.{issued}
 use Rattle.rules.specs.Memory.{tokenWords}
-use Rattle.rules.specs.Duplicate as duplicates
-use Rattle.rules.specs.Duplicate.{validDuplicate}
-use Rattle.handle.specs.Words.{word16}
 use Rattle.handle.specs.declared.Handle.{Handle}
-use Rattle.token.specs.Meaning.{identityOf}
 use Rattle.token.specs.Row.{Becomes}
-use Rattle.token.specs.declared.Identity.{Identity}
 use Rattle.state.specs.TokenCalls.{FoundAt}
 use Rattle.decide.specs.declared.outcome.Outcome.{Outcome}
 use Rattle.decide.specs.Carried.{Carried}
@@ -33,19 +26,6 @@ pub record Remade (f : rules.Token → rules.Token) (ws ws′ : List ℕ) : Type
   pub made : Becomes f ws ws′
   pub long : length ws′ ≡ tokenWords
 
--- by the handle's mask and who the token is
-pub record DuplicateJudged (held : ℕ) (i : Identity) (type level mask : ℕ) (r : Bool) : Type 0 where
-  -- what a handle's width asks
-  pub narrow : r ≡ true → mask < word16
-  pub judged : (h : rules-handle.Handle) (t : rules.Token) → held ≡ h .mask → identityOf i ≡ t .identity → r ≡ validDuplicate h t type level mask
-
--- the copies, by the next number last but the token
-unfoldable pub copiedAs : ℕ → ℕ → ℕ → rules.Token → rules.Token
-copiedAs type level n t = duplicates.copied n type level t
-
-unfoldable pub duplicatedAs : ℕ → ℕ → ℕ → rules.Token → rules.Token
-duplicatedAs type level n t = duplicates.duplicated n type level t
-
 -- what f makes of the next number and the token in a slot is issued, whatever number the slot is of
-pub record CopyIssued (f : ℕ → rules.Token → rules.Token) (slot s mask : ℕ) (hs : List Handle) (ss ts ds ss′ ts′ ds′ : List ℕ) (r : Outcome) : Type 0 where
-  pub carried : (n : ℕ) → FoundAt n ts slot → Carried (λ σ. issued s mask (f (σ .tokens .next) (state.tokenOf σ n)) σ) hs ss ts ds ss′ ts′ ds′ r
+pub record CopyIssued (f : ℕ → rules.Token → rules.Token) (slot s mask : ℕ) (ts ds : List ℕ) (hs : List Handle) (cs ts′ ds′ cs′ : List ℕ) (r : Outcome) : Type 0 where
+  pub carried : (n : ℕ) → FoundAt n ts slot → Carried (λ σ. issued s mask (f (σ .tokens .next) (state.tokenOf σ n)) σ) ts ds hs cs ts′ ds′ cs′ r

@@ -1,3 +1,4 @@
 pub mod Copies
+pub mod Duplicate
 pub mod RestrictLists
 pub mod Restrict

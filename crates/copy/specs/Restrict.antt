@@ -68,25 +68,25 @@ refusalNumber ok room = if ok then (if room then 0 else 8) else 5
 abbrev pub hasRoom : Token → List ℕ → State → Bool
 hasRoom t sids σ = leb (length (t .limits .restricting) + length sids) maxRestricting && canIssue σ
 
-pub record RestrictRefusal (k : Counts) (mark removed : ℕ) (s : List ℕ) (denyAt denyCount sidCount : ℕ) (hs : List Handle) (ss ts : List ℕ) (r : ℕ) : Type 0 where
+pub record RestrictRefusal (k : Counts) (mark removed : ℕ) (s : List ℕ) (denyAt denyCount sidCount : ℕ) (ts : List ℕ) (hs : List Handle) (cs : List ℕ) (r : ℕ) : Type 0 where
   pub small : r < 128
   -- what issuing asks
-  pub left : r ≡ 0 → NumbersLeft ss
+  pub left : r ≡ 0 → NumbersLeft cs
   pub few : r ≡ 0 → k .restricting + sidCount ≤ maxRestricting
   pub refusal : (deny later : List ℕ) → times denyCount u32 (drop denyAt s) ≡ got deny later → (sids : List ℕ) → length sids ≡ sidCount
-      → (t : Token) → Counted t k → (σ : State) → valid σ ≡ true → {ds : List ℕ} → PartsIn σ hs ss ts ds
+      → (t : Token) → Counted t k → (σ : State) → valid σ ≡ true → {ds : List ℕ} → PartsIn σ ts ds hs cs
       → r ≡ refusalNumber (validRestrict t mark removed deny) (hasRoom t sids σ)
 
 -- by the next number last but the token
 unfoldable pub restrictedAs : (mark removed : ℕ) → (deny sids : List ℕ) → ℕ → Token → Token
 restrictedAs mark removed deny sids n t = restricted n mark removed deny sids t
 
-pub record RestrictedIssued (slot : ℕ) (k : Counts) (mark removed : ℕ) (s : List ℕ) (denyAt denyCount sidAt sidCount station mask : ℕ)
-    (hs : List Handle) (ss ts ds ss′ ts′ ds′ : List ℕ) (r : Outcome) : Type 0 where
+pub record RestrictedIssued (slot : ℕ) (k : Counts) (mark removed : ℕ) (s : List ℕ) (denyAt denyCount sidAt sidCount station mask : ℕ) (ts ds : List ℕ)
+    (hs : List Handle) (cs ts′ ds′ cs′ : List ℕ) (r : Outcome) : Type 0 where
   pub copy : (deny sids : List ℕ) → Lists s denyAt denyCount sidAt sidCount deny sids → CountsAt slot ts k
-      → CopyIssued (restrictedAs mark removed deny sids) slot station mask hs ss ts ds ss′ ts′ ds′ r
+      → CopyIssued (restrictedAs mark removed deny sids) slot station mask ts ds hs cs ts′ ds′ cs′ r
 
-pub record RestrictCarried (station number mark removed : ℕ) (s : List ℕ) (denyAt denyCount sidAt sidCount : ℕ)
-    (hs : List Handle) (ss ts ds ss′ ts′ ds′ : List ℕ) (r : Outcome) : Type 0 where
+pub record RestrictCarried (station number mark removed : ℕ) (s : List ℕ) (denyAt denyCount sidAt sidCount : ℕ) (ts ds : List ℕ) (hs : List Handle)
+    (cs ts′ ds′ cs′ : List ℕ) (r : Outcome) : Type 0 where
   pub carried : (deny sids : List ℕ) → Lists s denyAt denyCount sidAt sidCount deny sids
-      → Carried (λ σ. restrict σ station number mark removed deny sids) hs ss ts ds ss′ ts′ ds′ r
+      → Carried (λ σ. restrict σ station number mark removed deny sids) ts ds hs cs ts′ ds′ cs′ r

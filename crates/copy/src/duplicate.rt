@@ -9,10 +9,13 @@ ghost use Rattle.handle.specs.Words.{recordsIn};
 ghost use Rattle.state.specs.Parts.{Lent};
 ghost use Rattle.decide.specs.Carried.{Carried};
 ghost use Rattle.decide.specs.Issue.{NumbersLeft};
-ghost use Rattle.copy.specs.Copies.{Remade, DuplicateJudged, copiedAs, duplicatedAs, CopyIssued};
+ghost use Rattle.copy.specs.Copies.{Remade, CopyIssued};
+ghost use Rattle.copy.specs.Duplicate.{DuplicateJudged, copiedAs, duplicatedAs};
 use crate::rows;
 use answer::refusal;
 use body::fields::DuplicateFields;
+use control::counters;
+use control::layout::NEXT_TOKEN;
 use decide::issue::can_issue;
 use decide::issue::issue_row;
 use decide::located::locate;
@@ -23,14 +26,13 @@ use handle::HANDLE_WORDS;
 use privilege::mask::Mask;
 use state::handles::find_handle;
 use state::tokens::identity_at;
-use state::tokens::next_token;
 use token::Identity;
 use token::layout::*;
 use token::row;
 
-const PRIMARY: u32 = 1;
+const PRIMARY: u32 = Identity::PRIMARY as u32;
 
-const IMPERSONATION: u32 = 2;
+const IMPERSONATION: u32 = Identity::IMPERSONATION as u32;
 
 const ANONYMOUS: u32 = 7;
 
@@ -70,25 +72,16 @@ fn issue_copy(
     handles: &[u64; HANDLE_WORDS],
     tokens: &mut [u64],
     dacls: &mut [u8],
-    stations: &mut [u64],
+    control: &mut [u64],
 ) -> Outcome
-    requires { ⌜ Lent (now tokens) (now dacls) (now stations) × (slot < tokenSlots) × NumbersLeft (now stations) × (station < stationCount) ⌝ }
-    ensures { λ r. ⌜ CopyIssued (copiedAs kind level) slot station mask (recordsIn (now (handles .entry))) (now (stations .entry)) (now (tokens .entry)) (now (dacls .entry)) (now (stations .exit)) (now (tokens .exit)) (now (dacls .exit)) r ⌝ }
+    requires { ⌜ Lent (now tokens) (now dacls) (now control) × (slot < tokenSlots) × NumbersLeft (now control) × (station < stationCount) ⌝ }
+    ensures { λ r. ⌜ CopyIssued (copiedAs kind level) slot station mask (now (tokens .entry)) (now (dacls .entry)) (recordsIn (now (handles .entry))) (now (control .entry)) (now (tokens .exit)) (now (dacls .exit)) (now (control .exit)) r ⌝ }
 {
-    let n = next_token(stations);
+    let n = counters::next(NEXT_TOKEN, control);
     let mut copy = rows::words_at(slot, tokens);
     relabel(&mut copy, n, kind, level);
     let dacl = rows::dacl_at(slot, dacls);
-    issue_row(
-        station,
-        mask,
-        &copy,
-        &dacl,
-        handles,
-        tokens,
-        dacls,
-        stations,
-    )
+    issue_row(station, mask, &copy, &dacl, handles, tokens, dacls, control)
 }
 
 // Nothing is kept but the used privileges.
@@ -99,14 +92,14 @@ fn issue_anonymous(
     handles: &[u64; HANDLE_WORDS],
     tokens: &mut [u64],
     dacls: &mut [u8],
-    stations: &mut [u64],
+    control: &mut [u64],
 ) -> Outcome
-    requires { ⌜ Lent (now tokens) (now dacls) (now stations) × (slot < tokenSlots) × NumbersLeft (now stations) × (station < stationCount) ⌝ }
-    ensures { λ r. ⌜ CopyIssued rules.anonymousCopy slot station mask (recordsIn (now (handles .entry))) (now (stations .entry)) (now (tokens .entry)) (now (dacls .entry)) (now (stations .exit)) (now (tokens .exit)) (now (dacls .exit)) r ⌝ }
+    requires { ⌜ Lent (now tokens) (now dacls) (now control) × (slot < tokenSlots) × NumbersLeft (now control) × (station < stationCount) ⌝ }
+    ensures { λ r. ⌜ CopyIssued rules.anonymousCopy slot station mask (now (tokens .entry)) (now (dacls .entry)) (recordsIn (now (handles .entry))) (now (control .entry)) (now (tokens .exit)) (now (dacls .exit)) (now (control .exit)) r ⌝ }
 {
     let at = slot * TOKEN_WORDS;
     let end = at + TOKEN_WORDS;
-    let n = next_token(stations);
+    let n = counters::next(NEXT_TOKEN, control);
     let p = row::privileges_in(&tokens[at..end]);
     let mut copy = [0u64; TOKEN_WORDS];
     copy[NUMBER] = n;
@@ -116,16 +109,7 @@ fn issue_anonymous(
     copy[ELEVATION] = 1;
     copy[USED] = p.used;
     let dacl = [0u8; MAX_DACL];
-    issue_row(
-        station,
-        mask,
-        &copy,
-        &dacl,
-        handles,
-        tokens,
-        dacls,
-        stations,
-    )
+    issue_row(station, mask, &copy, &dacl, handles, tokens, dacls, control)
 }
 
 // Only the type and level asked for make an anonymous copy; to primary, the level becomes 0.
@@ -138,14 +122,14 @@ fn issue_duplicate(
     handles: &[u64; HANDLE_WORDS],
     tokens: &mut [u64],
     dacls: &mut [u8],
-    stations: &mut [u64],
+    control: &mut [u64],
 ) -> Outcome
-    requires { ⌜ Lent (now tokens) (now dacls) (now stations) × (slot < tokenSlots) × NumbersLeft (now stations) × (station < stationCount) ⌝ }
-    ensures { λ r. ⌜ CopyIssued (duplicatedAs kind level) slot station mask (recordsIn (now (handles .entry))) (now (stations .entry)) (now (tokens .entry)) (now (dacls .entry)) (now (stations .exit)) (now (tokens .exit)) (now (dacls .exit)) r ⌝ }
+    requires { ⌜ Lent (now tokens) (now dacls) (now control) × (slot < tokenSlots) × NumbersLeft (now control) × (station < stationCount) ⌝ }
+    ensures { λ r. ⌜ CopyIssued (duplicatedAs kind level) slot station mask (now (tokens .entry)) (now (dacls .entry)) (recordsIn (now (handles .entry))) (now (control .entry)) (now (tokens .exit)) (now (dacls .exit)) (now (control .exit)) r ⌝ }
 {
     let anonymous = (kind != PRIMARY) & (level == 0);
     if anonymous {
-        return issue_anonymous(station, mask, slot, handles, tokens, dacls, stations);
+        return issue_anonymous(station, mask, slot, handles, tokens, dacls, control);
     }
     if kind == PRIMARY {
         return issue_copy(
@@ -157,7 +141,7 @@ fn issue_duplicate(
             handles,
             tokens,
             dacls,
-            stations,
+            control,
         );
     }
     issue_copy(
@@ -169,7 +153,7 @@ fn issue_duplicate(
         handles,
         tokens,
         dacls,
-        stations,
+        control,
     )
 }
 
@@ -181,10 +165,10 @@ pub fn duplicate(
     handles: &[u64; HANDLE_WORDS],
     tokens: &mut [u64],
     dacls: &mut [u8],
-    stations: &mut [u64],
+    control: &mut [u64],
 ) -> Outcome
-    requires { ⌜ Lent (now tokens) (now dacls) (now stations) × (station < stationCount) ⌝ }
-    ensures { λ r. ⌜ Carried (λ σ. rules.duplicate σ station (f .handle) (f .kind) (f .level) (f .mask)) (recordsIn (now (handles .entry))) (now (stations .entry)) (now (tokens .entry)) (now (dacls .entry)) (now (stations .exit)) (now (tokens .exit)) (now (dacls .exit)) r ⌝ }
+    requires { ⌜ Lent (now tokens) (now dacls) (now control) × (station < stationCount) ⌝ }
+    ensures { λ r. ⌜ Carried (λ σ. rules.duplicate σ station (f .handle) (f .kind) (f .level) (f .mask)) (now (tokens .entry)) (now (dacls .entry)) (recordsIn (now (handles .entry))) (now (control .entry)) (now (tokens .exit)) (now (dacls .exit)) (now (control .exit)) r ⌝ }
 {
     let found = find_handle(station, f.handle, handles);
     let mask = mask_of(found);
@@ -196,7 +180,7 @@ pub fn duplicate(
     if !valid_duplicate(mask, source, f.kind, f.level, f.mask) {
         return outcome::refused(refusal::BAD_FIELD);
     }
-    if !can_issue(handles, tokens, stations) {
+    if !can_issue(handles, tokens, control) {
         return outcome::refused(refusal::TABLE_FULL);
     }
     issue_duplicate(
@@ -208,6 +192,6 @@ pub fn duplicate(
         handles,
         tokens,
         dacls,
-        stations,
+        control,
     )
 }

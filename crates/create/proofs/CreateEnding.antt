@@ -2,13 +2,13 @@
 use Prim.Native.Nat.{ℕ, _<_}
 use native.Mathlib.Omega.{arith}
 use mathlib.Core.Path.{_≡_, refl, sym, ap, ap₂, _∙_}
-use mathlib.Core.Bool.{Bool, true, false, not, _&&_, _||_, and-assoc}
+use mathlib.Core.Bool.{Bool, true, false, not, _&&_, and-assoc}
 use mathlib.Core.List.{List, [], map}
-use lib.Dec.{eqb, leb}
+use lib.Dec.{leb}
 use lib.ListN.{length, replicate}
 use borrow.Author.Tests.{not-false}
 use Rattle.table.specs.Lists.{pad}
-use Rattle.rules.specs.Basic.{all, member}
+use Rattle.rules.specs.Basic.{all}
 use Rattle.rules.specs.Bits.{has, within}
 use Rattle.rules.specs.Mask.{allRights}
 use Rattle.rules.specs.Refusal.{privilegeNotHeld, badField, tableFull}
@@ -17,7 +17,7 @@ use Rattle.rules.specs.Privileges.{existing, createToken, granted}
 use Rattle.rules.specs.Token as rules
 use Rattle.rules.specs.Token.{maxGroups, maxDacl, newToken, noDefaults, primaryOf}
 use Rattle.rules.specs.State.{State, stationCount, held, used}
-use Rattle.rules.specs.Memory.{tokenRow, daclRow}
+use Rattle.rules.specs.Memory.{tokenCounter, tokenRow, daclRow}
 use Rattle.rules.specs.Valid.{valid}
 use Rattle.rules.specs.Decision.{need_else_then_, carriedOut, canIssue, issued}
 use Rattle.rules.specs.Create.{validPair, validIntegrity, validCreate, entered, create}
@@ -28,9 +28,10 @@ use Rattle.handle.specs.declared.Handle.{Handle}
 use Rattle.privilege.specs.Meaning.{privilegesOf}
 use Rattle.privilege.specs.declared.privileges.Privileges.{Privileges}
 use Rattle.token.specs.NewRow.{Headed}
-use Rattle.state.specs.TokenCalls.{Held, NextToken, Used}
+use Rattle.control.specs.Counters.{NextGiven}
+use Rattle.state.specs.TokenCalls.{Held, Used}
 use Rattle.state.specs.ReleaseFacts.{PartsIn}
-use Rattle.state.proofs.TokenFrames.{used-stations, used-handles}
+use Rattle.state.proofs.TokenFrames.{used-control, used-handles}
 use Rattle.answer.specs.declared.Answer.the-variants as answers
 use Rattle.decide.specs.declared.outcome.Outcome.{Outcome}
 use Rattle.decide.specs.Carried.{Ends}
@@ -43,14 +44,6 @@ use Rattle.create.specs.NewGroups.{GroupsRead}
 use Rattle.create.specs.Create.{RowMade, RowCreated, CreateCarried}
 
 -- ---- the token
-
-pub integrity-valid : (i : ℕ) → (eqb i 0 || (eqb i 4096 || (eqb i 8192 || (eqb i 12288 || eqb i 16384)))) ≡ validIntegrity i
-unfolding validIntegrity member
-integrity-valid i = ap (λ (b : Bool). eqb i 0 || (eqb i 4096 || (eqb i 8192 || (eqb i 12288 || b)))) (or-none (eqb i 16384))
-  where
-    or-none : (b : Bool) → b ≡ (b || false)
-    or-none true = refl
-    or-none false = refl
 
 pub row-made : (n user session integrity present byDefault : ℕ) (s : List ℕ) (at count : ℕ) {a b c : Bool} (g : Groups) (p : Privileges) {ws ws′ : List ℕ}
     → GroupsRead user s at count ws g → a ≡ validIntegrity integrity → b ≡ within byDefault present → c ≡ within present existing
@@ -72,20 +65,20 @@ no-dacl : (u : rules.Token) → u .defaults .dacl ≡ [] → replicate maxDacl 0
 unfolding daclRow pad
 no-dacl u e = sym (ap (pad maxDacl) e)
 
-module _ (s : ℕ) {ws : List ℕ} {hs : List Handle} {ss ts ds : List ℕ} {b : Bool} (i : IssueRoom hs ts ss b) where
-  pub create-no-room : {r : Outcome} → not b ≡ true → Ends (answers.Refused 8) r → RowCreated s ws hs ss ts ds ss ts ds r
+module _ (s : ℕ) {ws : List ℕ} {hs : List Handle} {cs ts ds : List ℕ} {b : Bool} (i : IssueRoom ts hs cs b) where
+  pub create-no-room : {r : Outcome} → not b ≡ true → Ends (answers.Refused 8) r → RowCreated s ws ts ds hs cs ts ds cs r
   create-no-room f e = record { carried = λ u w d. room-refuses i (λ σ. issued s allRights u (used createToken s σ)) f e }
 
-  pub create-issues : {ts₁ ss′ ts′ ds′ : List ℕ} {r : Outcome} → not b ≡ false → s < stationCount → Used createToken s ts ss ts₁
-      → RowIssued s allRights ws (replicate maxDacl 0) hs ss ts₁ ds ss′ ts′ ds′ r → RowCreated s ws hs ss ts ds ss′ ts′ ds′ r
+  pub create-issues : {ts₁ cs′ ts′ ds′ : List ℕ} {r : Outcome} → not b ≡ false → s < stationCount → Used createToken s ts cs ts₁
+      → RowIssued s allRights ws (replicate maxDacl 0) ts₁ ds hs cs ts′ ds′ cs′ r → RowCreated s ws ts ds hs cs ts′ ds′ cs′ r
   unfolding has
   create-issues f in8 m k = record {
     carried = λ u w d. ends-issuing (λ σ. u) (λ σ. used createToken s σ) k λ σ v p. record {
       valid = facts-valid (used createToken s σ) (mark σ s createToken (valid-facts σ v) in8 refl .step .facts);
       parts = record {
         handles = used-handles (p .handles) createToken s;
-        stations = used-stations (p .stations) createToken s;
-        tokens = m .tokens σ v (p .tokens) (p .stations);
+        control = used-control (p .control) createToken s;
+        tokens = m .tokens σ v (p .tokens) (p .control);
       };
       words = w;
       bytes = no-dacl u d;
@@ -95,16 +88,16 @@ module _ (s : ℕ) {ws : List ℕ} {hs : List Handle} {ss ts ds : List ℕ} {b :
 
 -- ---- the request
 
-module _ (s user session integrity present byDefault : ℕ) (body : List ℕ) (at count : ℕ) {hs : List Handle} {ss ts ds : List ℕ} {b : Bool} (h : Held createToken s ts ss b) where
-  is-held : {c : Bool} → not b ≡ c → (σ : State) → valid σ ≡ true → PartsIn σ hs ss ts ds → not (held σ s createToken) ≡ c
-  is-held f σ v p = ap not (sym (h .held σ v (p .tokens) (p .stations))) ∙ f
+module _ (s user session integrity present byDefault : ℕ) (body : List ℕ) (at count : ℕ) {hs : List Handle} {cs ts ds : List ℕ} {b : Bool} (h : Held createToken s ts cs b) where
+  is-held : {c : Bool} → not b ≡ c → (σ : State) → valid σ ≡ true → PartsIn σ ts ds hs cs → not (held σ s createToken) ≡ c
+  is-held f σ v p = ap not (sym (h .held σ v (p .tokens) (p .control))) ∙ f
 
-  pub create-not-held : {r : Outcome} → not b ≡ true → Ends (answers.Refused 4) r → CreateCarried s user session integrity present byDefault body at count hs ss ts ds ss ts ds r
+  pub create-not-held : {r : Outcome} → not b ≡ true → Ends (answers.Refused 4) r → CreateCarried s user session integrity present byDefault body at count ts ds hs cs ts ds cs r
   unfolding create
   create-not-held {r} f e = record { carried = λ gs later q. refuses 4 r e (omega arith) (λ σ v p. fails (held σ s createToken) σ 4 _ (is-held f σ v p)) }
 
   module _ (f : not b ≡ false) {n : ℕ} {ws : List ℕ} {ok : Bool} (g : RowMade n user session integrity present byDefault body at count ws ok) where
-    pub create-refused : {r : Outcome} → not ok ≡ true → Ends (answers.Refused 5) r → CreateCarried s user session integrity present byDefault body at count hs ss ts ds ss ts ds r
+    pub create-refused : {r : Outcome} → not ok ≡ true → Ends (answers.Refused 5) r → CreateCarried s user session integrity present byDefault body at count ts ds hs cs ts ds cs r
     unfolding create
     create-refused {r} k e = record {
       carried = λ gs later q. refuses 5 r e (omega arith) λ σ v p.
@@ -112,8 +105,8 @@ module _ (s user session integrity present byDefault : ℕ) (body : List ℕ) (a
           ∙ fails (validCreate user integrity present byDefault gs) σ 5 _ (ap not (sym (g .valid gs later q)) ∙ k);
     }
 
-    pub creates : {ss′ ts′ ds′ : List ℕ} {r : Outcome} → not ok ≡ false → NextToken ss n → RowCreated s ws hs ss ts ds ss′ ts′ ds′ r
-        → CreateCarried s user session integrity present byDefault body at count hs ss ts ds ss′ ts′ ds′ r
+    pub creates : {cs′ ts′ ds′ : List ℕ} {r : Outcome} → not ok ≡ false → NextGiven tokenCounter cs n → RowCreated s ws ts ds hs cs ts′ ds′ cs′ r
+        → CreateCarried s user session integrity present byDefault body at count ts ds hs cs ts′ ds′ cs′ r
     unfolding create newToken noDefaults
     creates k next c = record {
       carried = λ gs later q.
@@ -121,6 +114,6 @@ module _ (s user session integrity present byDefault : ℕ) (body : List ℕ) (a
           carried-as (λ σ v p.
           holds (held σ s createToken) σ privilegeNotHeld _ (is-held f σ v p)
           ∙ holds (validCreate user integrity present byDefault gs) σ badField _ (ap not (sym (g .valid gs later q)) ∙ k)
-          ∙ ap (λ (j : ℕ). carriedOut σ (need canIssue σ else tableFull then issued s allRights (made j) (used createToken s σ))) (sym (next .next σ (p .stations))))
+          ∙ ap (λ (j : ℕ). carriedOut σ (need canIssue σ else tableFull then issued s allRights (made j) (used createToken s σ))) (sym (next .next σ (p .control))))
           (c .carried (made n) (g .made gs later q (not-false ok k)) refl);
     }

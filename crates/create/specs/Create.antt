@@ -27,11 +27,11 @@ pub record RowMade (n user session integrity present byDefault : ℕ) (s : List 
       → ws ≡ tokenRow (newToken n (primaryOf user session integrity) (granted present byDefault) (map entered gs))
 
 -- whatever token without a DACL the row is of
-pub record RowCreated (s : ℕ) (ws : List ℕ) (hs : List Handle) (ss ts ds ss′ ts′ ds′ : List ℕ) (r : Outcome) : Type 0 where
+pub record RowCreated (s : ℕ) (ws ts ds : List ℕ) (hs : List Handle) (cs ts′ ds′ cs′ : List ℕ) (r : Outcome) : Type 0 where
   pub carried : (u : Token) → ws ≡ tokenRow u → u .defaults .dacl ≡ []
-      → Carried (λ σ. need canIssue σ else tableFull then issued s allRights u (used createToken s σ)) hs ss ts ds ss′ ts′ ds′ r
+      → Carried (λ σ. need canIssue σ else tableFull then issued s allRights u (used createToken s σ)) ts ds hs cs ts′ ds′ cs′ r
 
-pub record CreateCarried (station user session integrity present byDefault : ℕ) (s : List ℕ) (at count : ℕ)
-    (hs : List Handle) (ss ts ds ss′ ts′ ds′ : List ℕ) (r : Outcome) : Type 0 where
+pub record CreateCarried (station user session integrity present byDefault : ℕ) (s : List ℕ) (at count : ℕ) (ts ds : List ℕ) (hs : List Handle)
+    (cs ts′ ds′ cs′ : List ℕ) (r : Outcome) : Type 0 where
   pub carried : (gs : List Group) (later : List ℕ) → times count group (drop at s) ≡ got gs later
-      → Carried (λ σ. create σ station user session integrity present byDefault gs) hs ss ts ds ss′ ts′ ds′ r
+      → Carried (λ σ. create σ station user session integrity present byDefault gs) ts ds hs cs ts′ ds′ cs′ r

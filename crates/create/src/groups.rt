@@ -28,7 +28,7 @@ fn valid_pair(user: u32, g: Group) -> bool
     let attributes = g.attributes as u64;
     let low = words::has(attributes, 30);
     let high = words::has(attributes, 31);
-    let on = attributes::is_on_by_default(g);
+    let on = attributes::is_enabled_by_default(g);
     words::within(attributes, GIVABLE)
         & (low & high | !low & !high)
         & (!attributes::is_fixed(user, g) | on)
@@ -38,8 +38,8 @@ fn valid_pair(user: u32, g: Group) -> bool
 fn entered(g: Group) -> Group
     ensures { λ r. ⌜ groupOf r ≡ entered (groupOf g) ⌝ }
 {
-    if attributes::is_on_by_default(g) {
-        attributes::switched(g, true)
+    if attributes::is_enabled_by_default(g) {
+        attributes::with_enabled(g, true)
     } else {
         g
     }

@@ -4,13 +4,14 @@ ghost use Prim.Native.Nat.{_<_};
 ghost use lib.ListN.{length, replicate};
 ghost use Rattle.rules.specs.State.{stationCount};
 ghost use Rattle.rules.specs.Memory.{tokenWords};
-ghost use Rattle.rules.specs.Create.{validIntegrity};
 ghost use Rattle.handle.specs.Words.{recordsIn};
 ghost use Rattle.state.specs.Parts.{Lent};
 ghost use Rattle.create.specs.Create.{RowMade, RowCreated, CreateCarried};
 use crate::groups::read_groups;
 use answer::refusal;
 use body::fields::CreateFields;
+use control::counters;
+use control::layout::NEXT_TOKEN;
 use decide::issue::can_issue;
 use decide::issue::issue_row;
 use decide::outcome;
@@ -20,7 +21,6 @@ use privilege::mask::Mask;
 use privilege::privileges::Privileges;
 use privilege::words;
 use state::tokens::held;
-use state::tokens::next_token;
 use state::tokens::used;
 use token::Identity;
 use token::layout::MAX_DACL;
@@ -28,14 +28,6 @@ use token::layout::TOKEN_WORDS;
 use token::row;
 
 mod groups;
-
-const PRIMARY: u8 = 1;
-
-fn valid_integrity(i: u32) -> bool
-    ensures { λ r. ⌜ r ≡ validIntegrity i ⌝ }
-{
-    (i == 0) | ((i == 4096) | ((i == 8192) | ((i == 12288) | (i == 16384))))
-}
 
 // The new token's row, where every field is good. Its groups stand in the body.
 fn make(n: u64, f: CreateFields, s: &[u8], row: &mut [u64]) -> bool
@@ -46,13 +38,13 @@ fn make(n: u64, f: CreateFields, s: &[u8], row: &mut [u64]) -> bool
     let identity = Identity {
         user: f.user,
         session: f.session,
-        kind: PRIMARY,
+        kind: Identity::PRIMARY,
         level: 0,
         integrity: f.integrity,
     };
     let granted = Privileges::granted(f.present, f.by_default);
     row::set_head(row, n, identity, granted, read.count);
-    valid_integrity(f.integrity)
+    token::valid_integrity(f.integrity as u64)
         & words::within(f.by_default, f.present)
         & words::within(f.present, Privileges::EXISTING)
         & read.ok
@@ -65,15 +57,15 @@ fn issue_created(
     handles: &[u64; HANDLE_WORDS],
     tokens: &mut [u64],
     dacls: &mut [u8],
-    stations: &mut [u64],
+    control: &mut [u64],
 ) -> Outcome
-    requires { ⌜ Lent (now tokens) (now dacls) (now stations) × (station < stationCount) × (length (now row) ≡ tokenWords) ⌝ }
-    ensures { λ r. ⌜ RowCreated station (now (row .entry)) (recordsIn (now (handles .entry))) (now (stations .entry)) (now (tokens .entry)) (now (dacls .entry)) (now (stations .exit)) (now (tokens .exit)) (now (dacls .exit)) r ⌝ }
+    requires { ⌜ Lent (now tokens) (now dacls) (now control) × (station < stationCount) × (length (now row) ≡ tokenWords) ⌝ }
+    ensures { λ r. ⌜ RowCreated station (now (row .entry)) (now (tokens .entry)) (now (dacls .entry)) (recordsIn (now (handles .entry))) (now (control .entry)) (now (tokens .exit)) (now (dacls .exit)) (now (control .exit)) r ⌝ }
 {
-    if !can_issue(handles, tokens, stations) {
+    if !can_issue(handles, tokens, control) {
         return outcome::refused(refusal::TABLE_FULL);
     }
-    used(Privileges::CREATE_TOKEN, station, tokens, stations);
+    used(Privileges::CREATE_TOKEN, station, tokens, control);
     let all = Mask::ALL;
     let dacl = [0u8; MAX_DACL];
     issue_row(
@@ -84,7 +76,7 @@ fn issue_created(
         handles,
         tokens,
         dacls,
-        stations,
+        control,
     )
 }
 
@@ -95,18 +87,18 @@ pub fn create(
     handles: &[u64; HANDLE_WORDS],
     tokens: &mut [u64],
     dacls: &mut [u8],
-    stations: &mut [u64],
+    control: &mut [u64],
 ) -> Outcome
-    requires { ⌜ Lent (now tokens) (now dacls) (now stations) × (station < stationCount) ⌝ }
-    ensures { λ r. ⌜ CreateCarried station (f .user) (f .session) (f .integrity) (f .present) (f .«by_default») (now (s .entry)) (f .at) (f .count) (recordsIn (now (handles .entry))) (now (stations .entry)) (now (tokens .entry)) (now (dacls .entry)) (now (stations .exit)) (now (tokens .exit)) (now (dacls .exit)) r ⌝ }
+    requires { ⌜ Lent (now tokens) (now dacls) (now control) × (station < stationCount) ⌝ }
+    ensures { λ r. ⌜ CreateCarried station (f .user) (f .session) (f .integrity) (f .present) (f .«by_default») (now (s .entry)) (f .at) (f .count) (now (tokens .entry)) (now (dacls .entry)) (recordsIn (now (handles .entry))) (now (control .entry)) (now (tokens .exit)) (now (dacls .exit)) (now (control .exit)) r ⌝ }
 {
-    if !held(Privileges::CREATE_TOKEN, station, tokens, stations) {
+    if !held(Privileges::CREATE_TOKEN, station, tokens, control) {
         return outcome::refused(refusal::PRIVILEGE_NOT_HELD);
     }
-    let n = next_token(stations);
+    let n = counters::next(NEXT_TOKEN, control);
     let mut row = [0u64; TOKEN_WORDS];
     if !make(n, f, s, &mut row) {
         return outcome::refused(refusal::BAD_FIELD);
     }
-    issue_created(station, &row, handles, tokens, dacls, stations)
+    issue_created(station, &row, handles, tokens, dacls, control)
 }

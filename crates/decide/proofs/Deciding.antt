@@ -44,11 +44,11 @@ records-long σ hs v i =
 no-change : (σ : State) (hs : List Handle) (a : Answer) (r : Outcome) → valid σ ≡ true → HandlesIn σ hs → Ends a r → changed hs (r .change) ≡ hs
 no-change σ hs a r v i e = set-out hs (r .change .slot) (r .change .handle) (let l = records-long σ hs v i in let s = e .slot in omega arith)
 
-module _ {x : State → Decision} {hs : List Handle} {ss ts ds : List ℕ} where
+module _ {x : State → Decision} {hs : List Handle} {cs ts ds : List ℕ} where
   -- a refusal: nothing changes
   pub refuses : (n : ℕ) (r : Outcome) → Ends (answers.Refused n) r → n < 128
-      → ((σ : State) → valid σ ≡ true → PartsIn σ hs ss ts ds → carriedOut σ (x σ) ≡ record { state = σ; answer = n ∷ [] })
-      → Carried x hs ss ts ds ss ts ds r
+      → ((σ : State) → valid σ ≡ true → PartsIn σ ts ds hs cs → carriedOut σ (x σ) ≡ record { state = σ; answer = n ∷ [] })
+      → Carried x ts ds hs cs ts ds cs r
   refuses n r e l d = record {
     parts = λ σ v p. rw (d σ v p) (rw (no-change σ hs (answers.Refused n) r v (p .handles) e) p);
     answer = λ σ v p. rw (d σ v p) (ap (answerOf ts ds) (e .answer));
@@ -56,21 +56,21 @@ module _ {x : State → Decision} {hs : List Handle} {ss ts ds : List ℕ} where
   }
 
   -- an effect that changes no handle
-  pub ends-with : (a : Answer) (r : Outcome) {ss′ ts′ ds′ : List ℕ} → Ends a r
-      → ((σ : State) → valid σ ≡ true → PartsIn σ hs ss ts ds → Fit ts′ ds′ a)
-      → ((σ : State) → valid σ ≡ true → PartsIn σ hs ss ts ds → PartsIn (carriedOut σ (x σ) .state) hs ss′ ts′ ds′)
-      → ((σ : State) → valid σ ≡ true → PartsIn σ hs ss ts ds → answerOf ts′ ds′ a ≡ carriedOut σ (x σ) .answer)
-      → Carried x hs ss ts ds ss′ ts′ ds′ r
-  ends-with a r {ss′} {ts′} {ds′} e g f d = record {
+  pub ends-with : (a : Answer) (r : Outcome) {cs′ ts′ ds′ : List ℕ} → Ends a r
+      → ((σ : State) → valid σ ≡ true → PartsIn σ ts ds hs cs → Fit ts′ ds′ a)
+      → ((σ : State) → valid σ ≡ true → PartsIn σ ts ds hs cs → PartsIn (carriedOut σ (x σ) .state) ts′ ds′ hs cs′)
+      → ((σ : State) → valid σ ≡ true → PartsIn σ ts ds hs cs → answerOf ts′ ds′ a ≡ carriedOut σ (x σ) .answer)
+      → Carried x ts ds hs cs ts′ ds′ cs′ r
+  ends-with a r {cs′} {ts′} {ds′} e g f d = record {
     parts = λ σ v p. rw (no-change σ hs a r v (p .handles) e) (f σ v p);
     answer = λ σ v p. ap (answerOf ts′ ds′) (e .answer) ∙ d σ v p;
     fit = λ σ v p. subst (Fit ts′ ds′) (sym (e .answer)) (g σ v p);
   }
 
 -- another decision that comes to the same
-pub carried-as : {x y : State → Decision} {hs : List Handle} {ss ts ds ss′ ts′ ds′ : List ℕ} {r : Outcome}
-    → ((σ : State) → valid σ ≡ true → PartsIn σ hs ss ts ds → carriedOut σ (x σ) ≡ carriedOut σ (y σ))
-    → Carried y hs ss ts ds ss′ ts′ ds′ r → Carried x hs ss ts ds ss′ ts′ ds′ r
+pub carried-as : {x y : State → Decision} {hs : List Handle} {cs ts ds cs′ ts′ ds′ : List ℕ} {r : Outcome}
+    → ((σ : State) → valid σ ≡ true → PartsIn σ ts ds hs cs → carriedOut σ (x σ) ≡ carriedOut σ (y σ))
+    → Carried y ts ds hs cs ts′ ds′ cs′ r → Carried x ts ds hs cs ts′ ds′ cs′ r
 carried-as e c = record {
   parts = λ σ v p. rw (e σ v p) (c .parts σ v p);
   answer = λ σ v p. rw (e σ v p) (c .answer σ v p);

@@ -18,16 +18,16 @@ use Rattle.decide.specs.Carried.{Ends, Carried}
 use Rattle.decide.specs.Issue.{NumbersLeft, IssueRoom}
 use Rattle.decide.proofs.Deciding.{fails, refuses}
 
-pub issue-room : {hs : List Handle} {ts ss : List ℕ} {a b : Bool} → HandleRoom hs ss a → CanAdd ts ss b → IssueRoom hs ts ss (a && b)
+pub issue-room : {hs : List Handle} {ts cs : List ℕ} {a b : Bool} → HandleRoom hs cs a → CanAdd ts cs b → IssueRoom ts hs cs (a && b)
 unfolding canIssue
 issue-room {a = a} {b = b} h t = record {
-  room = λ σ v p. ap₂ _&&_ (h .room σ v (p .handles) (p .stations)) (t .canAdd σ v (p .tokens) (p .stations));
+  room = λ σ v p. ap₂ _&&_ (h .room σ v (p .handles) (p .control)) (t .canAdd σ v (p .tokens) (p .control));
   left = λ e. record { token = t .below (and-r a b e); handle = h .next (and-l a b e) };
 }
 
-pub numbers-left : {hs : List Handle} {ts ss : List ℕ} {r : Bool} → IssueRoom hs ts ss r → not r ≡ false → NumbersLeft ss
+pub numbers-left : {hs : List Handle} {ts cs : List ℕ} {r : Bool} → IssueRoom ts hs cs r → not r ≡ false → NumbersLeft cs
 numbers-left {r = r} i f = i .left (not-false r f)
 
-pub room-refuses : {hs : List Handle} {ss ts ds : List ℕ} {b : Bool} {r : Outcome} → IssueRoom hs ts ss b → (rest : State → Decision) → not b ≡ true → Ends (answers.Refused 8) r
-    → Carried (λ σ. need canIssue σ else tableFull then rest σ) hs ss ts ds ss ts ds r
+pub room-refuses : {hs : List Handle} {cs ts ds : List ℕ} {b : Bool} {r : Outcome} → IssueRoom ts hs cs b → (rest : State → Decision) → not b ≡ true → Ends (answers.Refused 8) r
+    → Carried (λ σ. need canIssue σ else tableFull then rest σ) ts ds hs cs ts ds cs r
 room-refuses {r = r} i rest f e = refuses 8 r e (omega arith) (λ σ v p. fails (canIssue σ) σ 8 (rest σ) (ap not (sym (i .room σ v p)) ∙ f))

@@ -86,6 +86,6 @@ located right {s} {n} {hs = hs} {h = h} g m e x = record {
 -- ---- a request that begins with the handle
 
 module _ {s n right : ℕ} {hs : List Handle} {ts : List ℕ} {token mask : ℕ} {x : Located} (g : TokenLocated s n right hs ts token mask x) where
-  pub not-located : {ss ds : List ℕ} (go : State → rules.Handle → Token → Decision) (r : Outcome) → Ends (answers.Refused (x .refusal)) r → (x .refusal ≡ 0 → ⊥)
-      → Carried (λ σ. withHandle σ s n right (go σ)) hs ss ts ds ss ts ds r
+  pub not-located : {cs ds : List ℕ} (go : State → rules.Handle → Token → Decision) (r : Outcome) → Ends (answers.Refused (x .refusal)) r → (x .refusal ≡ 0 → ⊥)
+      → Carried (λ σ. withHandle σ s n right (go σ)) ts ds hs cs ts ds cs r
   not-located go r e f = refuses (x .refusal) r e (g .small) (λ σ v p. stops-at σ s n right (go σ) (g .refusal σ v (p .handles) (p .tokens)) f)

@@ -109,6 +109,6 @@ module _ {s n right : ℕ} {hs : List Handle} {h : Handle} {k : ℕ} (l : Looked
       (found-handle σ s n (valid-facts σ v) (is-known (isLive (findHandle σ s n)) (permits (state.handleOf σ s n .mask) right) (sym (l .refusal σ v i) ∙ e)))
 
   -- the refusal of any request that begins with the handle
-  pub handle-refuses : {ss ts ds : List ℕ} (go : State → rules.Handle → Token → Decision) (r : Outcome) → Ends (answers.Refused (k)) r → (k ≡ 0 → ⊥)
-      → Carried (λ σ. withHandle σ s n right (go σ)) hs ss ts ds ss ts ds r
+  pub handle-refuses : {cs ts ds : List ℕ} (go : State → rules.Handle → Token → Decision) (r : Outcome) → Ends (answers.Refused (k)) r → (k ≡ 0 → ⊥)
+      → Carried (λ σ. withHandle σ s n right (go σ)) ts ds hs cs ts ds cs r
   handle-refuses go r e f = refuses (k) r e (l .small) (λ σ v p. looked-up-refused σ v (p .handles) (go σ) f)

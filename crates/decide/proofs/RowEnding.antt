@@ -36,11 +36,11 @@ served-answer : (σ : State) (z : Ending) → served σ z .answer ≡ answered z
 served-answer σ (refused n) = refl
 served-answer σ (becomes u bytes) = refl
 
-served-parts : {hs : List Handle} {ss ts ds ts′ ds′ : List ℕ} (σ : State) (z : Ending) → PartsIn σ hs ss ts ds → TokensIn (served σ z .state) ts′ ds′
-    → PartsIn (served σ z .state) hs ss ts′ ds′
+served-parts : {hs : List Handle} {cs ts ds ts′ ds′ : List ℕ} (σ : State) (z : Ending) → PartsIn σ ts ds hs cs → TokensIn (served σ z .state) ts′ ds′
+    → PartsIn (served σ z .state) ts′ ds′ hs cs
 unfolding putToken
-served-parts σ (refused n) p k = record { handles = p .handles; stations = p .stations; tokens = k }
-served-parts σ (becomes u bytes) p k = record { handles = with-tokens (p .handles) _; stations = with-slots (p .stations) _; tokens = k }
+served-parts σ (refused n) p k = record { handles = p .handles; control = p .control; tokens = k }
+served-parts σ (becomes u bytes) p k = record { handles = with-tokens (p .handles) _; control = with-slots (p .control) _; tokens = k }
 
 module _ (n : ℕ) {i : ℕ} {ts ds : List ℕ} (at : FoundAt n ts i) {σ : State} (v : valid σ ≡ true) (h : TokensIn σ ts ds) (l : i < tokenSlots) where
   abbrev t : Token
@@ -58,16 +58,16 @@ module _ (n : ℕ) {i : ℕ} {ts ds : List ℕ} (at : FoundAt n ts i) {σ : Stat
 
 -- ---- the whole request
 
-module _ {s n right : ℕ} {hs : List Handle} {ss ts ds : List ℕ} {token held : ℕ} {y : Located} (g : TokenLocated s n right hs ts token held y) (z : y .refusal ≡ 0)
+module _ {s n right : ℕ} {hs : List Handle} {cs ts ds : List ℕ} {token held : ℕ} {y : Located} (g : TokenLocated s n right hs ts token held y) (z : y .refusal ≡ 0)
     (go : State → handles.Handle → Token → Decision) (x : Token → Ending) (rule : Rule go x) where
-  decided : (σ : State) → valid σ ≡ true → PartsIn σ hs ss ts ds → carriedOut σ (withHandle σ s n right (go σ)) ≡ served σ (x (state.tokenOf σ token))
+  decided : (σ : State) → valid σ ≡ true → PartsIn σ ts ds hs cs → carriedOut σ (withHandle σ s n right (go σ)) ≡ served σ (x (state.tokenOf σ token))
   decided σ v p =
       goes-on σ s n right (go σ) (g .refusal σ v (p .handles) (p .tokens)) z
       ∙ rule σ (state.handleOf σ s n)
       ∙ ap (λ (k : ℕ). served σ (x (state.tokenOf σ k))) (sym (g .token σ v (p .handles)))
 
   -- the token in the row that is lent
-  module _ (σ : State) (v : valid σ ≡ true) (p : PartsIn σ hs ss ts ds) where
+  module _ (σ : State) (v : valid σ ≡ true) (p : PartsIn σ ts ds hs cs) where
     abbrev own : Token
     own = state.tokenOf σ token
 
@@ -83,7 +83,7 @@ module _ {s n right : ℕ} {hs : List Handle} {ss ts ds : List ℕ} {token held 
   -- it leaves the token's number and DACL
   pub row-ends : ((t : Token) → tokenAfter t (x t) .number ≡ t .number) → ((t : Token) → tokenAfter t (x t) .defaults .dacl ≡ t .defaults .dacl)
       → {ws : List ℕ} {a : Answer} → RowEnds x (lent (y .slot) ts) ws a → (r : Outcome) → Ends a r
-      → Carried (λ σ. withHandle σ s n right (go σ)) hs ss ts ds ss (back (y .slot) ws ts) ds r
+      → Carried (λ σ. withHandle σ s n right (go σ)) ts ds hs cs (back (y .slot) ws ts) ds cs r
   row-ends num dacl {ws} {a} e r w = ends-with a r w (λ σ v p. e .fit _ _)
       (λ σ v p. let t = own σ v p in
       rw (decided σ v p) (served-parts σ (x t) p
@@ -93,7 +93,7 @@ module _ {s n right : ℕ} {hs : List Handle} {ss ts ds : List ℕ} {token held 
   -- it leaves the token's number
   pub rows-end : ((t : Token) → tokenAfter t (x t) .number ≡ t .number)
       → {ws bs : List ℕ} {a : Answer} → RowsEnd x (lent (y .slot) ts) (lent-dacl (y .slot) ds) ws bs a → (r : Outcome) → Ends a r
-      → Carried (λ σ. withHandle σ s n right (go σ)) hs ss ts ds ss (back (y .slot) ws ts) (back-dacl (y .slot) bs ds) r
+      → Carried (λ σ. withHandle σ s n right (go σ)) ts ds hs cs (back (y .slot) ws ts) (back-dacl (y .slot) bs ds) cs r
   rows-end num {ws} {bs} {a} e r w = ends-with a r w (λ σ v p. e .ends .fit _ _)
       (λ σ v p. let t = own σ v p in
       let dacl = lent-dacl-row token (g .slot z) v (p .tokens) (g .inside) in

@@ -1,6 +1,6 @@
 -- A token that is issued by its rows, and how a request that issues one is decided. Assumes nothing.
 use Prim.Native.Nat.{ℕ, _+_}
-use mathlib.Core.Path.{_≡_, sym, ap, subst}
+use mathlib.Core.Path.{_≡_, refl, sym, ap, subst}
 use mathlib.Core.Bool.{true}
 use mathlib.Core.List.{List}
 use lib.ListN.{getD}
@@ -8,9 +8,10 @@ use Rattle.rules.specs.Token.{Token}
 use Rattle.rules.specs.Table.{added}
 use Rattle.rules.specs.Valid.{valid}
 use Rattle.rules.specs.State.{State, noToken, withTokens, withHandles, addToken, addHandle}
-use Rattle.rules.specs.Memory.{head, tokenRow, daclRow}
+use Rattle.rules.specs.Memory.{sections, head, tokenRow, daclRow}
 use Rattle.rules.specs.Decision.{Decision, carriedOut, issued}
 use Rattle.handle.specs.declared.Handle.{Handle}
+use Rattle.control.proofs.Sections.{control-same}
 use Rattle.state.specs.Parts.{HandlesIn}
 use Rattle.state.specs.Formed.{Formed}
 use Rattle.state.specs.TokenCalls.{RowAdded}
@@ -29,8 +30,8 @@ number-in : (ws : List ℕ) (u : Token) → ws ≡ tokenRow u → getD ws 0 0 �
 unfolding tokenRow head
 number-in ws u e = ap (λ (l : List ℕ). getD l 0 0) e
 
-module _ {s mask : ℕ} {ws bs : List ℕ} {hs : List Handle} {ss ts ds ss₁ ts′ ds′ ss′ : List ℕ} {c : Change}
-    (a : RowAdded ws bs ts ds ss ts′ ds′ ss₁) (h : HandleAdded s (getD ws 0 0) mask hs ss₁ ss′ c) where
+module _ {s mask : ℕ} {ws bs : List ℕ} {hs : List Handle} {cs ts ds cs₁ ts′ ds′ cs′ : List ℕ} {c : Change}
+    (a : RowAdded ws bs ts ds cs ts′ ds′ cs₁) (h : HandleAdded s (getD ws 0 0) mask hs cs₁ cs′ c) where
   -- the state between has a token that may be of any form: the handles are the same as if only the next number had stepped
   abbrev stepped : State → State
   stepped σ = withTokens (record { slots = σ .tokens .slots; next = σ .tokens .next + 1 }) σ
@@ -39,40 +40,40 @@ module _ {s mask : ℕ} {ws bs : List ℕ} {hs : List Handle} {ss ts ds ss₁ ts
   unfolding withTokens
   stepped-formed σ f = record { token-slots = f .token-slots; handle-slots = f .handle-slots; tokens = f .tokens; handles = f .handles }
 
-  handles-after : (u : Token) (σ : State) → valid σ ≡ true → PartsIn σ hs ss ts ds → HandlesIn (addHandle s (getD ws 0 0) mask (addToken u σ)) (changed hs c)
-  unfolding addToken withTokens added addHandle withHandles
+  handles-after : (u : Token) (σ : State) → valid σ ≡ true → PartsIn σ ts ds hs cs → HandlesIn (addHandle s (getD ws 0 0) mask (addToken u σ)) (changed hs c)
+  unfolding addToken withTokens added addHandle withHandles sections
   handles-after u σ v p = record {
-    records = h .handles (stepped σ) (stepped-formed σ (valid-formed σ v)) (record { records = p .handles .records }) (record { words = a .stations u σ (p .stations) .words }) .records;
+    records = h .handles (stepped σ) (stepped-formed σ (valid-formed σ v)) (record { records = p .handles .records }) (control-same refl (a .control u σ (p .control))) .records;
   }
 
-  pub row-issues : RowIssued s mask ws bs hs ss ts ds ss′ ts′ ds′ (record { answer = answers.Value (c .handle .number); change = c })
+  pub row-issues : RowIssued s mask ws bs ts ds hs cs ts′ ds′ cs′ (record { answer = answers.Value (c .handle .number); change = c })
   unfolding addToken withTokens addHandle
   row-issues = record {
-    parts = λ u w b σ v p. subst (λ (k : ℕ). PartsIn (addHandle s k mask (addToken u σ)) (changed hs c) ss′ ts′ ds′) (number-in ws u w) (record {
+    parts = λ u w b σ v p. subst (λ (k : ℕ). PartsIn (addHandle s k mask (addToken u σ)) ts′ ds′ (changed hs c) cs′) (number-in ws u w) (record {
       handles = handles-after u σ v p;
-      stations = h .stations (addToken u σ) (a .stations u σ (p .stations));
+      control = h .control (addToken u σ) (a .control u σ (p .control));
       tokens = with-handles (a .tokens u w b σ v (p .tokens)) _;
     });
-    answer = λ σ j. ap answers.Value (h .number (addToken noToken σ) (a .stations noToken σ j));
+    answer = λ σ j. ap answers.Value (h .number (addToken noToken σ) (a .control noToken σ j));
   }
 
 -- ---- how a request that issues is decided
 
 -- in the state before, or in the one where a used bit is set; u is the new token
-pub record Ready (x : Decision) (s mask : ℕ) (u : Token) (ws bs : List ℕ) (hs : List Handle) (ss ts ds : List ℕ) (σ τ : State) : Type 0 where
+pub record Ready (x : Decision) (s mask : ℕ) (u : Token) (ws bs ts ds : List ℕ) (hs : List Handle) (cs : List ℕ) (σ τ : State) : Type 0 where
   pub valid : valid τ ≡ true
-  pub parts : PartsIn τ hs ss ts ds
+  pub parts : PartsIn τ ts ds hs cs
   pub words : ws ≡ tokenRow u
   pub bytes : bs ≡ daclRow u
   pub decided : carriedOut σ x ≡ carriedOut σ (issued s mask u τ)
 
-pub ends-issuing : {x : State → Decision} {s mask : ℕ} {ws bs : List ℕ} {hs : List Handle} {ss ts ds ss₁ ts₁ ds₁ ss′ ts′ ds′ : List ℕ} {r : Outcome} (u : State → Token) (τ : State → State)
-    → RowIssued s mask ws bs hs ss₁ ts₁ ds₁ ss′ ts′ ds′ r
-    → ((σ : State) → valid σ ≡ true → PartsIn σ hs ss ts ds → Ready (x σ) s mask (u σ) ws bs hs ss₁ ts₁ ds₁ σ (τ σ))
-    → Carried x hs ss ts ds ss′ ts′ ds′ r
+pub ends-issuing : {x : State → Decision} {s mask : ℕ} {ws bs : List ℕ} {hs : List Handle} {cs ts ds cs₁ ts₁ ds₁ cs′ ts′ ds′ : List ℕ} {r : Outcome} (u : State → Token) (τ : State → State)
+    → RowIssued s mask ws bs ts₁ ds₁ hs cs₁ ts′ ds′ cs′ r
+    → ((σ : State) → valid σ ≡ true → PartsIn σ ts ds hs cs → Ready (x σ) s mask (u σ) ws bs ts₁ ds₁ hs cs₁ σ (τ σ))
+    → Carried x ts ds hs cs ts′ ds′ cs′ r
 unfolding carriedOut issued
 ends-issuing {ts′ = ts′} {ds′ = ds′} u τ i d = record {
   parts = λ σ v p. let k = d σ v p in rw (k .decided) (i .parts (u σ) (k .words) (k .bytes) (τ σ) (k .valid) (k .parts));
-  answer = λ σ v p. let k = d σ v p in rw (k .decided) (ap (answerOf ts′ ds′) (i .answer (τ σ) (k .parts .stations)));
-  fit = λ σ v p. let k = d σ v p in subst (Fit ts′ ds′) (sym (i .answer (τ σ) (k .parts .stations))) tt;
+  answer = λ σ v p. let k = d σ v p in rw (k .decided) (ap (answerOf ts′ ds′) (i .answer (τ σ) (k .parts .control)));
+  fit = λ σ v p. let k = d σ v p in subst (Fit ts′ ds′) (sym (i .answer (τ σ) (k .parts .control))) tt;
 }

@@ -19,8 +19,8 @@ pub record Ends (a : Answer) (r : Outcome) : Type 0 where
   pub slot : r .change .slot ≡ handleSlots
 
 -- the parts before and after, and how the request ended
-pub record Carried (x : State → Decision) (hs : List Handle) (ss ts ds ss′ ts′ ds′ : List ℕ) (r : Outcome) : Type 0 where
-  pub parts : (σ : State) → valid σ ≡ true → PartsIn σ hs ss ts ds → PartsIn (carriedOut σ (x σ) .state) (changed hs (r .change)) ss′ ts′ ds′
-  pub answer : (σ : State) → valid σ ≡ true → PartsIn σ hs ss ts ds → answerOf ts′ ds′ (r .answer) ≡ carriedOut σ (x σ) .answer
+pub record Carried (x : State → Decision) (ts ds : List ℕ) (hs : List Handle) (cs ts′ ds′ cs′ : List ℕ) (r : Outcome) : Type 0 where
+  pub parts : (σ : State) → valid σ ≡ true → PartsIn σ ts ds hs cs → PartsIn (carriedOut σ (x σ) .state) ts′ ds′ (changed hs (r .change)) cs′
+  pub answer : (σ : State) → valid σ ≡ true → PartsIn σ ts ds hs cs → answerOf ts′ ds′ (r .answer) ≡ carriedOut σ (x σ) .answer
   -- it can be written
-  pub fit : (σ : State) → valid σ ≡ true → PartsIn σ hs ss ts ds → Fit ts′ ds′ (r .answer)
+  pub fit : (σ : State) → valid σ ≡ true → PartsIn σ ts ds hs cs → Fit ts′ ds′ (r .answer)

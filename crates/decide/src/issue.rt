@@ -4,10 +4,9 @@ ghost use Prim.Native.Nat.{_*_, _<_};
 ghost use lib.ListN.{length};
 ghost use Rattle.rules.specs.Token.{maxDacl};
 ghost use Rattle.rules.specs.State.{tokenSlots, stationCount};
-ghost use Rattle.rules.specs.Memory.{tokenWords};
+ghost use Rattle.rules.specs.Memory.{tokenWords, controlWords};
 ghost use Rattle.handle.specs.Words.{recordsIn};
 ghost use Rattle.state.specs.Parts.{Lent};
-ghost use Rattle.state.specs.StationFacts.{stationsSize};
 ghost use Rattle.decide.specs.Issue.{NumbersLeft, IssueRoom, RowIssued};
 use crate::outcome::Outcome;
 use answer::Answer;
@@ -19,12 +18,12 @@ use state::tokens::can_add_token;
 use token::layout::NUMBER;
 
 // Both tables have a free slot and a number left.
-pub fn can_issue(handles: &[u64; HANDLE_WORDS], tokens: &[u64], stations: &[u64]) -> bool
-    requires { ⌜ (length (now tokens) ≡ tokenSlots * tokenWords) × (length (now stations) ≡ stationsSize) ⌝ }
-    ensures { λ r. ⌜ IssueRoom (recordsIn (now (handles .entry))) (now (tokens .entry)) (now (stations .entry)) r ⌝ }
+pub fn can_issue(handles: &[u64; HANDLE_WORDS], tokens: &[u64], control: &[u64]) -> bool
+    requires { ⌜ (length (now tokens) ≡ tokenSlots * tokenWords) × (length (now control) ≡ controlWords) ⌝ }
+    ensures { λ r. ⌜ IssueRoom (now (tokens .entry)) (recordsIn (now (handles .entry))) (now (control .entry)) r ⌝ }
 {
-    let handle = can_add_handle(handles, stations);
-    let token = can_add_token(tokens, stations);
+    let handle = can_add_handle(handles, control);
+    let token = can_add_token(tokens, control);
     handle & token
 }
 
@@ -37,13 +36,13 @@ pub fn issue_row(
     handles: &[u64; HANDLE_WORDS],
     tokens: &mut [u64],
     dacls: &mut [u8],
-    stations: &mut [u64],
+    control: &mut [u64],
 ) -> Outcome
-    requires { ⌜ Lent (now tokens) (now dacls) (now stations) × (length (now words) ≡ tokenWords) × (length (now bytes) ≡ maxDacl) × NumbersLeft (now stations) × (station < stationCount) ⌝ }
-    ensures { λ r. ⌜ RowIssued station mask (now (words .entry)) (now (bytes .entry)) (recordsIn (now (handles .entry))) (now (stations .entry)) (now (tokens .entry)) (now (dacls .entry)) (now (stations .exit)) (now (tokens .exit)) (now (dacls .exit)) r ⌝ }
+    requires { ⌜ Lent (now tokens) (now dacls) (now control) × (length (now words) ≡ tokenWords) × (length (now bytes) ≡ maxDacl) × NumbersLeft (now control) × (station < stationCount) ⌝ }
+    ensures { λ r. ⌜ RowIssued station mask (now (words .entry)) (now (bytes .entry)) (now (tokens .entry)) (now (dacls .entry)) (recordsIn (now (handles .entry))) (now (control .entry)) (now (tokens .exit)) (now (dacls .exit)) (now (control .exit)) r ⌝ }
 {
-    add_row(words, bytes, tokens, dacls, stations);
-    let change = add_handle(station, words[NUMBER], mask, handles, stations);
+    add_row(words, bytes, tokens, dacls, control);
+    let change = add_handle(station, words[NUMBER], mask, handles, control);
     let added = change.handle;
     let number = added.number as u64;
     Outcome {

@@ -11,6 +11,7 @@ ghost use Rattle.rules.specs.State.{handleToken, handleSlots};
 ghost use Rattle.rules.specs.Memory.{word32};
 ghost use Rattle.handle.specs.Meaning.{slotsOf, none, isFree, isNamed, refersTo};
 ghost use Rattle.handle.specs.Words.{word16, slotWords, firstWord, recordsIn};
+use table::WORD_32;
 
 pub mod list;
 
@@ -22,8 +23,6 @@ const SLOT_WORDS: usize = 2;
 pub const HANDLE_WORDS: usize = SLOTS * SLOT_WORDS;
 
 const WORD_16: u64 = 65536;
-
-const WORD_32: u64 = 4294967296;
 
 // 16 bytes, none of them padding.
 #[repr(C)]

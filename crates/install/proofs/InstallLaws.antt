@@ -22,10 +22,10 @@ use Rattle.rules.proofs.Steps.{Is}
 use Rattle.rules.proofs.Kept.{mark, marks, same-identity}
 use Rattle.handle.specs.declared.Handle.{Handle}
 use Rattle.token.specs.declared.Identity.{Identity}
-use Rattle.state.specs.StationFacts.{CallerNumber}
+use Rattle.control.specs.Stations.{CallerNumber}
 use Rattle.state.specs.TokenCalls.{IdentityGiven, Held, Used}
 use Rattle.state.specs.ReleaseFacts.{PartsIn, Installed}
-use Rattle.state.proofs.TokenFrames.{used-stations, used-handles}
+use Rattle.state.proofs.TokenFrames.{used-control, used-handles}
 use Rattle.answer.specs.declared.Answer.the-variants as answers
 use Rattle.decide.specs.declared.outcome.Outcome.{Outcome}
 use Rattle.decide.specs.Carried.{Ends, Carried}
@@ -35,8 +35,8 @@ use Rattle.install.specs.Install.{Matching, refusalNumber, Checked, Mark
 
 -- ---- the checks
 
-pub matching : {token s own : ℕ} {ts ss : List ℕ} {a b : Identity} → CallerNumber s ss own → IdentityGiven token ts a → IdentityGiven own ts b
-    → Matching token s ts ss (eqb (a .user) (b .user) && eqb (a .session) (b .session))
+pub matching : {token s own : ℕ} {ts cs : List ℕ} {a b : Identity} → CallerNumber s cs own → IdentityGiven token ts a → IdentityGiven own ts b
+    → Matching token s ts cs (eqb (a .user) (b .user) && eqb (a .session) (b .session))
 unfolding matches caller
 matching {own = own} c f g = record {
   same = λ σ v i j.
@@ -45,44 +45,44 @@ matching {own = own} c f g = record {
       ap₂ (λ (x y : rules.Identity). eqb (x .user) (y .user) && eqb (x .session) (y .session)) p q;
 }
 
-module _ {same : Bool} {token s : ℕ} {ts ss : List ℕ} {may : Bool} (a : Held assignPrimaryToken s ts ss may) where
-  pub not-held : not may ≡ true → Checked same token s ts ss 4
+module _ {same : Bool} {token s : ℕ} {ts cs : List ℕ} {may : Bool} (a : Held assignPrimaryToken s ts cs may) where
+  pub not-held : not may ≡ true → Checked same token s ts cs 4
   not-held f = record { small = omega arith; refusal = λ σ v i j. rw (sym (a .held σ v i j) ∙ not-true may f) }
 
   module _ (ok : not may ≡ false) {t : Identity} (g : IdentityGiven token ts t) where
-    pub not-primary : (t .kind ≡ primary → ⊥) → Checked same token s ts ss 5
+    pub not-primary : (t .kind ≡ primary → ⊥) → Checked same token s ts cs 5
     not-primary f = record {
       small = omega arith;
       refusal = λ σ v i j. rw (sym (a .held σ v i j) ∙ not-false may ok, sym (g .identity σ v i)) (rw (ne-eqb (t .kind) primary f));
     }
 
-    module _ (is : t .kind ≡ primary) {trusted : Bool} (b : Held tcb s ts ss trusted) where
-      tested : (k : ℕ) → k < 128 → k ≡ refusalNumber true true (same || trusted) → Checked same token s ts ss k
+    module _ (is : t .kind ≡ primary) {trusted : Bool} (b : Held tcb s ts cs trusted) where
+      tested : (k : ℕ) → k < 128 → k ≡ refusalNumber true true (same || trusted) → Checked same token s ts cs k
       tested k l e = record {
         small = l;
         refusal = λ σ v i j.
             rw (sym (a .held σ v i j) ∙ not-false may ok, sym (g .identity σ v i)) (rw (eq-eqb (t .kind) primary is, sym (b .held σ v i j)) e);
       }
 
-      pub allowed : (same || trusted) ≡ true → Checked same token s ts ss 0
+      pub allowed : (same || trusted) ≡ true → Checked same token s ts cs 0
       allowed e = tested 0 (omega arith) (rw e)
 
-      pub mismatched : (same || trusted) ≡ false → Checked same token s ts ss 7
+      pub mismatched : (same || trusted) ≡ false → Checked same token s ts cs 7
       mismatched e = tested 7 (omega arith) (rw e)
 
 -- ---- the used bits
 
-used-parts : {n s : ℕ} {hs : List Handle} {ss ts ds ts′ : List ℕ} (σ : State) → valid σ ≡ true → Used n s ts ss ts′ → PartsIn σ hs ss ts ds
-    → PartsIn (used n s σ) hs ss ts′ ds
+used-parts : {n s : ℕ} {hs : List Handle} {cs ts ds ts′ : List ℕ} (σ : State) → valid σ ≡ true → Used n s ts cs ts′ → PartsIn σ ts ds hs cs
+    → PartsIn (used n s σ) ts′ ds hs cs
 used-parts {n} {s} σ v u p =
-    record { handles = used-handles (p .handles) n s; stations = used-stations (p .stations) n s; tokens = u .tokens σ v (p .tokens) (p .stations) }
+    record { handles = used-handles (p .handles) n s; control = used-control (p .control) n s; tokens = u .tokens σ v (p .tokens) (p .control) }
 
-module _ {same : Bool} {s : ℕ} {ss ts ts′ : List ℕ} (a : Used assignPrimaryToken s ts ss ts′) where
-  pub marks-one : not same ≡ false → MarksUsed same s ss ts ts′
+module _ {same : Bool} {s : ℕ} {cs ts ts′ : List ℕ} (a : Used assignPrimaryToken s ts cs ts′) where
+  pub marks-one : not same ≡ false → MarksUsed same s ts cs ts′
   unfolding marked
   marks-one f = record { parts = λ σ v t e p. rw (sym e ∙ not-false same f) (used-parts σ v a p) }
 
-  pub marks-both : not same ≡ true → s < stationCount → {ts″ : List ℕ} → Used tcb s ts′ ss ts″ → MarksUsed same s ss ts ts″
+  pub marks-both : not same ≡ true → s < stationCount → {ts″ : List ℕ} → Used tcb s ts′ cs ts″ → MarksUsed same s ts cs ts″
   unfolding marked has
   marks-both f in8 b = record {
     parts = λ σ v t e p.
@@ -93,8 +93,8 @@ module _ {same : Bool} {s : ℕ} {ss ts ts′ : List ℕ} (a : Used assignPrimar
 
 -- ---- the effect: the marks leave the token what it was
 
-pub placed : {same : Bool} {token s : ℕ} {hs : List Handle} {ss ts ds ts₁ ss′ ts′ ds′ : List ℕ} → s < stationCount
-    → MarksUsed same s ss ts ts₁ → Installed s token hs ss ts₁ ds ss′ ts′ ds′ → Placed same token s hs ss ts ds ss′ ts′ ds′
+pub placed : {same : Bool} {token s : ℕ} {hs : List Handle} {cs ts ds ts₁ cs′ ts′ ds′ : List ℕ} → s < stationCount
+    → MarksUsed same s ts cs ts₁ → Installed s token ts₁ ds hs cs ts′ ds′ cs′ → Placed same token s ts ds hs cs ts′ ds′ cs′
 placed {token = token} {s = s} in8 u w = record {
   parts = λ σ v p e was number type.
       let f = valid-facts σ v in
@@ -127,13 +127,13 @@ passes σ true true false rest e = absurd (omega arith)
 passes σ true false c rest e = absurd (omega arith)
 passes σ false b c rest e = absurd (omega arith)
 
-module _ {s n : ℕ} {hs : List Handle} {ss ts ds : List ℕ} {h : Handle} {j : ℕ} (l : LookedUp s n assignPrimary hs h j) where
-  pub no-handle : (j ≡ 0 → ⊥) → (r : Outcome) → Ends (answers.Refused j) r → Carried (λ σ. install σ s n) hs ss ts ds ss ts ds r
+module _ {s n : ℕ} {hs : List Handle} {cs ts ds : List ℕ} {h : Handle} {j : ℕ} (l : LookedUp s n assignPrimary hs h j) where
+  pub no-handle : (j ≡ 0 → ⊥) → (r : Outcome) → Ends (answers.Refused j) r → Carried (λ σ. install σ s n) ts ds hs cs ts ds cs r
   unfolding install
   no-handle f r e = handle-refuses l _ r e f
 
-  module _ (z : j ≡ 0) {same : Bool} (m : Matching (h .token) s ts ss same) {k : ℕ} (c : Checked same (h .token) s ts ss k) where
-    module _ (σ : State) (v : valid σ ≡ true) (p : PartsIn σ hs ss ts ds) where
+  module _ (z : j ≡ 0) {same : Bool} (m : Matching (h .token) s ts cs same) {k : ℕ} (c : Checked same (h .token) s ts cs k) where
+    module _ (σ : State) (v : valid σ ≡ true) (p : PartsIn σ ts ds hs cs) where
       abbrev new : rules.Token
       new = state.tokenOf σ (h .token)
 
@@ -142,10 +142,10 @@ module _ {s n : ℕ} {hs : List Handle} {ss ts ds : List ℕ} {h : Handle} {j : 
 
       decided : carriedOut σ (install σ s n) ≡ carriedOut σ (decide (held σ s assignPrimaryToken) (eqb (new .identity .type) primary) (same || held σ s tcb) (success after []))
       unfolding install
-      decided = looked-up l σ v (p .handles) _ z ∙ rw (m .same σ v (p .tokens) (p .stations))
+      decided = looked-up l σ v (p .handles) _ z ∙ rw (m .same σ v (p .tokens) (p .control))
 
       checked : k ≡ refusalNumber (held σ s assignPrimaryToken) (eqb (new .identity .type) primary) (same || held σ s tcb)
-      checked = c .refusal σ v (p .tokens) (p .stations)
+      checked = c .refusal σ v (p .tokens) (p .control)
 
       refused : (k ≡ 0 → ⊥) → carriedOut σ (install σ s n) ≡ record { state = σ; answer = k ∷ [] }
       refused f = decided ∙ rw checked (stops σ _ _ _ _ (rw checked at f))
@@ -156,15 +156,15 @@ module _ {s n : ℕ} {hs : List Handle} {ss ts ds : List ℕ} {h : Handle} {j : 
           let q = passes σ (held σ s assignPrimaryToken) (eqb (new .identity .type) primary) (same || held σ s tcb) (success after []) (sym checked ∙ e) in
           (decided ∙ q .0, q .1)
 
-      after-parts : k ≡ 0 → {ss′ ts′ ds′ : List ℕ} → Placed same (h .token) s hs ss ts ds ss′ ts′ ds′ → PartsIn after hs ss′ ts′ ds′
+      after-parts : k ≡ 0 → {cs′ ts′ ds′ : List ℕ} → Placed same (h .token) s ts ds hs cs ts′ ds′ cs′ → PartsIn after ts′ ds′ hs cs′
       after-parts e w =
           let i = looked-up-found l σ v (p .handles) z .token in
-          w .parts σ v p (m .same σ v (p .tokens) (p .stations)) (i .was) (i .number) (eqb-true (new .identity .type) primary (passed e .1))
+          w .parts σ v p (m .same σ v (p .tokens) (p .control)) (i .was) (i .number) (eqb-true (new .identity .type) primary (passed e .1))
 
-    pub not-allowed : (k ≡ 0 → ⊥) → (r : Outcome) → Ends (answers.Refused k) r → Carried (λ σ. install σ s n) hs ss ts ds ss ts ds r
+    pub not-allowed : (k ≡ 0 → ⊥) → (r : Outcome) → Ends (answers.Refused k) r → Carried (λ σ. install σ s n) ts ds hs cs ts ds cs r
     not-allowed f r e = refuses k r e (c .small) (λ σ v p. refused σ v p f)
 
-    pub installed : k ≡ 0 → {ss′ ts′ ds′ : List ℕ} → Placed same (h .token) s hs ss ts ds ss′ ts′ ds′ → (r : Outcome) → Ends answers.Done r
-        → Carried (λ σ. install σ s n) hs ss ts ds ss′ ts′ ds′ r
+    pub installed : k ≡ 0 → {cs′ ts′ ds′ : List ℕ} → Placed same (h .token) s ts ds hs cs ts′ ds′ cs′ → (r : Outcome) → Ends answers.Done r
+        → Carried (λ σ. install σ s n) ts ds hs cs ts′ ds′ cs′ r
     installed e w r d =
         ends-with answers.Done r d (λ σ v p. tt) (λ σ v p. rw (passed σ v p e .0) (after-parts σ v p e w)) (λ σ v p. rw (passed σ v p e .0))

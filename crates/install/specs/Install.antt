@@ -13,27 +13,28 @@ use Rattle.rules.specs.Growth.{Mem}
 use Rattle.rules.specs.Valid.{valid}
 use Rattle.rules.specs.Install.{matches, marked}
 use Rattle.handle.specs.declared.Handle.{Handle}
-use Rattle.state.specs.Parts.{TokensIn, StationsIn}
+use Rattle.control.specs.Control.{ControlIn}
+use Rattle.state.specs.Parts.{TokensIn}
 use Rattle.state.specs.ReleaseFacts.{PartsIn}
 
-pub record Matching (token s : ℕ) (ts ss : List ℕ) (r : Bool) : Type 0 where
-  pub same : (σ : State) → valid σ ≡ true → {ds : List ℕ} → TokensIn σ ts ds → StationsIn σ ss → r ≡ matches (tokenOf σ token) (caller σ s)
+pub record Matching (token s : ℕ) (ts cs : List ℕ) (r : Bool) : Type 0 where
+  pub same : (σ : State) → valid σ ≡ true → {ds : List ℕ} → TokensIn σ ts ds → ControlIn σ cs → r ≡ matches (tokenOf σ token) (caller σ s)
 
 -- the first refusal's number, 0 for none
 abbrev pub refusalNumber : (held primary allowed : Bool) → ℕ
 refusalNumber held primary allowed = if held then (if primary then (if allowed then 0 else 7) else 5) else 4
 
-pub record Checked (same : Bool) (token s : ℕ) (ts ss : List ℕ) (r : ℕ) : Type 0 where
+pub record Checked (same : Bool) (token s : ℕ) (ts cs : List ℕ) (r : ℕ) : Type 0 where
   pub small : r < 128
-  pub refusal : (σ : State) → valid σ ≡ true → {ds : List ℕ} → TokensIn σ ts ds → StationsIn σ ss
+  pub refusal : (σ : State) → valid σ ≡ true → {ds : List ℕ} → TokensIn σ ts ds → ControlIn σ cs
       → r ≡ refusalNumber (held σ s assignPrimaryToken) (eqb (tokenOf σ token .identity .type) primary) (same || held σ s tcb)
 
-pub record MarksUsed (same : Bool) (s : ℕ) (ss ts ts′ : List ℕ) : Type 0 where
-  pub parts : (σ : State) → valid σ ≡ true → (t : Token) → same ≡ matches t (caller σ s) → {hs : List Handle} {ds : List ℕ} → PartsIn σ hs ss ts ds
-      → PartsIn (marked s t σ) hs ss ts′ ds
+pub record MarksUsed (same : Bool) (s : ℕ) (ts cs ts′ : List ℕ) : Type 0 where
+  pub parts : (σ : State) → valid σ ≡ true → (t : Token) → same ≡ matches t (caller σ s) → {hs : List Handle} {ds : List ℕ} → PartsIn σ ts ds hs cs
+      → PartsIn (marked s t σ) ts′ ds hs cs
 
 -- where the number is that of a live primary token
-pub record Placed (same : Bool) (token s : ℕ) (hs : List Handle) (ss ts ds ss′ ts′ ds′ : List ℕ) : Type 0 where
-  pub parts : (σ : State) → valid σ ≡ true → PartsIn σ hs ss ts ds → same ≡ matches (tokenOf σ token) (caller σ s)
+pub record Placed (same : Bool) (token s : ℕ) (ts ds : List ℕ) (hs : List Handle) (cs ts′ ds′ cs′ : List ℕ) : Type 0 where
+  pub parts : (σ : State) → valid σ ≡ true → PartsIn σ ts ds hs cs → same ≡ matches (tokenOf σ token) (caller σ s)
       → Mem (tokenOf σ token) (lives (σ .tokens .slots)) → tokenOf σ token .number ≡ token → tokenOf σ token .identity .type ≡ primary
-      → PartsIn (released (setToken s token (marked s (tokenOf σ token) σ))) hs ss′ ts′ ds′
+      → PartsIn (released (setToken s token (marked s (tokenOf σ token) σ))) ts′ ds′ hs cs′

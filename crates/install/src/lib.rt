@@ -4,14 +4,14 @@ ghost use Prim.Native.Nat.{_*_, _<_};
 ghost use lib.ListN.{length};
 ghost use Rattle.rules.specs.Install as rules;
 ghost use Rattle.rules.specs.State.{tokenSlots, stationCount};
-ghost use Rattle.rules.specs.Memory.{tokenWords};
+ghost use Rattle.rules.specs.Memory.{tokenWords, controlWords};
 ghost use Rattle.handle.specs.Words.{recordsIn};
 ghost use Rattle.state.specs.Parts.{Lent};
-ghost use Rattle.state.specs.StationFacts.{stationsSize};
 ghost use Rattle.decide.specs.Carried.{Carried};
 ghost use Rattle.install.specs.Install.{Matching, Checked, MarksUsed, Placed};
 use answer::Answer;
 use answer::refusal;
+use control::stations::caller_number;
 use decide::lookup::handle_refusal;
 use decide::lookup::mask_of;
 use decide::outcome;
@@ -20,38 +20,35 @@ use handle::HANDLE_WORDS;
 use privilege::privileges::Privileges;
 use state::handles::find_handle;
 use state::release;
-use state::stations::caller_number;
 use state::tokens::held;
 use state::tokens::identity_of;
 use state::tokens::used;
-
-// The type of a primary token.
-const PRIMARY: u8 = 1;
+use token::Identity;
 
 // The token is of the caller's user and session.
-fn matching(token: u64, station: u32, tokens: &[u64], stations: &[u64]) -> bool
-    requires { ⌜ (length (now tokens) ≡ tokenSlots * tokenWords) × (length (now stations) ≡ stationsSize) × (station < stationCount) ⌝ }
-    ensures { λ r. ⌜ Matching token station (now (tokens .entry)) (now (stations .entry)) r ⌝ }
+fn matching(token: u64, station: u32, tokens: &[u64], control: &[u64]) -> bool
+    requires { ⌜ (length (now tokens) ≡ tokenSlots * tokenWords) × (length (now control) ≡ controlWords) × (station < stationCount) ⌝ }
+    ensures { λ r. ⌜ Matching token station (now (tokens .entry)) (now (control .entry)) r ⌝ }
 {
-    let own = caller_number(station, stations);
+    let own = caller_number(station, control);
     let a = identity_of(token, tokens);
     let b = identity_of(own, tokens);
     (a.user == b.user) & (a.session == b.session)
 }
 
 // What the token is refused for, where it matches the caller's or doesn't: 0 if nothing.
-fn refusal_of(same: bool, token: u64, station: u32, tokens: &[u64], stations: &[u64]) -> u64
-    requires { ⌜ (length (now tokens) ≡ tokenSlots * tokenWords) × (length (now stations) ≡ stationsSize) × (station < stationCount) ⌝ }
-    ensures { λ r. ⌜ Checked same token station (now (tokens .entry)) (now (stations .entry)) r ⌝ }
+fn refusal_of(same: bool, token: u64, station: u32, tokens: &[u64], control: &[u64]) -> u64
+    requires { ⌜ (length (now tokens) ≡ tokenSlots * tokenWords) × (length (now control) ≡ controlWords) × (station < stationCount) ⌝ }
+    ensures { λ r. ⌜ Checked same token station (now (tokens .entry)) (now (control .entry)) r ⌝ }
 {
-    if !held(Privileges::ASSIGN_PRIMARY, station, tokens, stations) {
+    if !held(Privileges::ASSIGN_PRIMARY, station, tokens, control) {
         return refusal::PRIVILEGE_NOT_HELD;
     }
     let new = identity_of(token, tokens);
-    if new.kind != PRIMARY {
+    if new.kind != Identity::PRIMARY {
         return refusal::BAD_FIELD;
     }
-    let trusted = held(Privileges::TCB, station, tokens, stations);
+    let trusted = held(Privileges::TCB, station, tokens, control);
     if same | trusted {
         return 0;
     }
@@ -59,13 +56,13 @@ fn refusal_of(same: bool, token: u64, station: u32, tokens: &[u64], stations: &[
 }
 
 // The used bits fall on the token that is the caller's primary one now; Tcb counts only where the tokens don't match.
-fn mark(same: bool, station: u32, tokens: &mut [u64], stations: &[u64])
-    requires { ⌜ (length (now tokens) ≡ tokenSlots * tokenWords) × (length (now stations) ≡ stationsSize) × (station < stationCount) ⌝ }
-    ensures { λ _. ⌜ MarksUsed same station (now (stations .entry)) (now (tokens .entry)) (now (tokens .exit)) ⌝ }
+fn mark(same: bool, station: u32, tokens: &mut [u64], control: &[u64])
+    requires { ⌜ (length (now tokens) ≡ tokenSlots * tokenWords) × (length (now control) ≡ controlWords) × (station < stationCount) ⌝ }
+    ensures { λ _. ⌜ MarksUsed same station (now (tokens .entry)) (now (control .entry)) (now (tokens .exit)) ⌝ }
 {
-    used(Privileges::ASSIGN_PRIMARY, station, tokens, stations);
+    used(Privileges::ASSIGN_PRIMARY, station, tokens, control);
     if !same {
-        used(Privileges::TCB, station, tokens, stations);
+        used(Privileges::TCB, station, tokens, control);
     }
 }
 
@@ -77,13 +74,13 @@ fn place(
     handles: &[u64; HANDLE_WORDS],
     tokens: &mut [u64],
     dacls: &mut [u8],
-    stations: &mut [u64],
+    control: &mut [u64],
 )
-    requires { ⌜ Lent (now tokens) (now dacls) (now stations) × (station < stationCount) ⌝ }
-    ensures { λ _. ⌜ Placed same token station (recordsIn (now (handles .entry))) (now (stations .entry)) (now (tokens .entry)) (now (dacls .entry)) (now (stations .exit)) (now (tokens .exit)) (now (dacls .exit)) ⌝ }
+    requires { ⌜ Lent (now tokens) (now dacls) (now control) × (station < stationCount) ⌝ }
+    ensures { λ _. ⌜ Placed same token station (now (tokens .entry)) (now (dacls .entry)) (recordsIn (now (handles .entry))) (now (control .entry)) (now (tokens .exit)) (now (dacls .exit)) (now (control .exit)) ⌝ }
 {
-    mark(same, station, tokens, stations);
-    release::install(station, token, handles, tokens, dacls, stations);
+    mark(same, station, tokens, control);
+    release::install(station, token, handles, tokens, dacls, control);
 }
 
 pub fn install(
@@ -92,10 +89,10 @@ pub fn install(
     handles: &[u64; HANDLE_WORDS],
     tokens: &mut [u64],
     dacls: &mut [u8],
-    stations: &mut [u64],
+    control: &mut [u64],
 ) -> Outcome
-    requires { ⌜ Lent (now tokens) (now dacls) (now stations) × (station < stationCount) ⌝ }
-    ensures { λ r. ⌜ Carried (λ σ. rules.install σ station number) (recordsIn (now (handles .entry))) (now (stations .entry)) (now (tokens .entry)) (now (dacls .entry)) (now (stations .exit)) (now (tokens .exit)) (now (dacls .exit)) r ⌝ }
+    requires { ⌜ Lent (now tokens) (now dacls) (now control) × (station < stationCount) ⌝ }
+    ensures { λ r. ⌜ Carried (λ σ. rules.install σ station number) (now (tokens .entry)) (now (dacls .entry)) (recordsIn (now (handles .entry))) (now (control .entry)) (now (tokens .exit)) (now (dacls .exit)) (now (control .exit)) r ⌝ }
 {
     let found = find_handle(station, number, handles);
     let refused = handle_refusal(found, mask_of(found).may_assign_primary());
@@ -103,11 +100,11 @@ pub fn install(
         return outcome::refused(refused);
     }
     let token = found.token;
-    let same = matching(token, station, tokens, stations);
-    let refusal = refusal_of(same, token, station, tokens, stations);
+    let same = matching(token, station, tokens, control);
+    let refusal = refusal_of(same, token, station, tokens, control);
     if refusal != 0 {
         return outcome::refused(refusal);
     }
-    place(same, token, station, handles, tokens, dacls, stations);
+    place(same, token, station, handles, tokens, dacls, control);
     outcome::ends(Answer::Done)
 }

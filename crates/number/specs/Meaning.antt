@@ -1,10 +1,10 @@
 -- What the crate's answers and cursors say in the terms of the rules, and the bounds of their places. Assumes nothing.
-use Prim.Native.Nat.{ℕ, _≤_, _<_, max}
+use Prim.Native.Nat.{ℕ, _/_, _≤_, _<_, max}
 use mathlib.Core.Path.{_≡_}
 use mathlib.Core.List.{List}
 use lib.ListN.{length, drop}
 use Rattle.rules.specs.Basic.{if_then_else_}
-use Rattle.rules.specs.Number.{Read, got, bad, readNumber}
+use Rattle.rules.specs.Number.{Read, got, bad, longer, readNumber}
 use Rattle.rules.specs.Request.{Reader, times}
 use Rattle.number.specs.Rest.{Rest, rest, lost, readFrom, after}
 use Rattle.number.specs.declared.Number.{Number}
@@ -27,6 +27,18 @@ Bounds size at limit number.Bad = Unit {0}
 pub record NumberAt (s : List ℕ) (at limit : ℕ) (r : Number) : Type 0 where
   pub means : numberOf s r ≡ readNumber limit (drop at s)
   pub bounds : Bounds (length s) at limit r
+
+-- ---- a byte b with its top bit set
+
+-- before what stands at a place
+pub record LongerAt (s : List ℕ) (at limit b : ℕ) (r : Number) : Type 0 where
+  pub means : numberOf s r ≡ longer limit b (readNumber (limit / 128) (drop at s))
+  pub bounds : Bounds (length s) at limit r
+
+-- before a rest that ends at next, in any list
+pub record Joined (b rest next limit : ℕ) (r : Number) : Type 0 where
+  pub means : (s : List ℕ) → numberOf s r ≡ longer limit b (got rest (drop next s))
+  pub bounds : {size at : ℕ} → at < next → next ≤ size → Bounds size at limit r
 
 -- ---- the place after some numbers
 

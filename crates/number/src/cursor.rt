@@ -25,7 +25,7 @@ pub struct Field {
 }
 
 // How many bytes stand from a place on.
-fn left(s: &[u8], at: usize) -> u64
+pub fn left(s: &[u8], at: usize) -> u64
     ensures { λ r. ⌜ r ≡ length (now (s .entry)) - at ⌝ }
 {
     if at < s.len() {

@@ -1,10 +1,11 @@
 // Numbers on the line: seven bits a byte, low bits first, the top bit set where more follow; the shortest form only.
 ghost use mathlib.Core.Path.{_≡_};
-ghost use Prim.Native.Nat.{_≤_, _<_, min};
+ghost use mathlib.Core.Bool.{true};
+ghost use Prim.Native.Nat.{ℕ, _+_, _/_, _≤_, _<_, min, max};
 ghost use lib.ListN.{length, getD};
-ghost use Rattle.rules.specs.Number.{encode};
+ghost use Rattle.rules.specs.Number.{max64, encode};
 ghost use Rattle.number.specs.Over.{over};
-ghost use Rattle.number.specs.Meaning.{NumberAt, Passed};
+ghost use Rattle.number.specs.Meaning.{NumberAt, LongerAt, Joined, Passed};
 
 mod cursor;
 mod frame;
@@ -12,8 +13,10 @@ mod reader;
 
 pub use cursor::Cursor;
 pub use cursor::Field;
+use cursor::left;
 pub use frame::answer;
 pub use frame::sizes;
+use reader::byte_at;
 pub use reader::bytes_at;
 pub use reader::number_at;
 
@@ -65,7 +68,42 @@ fn wide(x: u8) -> u64
     x as u64
 }
 
-// The number at a place, in a field whose largest value is the limit.
+// A byte with its top bit set, before the rest of its number, which ends at next.
+fn joined(b: u64, rest: u64, next: usize, limit: u64) -> Number
+    requires { ⌜ (128 ≤ b) × (b < 256) × (rest ≤ max64 / 128) ⌝ }
+    ensures { λ r. ⌜ Joined b rest next limit r ⌝ }
+{
+    let value = b - 128 + 128 * rest;
+    if (rest == 0) | (limit < value) {
+        return Number::Bad;
+    }
+    Number::Value { value, next }
+}
+
+// A byte with its top bit set, before what stands at a place.
+fn longer(s: &[u8], from: usize, limit: u64, b: u64) -> Number
+    requires { ⌜ (128 ≤ b) × (b < 256) ⌝ }
+    ensures { λ r. ⌜ LongerAt (now (s .entry)) from limit b r ⌝ }
+{
+    if limit < 128 {
+        return Number::Bad;
+    }
+    if s.len() <= from {
+        return Number::Bad;
+    }
+    let d = wide(s[from]);
+    if d < 128 {
+        return joined(b, d, from + 1, limit);
+    }
+    // The call is lent a copy: s then stays in registers.
+    let same = s;
+    match longer(same, from + 1, limit / 128, d) {
+        Number::Bad => Number::Bad,
+        Number::Value { value: rest, next } => joined(b, rest, next, limit),
+    }
+}
+
+// The number at a place, in a field whose largest value is the limit. Almost every number is one byte: it is answered first, in the caller's own code.
 fn read(s: &[u8], at: usize, limit: u64) -> Number
     ensures { λ r. ⌜ NumberAt (now (s .entry)) at limit r ⌝ }
 {
@@ -82,21 +120,9 @@ fn read(s: &[u8], at: usize, limit: u64) -> Number
             next: at + 1,
         };
     }
-    if limit < 128 {
-        return Number::Bad;
-    }
     // The call is lent a copy: s then stays in registers, and a one-byte number costs no store.
     let same = s;
-    match read(same, at + 1, limit / 128) {
-        Number::Bad => Number::Bad,
-        Number::Value { value: rest, next } => {
-            let value = b - 128 + 128 * rest;
-            if (rest == 0) | (limit < value) {
-                return Number::Bad;
-            }
-            Number::Value { value, next }
-        }
-    }
+    longer(same, at + 1, limit, b)
 }
 
 // The plain byte at a place.
@@ -107,10 +133,40 @@ fn byte(s: &[u8], at: usize) -> u8
     s[at]
 }
 
-// The place after count numbers of a limit.
+// The bits of all bytes from a place up to another: no byte there is above them.
+fn bits(s: &[u8], from: usize, end: usize) -> u8
+    requires { ⌜ end ≤ max from (length (now s)) ⌝ }
+    ensures { λ r. ⌜ ((k : ℕ) → from ≤ k → k < end → getD (now (s .entry)) k 0 ≤ r) ⌝ }
+{
+    let mut all: u8 = 0;
+    let mut i = from;
+    while i < end {
+        all = all | byte_at(s, i);
+        i += 1;
+    }
+    all
+}
+
+// Whether count bytes from a place on are there and are numbers of the limit: none has its top bit set, and the field takes all such.
+fn short(s: &[u8], from: usize, count: u64, limit: u64) -> bool
+    ensures { λ r. ⌜ (r ≡ true → Passed (now (s .entry)) from count limit (Skipped.To (from + count))) ⌝ }
+{
+    if limit < 127 {
+        return false;
+    }
+    if left(s, from) < count {
+        return false;
+    }
+    bits(s, from, from + count as usize) < 128
+}
+
+// The place after count numbers of a limit. A list of short ones is tested at once.
 pub fn skip(s: &[u8], from: usize, count: u64, limit: u64) -> Skipped
     ensures { λ r. ⌜ Passed (now (s .entry)) from count limit r ⌝ }
 {
+    if short(s, from, count, limit) {
+        return Skipped::To(from + count as usize);
+    }
     let mut at = from;
     let mut left = count;
     while 0 < left {

@@ -42,7 +42,7 @@ pub fn number_at(body: &[u8], at: usize, limit: u64) -> Number
     Reader::new(body, at).number(limit)
 }
 
-fn byte_at(body: &[u8], at: usize) -> u8
+pub fn byte_at(body: &[u8], at: usize) -> u8
     requires { ⌜ at < length (now body) ⌝ }
     ensures { λ r. ⌜ r ≡ getD (now (body .entry)) at 0 ⌝ }
 {

@@ -1,5 +1,5 @@
 -- The memory that the program starts with. Assumes nothing.
-use Prim.Native.Nat.{ℕ, _+_, _*_}
+use Prim.Native.Nat.{ℕ, _*_}
 use native.Mathlib.Omega.{arith}
 use mathlib.Core.Path.{_≡_, ap, _∙_}
 use mathlib.Core.Bool.{true}
@@ -9,7 +9,7 @@ use borrow.Author.Tests.{eq-eqb}
 use Rattle.rules.specs.Token.{maxDacl}
 use Rattle.rules.specs.State.{start, tokenSlots, stationCount}
 use Rattle.rules.specs.Frame.{maxAnswer}
-use Rattle.rules.specs.Memory.{tokenWords, counterWords, stationWords, pendingBytes, sized, encode}
+use Rattle.rules.specs.Memory.{tokenWords, controlWords, pendingBytes, sized, encode}
 use Rattle.rules.specs.Calls.{startOn}
 use Rattle.rules.proofs.Logic.{and-i}
 use Rattle.rules.proofs.Memory.{start-written}
@@ -21,16 +21,16 @@ use Rattle.valid.specs.Meaning.{memoryOf}
 use Rattle.session.specs.Turns.{Starts}
 use Rattle.obriska.specs.Serving.{bufferBytes, Ready}
 
-module _ (ts ds ss ps ts′ ds′ ss′ ps′ : List ℕ) (r : Handles) (f : Starts ts ds ss ps ts′ ds′ ss′ ps′ r)
+module _ (ts ds cs ps ts′ ds′ cs′ ps′ : List ℕ) (r : Handles) (f : Starts ts ds cs ps ts′ ds′ cs′ ps′ r)
     (lt : length ts ≡ tokenSlots * tokenWords) (ld : length ds ≡ tokenSlots * maxDacl)
-    (ls : length ss ≡ counterWords + stationCount * stationWords) (lp : length ps ≡ stationCount * pendingBytes) where
-  fits : sized (memoryOf ts ds (recordsIn (r .words)) ss ps) ≡ true
+    (ls : length cs ≡ controlWords) (lp : length ps ≡ stationCount * pendingBytes) where
+  fits : sized (memoryOf ts ds (recordsIn (r .words)) cs ps) ≡ true
   unfolding sized
   fits = and-i (and-i (and-i (and-i (eq-eqb _ _ lt) (eq-eqb _ _ ld)) (eq-eqb _ _ (ap (λ (hs : List Handle). length (map handleOf hs)) (f .handles)))) (eq-eqb _ _ ls)) (eq-eqb _ _ lp)
 
-  begun : memoryOf ts′ ds′ (recordsIn (r .words)) ss′ ps′ ≡ encode start
+  begun : memoryOf ts′ ds′ (recordsIn (r .words)) cs′ ps′ ≡ encode start
   unfolding startOn
   begun = f .memory ∙ rw fits
 
-  pub ready : (b a : List ℕ) → length b ≡ bufferBytes → length a ≡ maxAnswer → Ready b a (memoryOf ts′ ds′ (recordsIn (r .words)) ss′ ps′)
+  pub ready : (b a : List ℕ) → length b ≡ bufferBytes → length a ≡ maxAnswer → Ready b a (memoryOf ts′ ds′ (recordsIn (r .words)) cs′ ps′)
   ready b a lb la = record { input = lb; output = omega arith; memory = rw begun start-written }

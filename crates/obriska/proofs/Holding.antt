@@ -8,8 +8,9 @@ use mathlib.Core.List.{List}
 use lib.ListN.{length, take, drop, length-take, length-drop}
 use lib.Dec.{ltb}
 use lib.Seq.{take-take, take-at, length-take-le}
-use borrow.Author.Tests.{ltb-true, not-false}
+use borrow.Author.Tests.{ltb-true, not-true, not-false}
 use borrow.Rule.Slice.PartMut.{putMid, take-put}
+use Rattle.rules.specs.Frame.{maxAnswer}
 use Rattle.rules.specs.Memory.{Memory, valid}
 use Rattle.rules.proofs.Numbers.{below-or}
 use Rattle.handle.specs.declared.Handles.{Handles}
@@ -21,7 +22,7 @@ use Rattle.session.specs.declared.input.Next.{Next}
 use Rattle.session.specs.declared.input.Next.the-variants as next
 use Rattle.obriska.specs.declared.Served.{Served}
 use Rattle.obriska.specs.declared.Advanced.{Advanced}
-use Rattle.obriska.specs.Serving.{bufferBytes, Ready, held, Room, Refilled, Serves, Follows, Advances, Ends}
+use Rattle.obriska.specs.Serving.{bufferBytes, Ready, held, Room, Refilled, Serves, Follows, Advances, Runs, none, turn, Ends}
 
 -- ---- refill
 
@@ -80,7 +81,7 @@ module _ (from end : ℕ) (b : List ℕ) (x : Next) (f : Says (take end b) from 
     stopped g =
         let r : Advanced = record { going = false; chunks = 0; from = from; end = end; handles = hs } in
         record {
-          follows = subst (λ (y : program.Next). Follows y (held from end b) (held from end b) m m room r) (what next.Stop g) (refl, refl);
+          follows = subst (λ (y : program.Next). Follows y (held from end b) (held from end b) m m room r) (what next.Stop g) (refl, refl, refl);
           order = order;
           inside = fits;
           count = omega arith;
@@ -145,12 +146,25 @@ module _ (from end : ℕ) (b b′ : List ℕ) (m m′ : Memory) (room : ℕ) (r 
         (λ z. omega (arith, f .count, f .inside, f .order))
         (below-or (r .chunks) 1)
 
-    pub stops : valid m ≡ true → Ends m′ (record { stopped = true; chunks = chunks + r .chunks; handles = r .handles })
-    stops v = record { most = omega (arith, f .count); all = λ t. let z : _≡_ {A = ℕ} 0 1 = cc in absurd (omega arith); memory = f .stays v }
+    module _ (b₀ : List ℕ) (m₀ : Memory) (before : Runs b₀ m₀ chunks true b from end m) (fits : maxAnswer ≤ room) where
+      pub goes-on : not (r .going) ≡ false → Runs b₀ m₀ (chunks + r .chunks) true b′ (r .from) (r .end) m′
+      goes-on g = rw (not-false (r .going) g) at (turn before fits f)
+
+      pub stops : not (r .going) ≡ true → valid m ≡ true → Ends b₀ b′ m₀ m′ (record { stopped = true; chunks = chunks + r .chunks; handles = r .handles })
+      stops g v =
+          record {
+            from = r .from;
+            end = r .end;
+            runs = rw (not-true (r .going) g) at (turn before fits f);
+            most = omega (arith, f .count);
+            all = λ t. let z : _≡_ {A = ℕ} 0 1 = cc in absurd (omega arith);
+            memory = f .stays v;
+          }
 
   pub stays-ready : (a a′ : List ℕ) → Ready b a m → length b′ ≡ length b → length a′ ≡ length a → Ready b′ a′ m′
   stays-ready a a′ k e h = record { input = e ∙ k .input; output = omega (arith, k .output); memory = f .stays (k .memory) }
 
 -- the loop is left once the budget is used up
-pub used-up : (m : Memory) (chunks : ℕ) (hs : Handles) → chunks ≤ budget → budget ≤ chunks → valid m ≡ true → Ends m (record { stopped = false; chunks = chunks; handles = hs })
-used-up m chunks hs h l v = record { most = h; all = λ t. omega arith; memory = v }
+pub used-up : (b₀ b : List ℕ) (m₀ m : Memory) (chunks from end : ℕ) (hs : Handles) → Runs b₀ m₀ chunks true b from end m → chunks ≤ budget → budget ≤ chunks → valid m ≡ true
+    → Ends b₀ b m₀ m (record { stopped = false; chunks = chunks; handles = hs })
+used-up b₀ b m₀ m chunks from end hs x h l v = record { from = from; end = end; runs = x; most = h; all = λ t. omega arith; memory = v }

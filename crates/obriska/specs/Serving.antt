@@ -1,7 +1,7 @@
 -- What the program's functions do between reads and writes; which bytes these move no contract can say. Assumes nothing.
 use Prim.Native.Nat.{ℕ, _+_, _-_, _≤_, _<_}
 use mathlib.Core.Path.{_≡_}
-use mathlib.Core.Bool.{Bool, true, false}
+use mathlib.Core.Bool.{Bool, true, false, not}
 use mathlib.Core.List.{List}
 use lib.ListN.{length, take, drop}
 use Rattle.rules.specs.Frame.{maxAnswer}
@@ -57,7 +57,7 @@ pub record Refilled (from end : ℕ) (before after : List ℕ) (r : ℕ) : Type 
 abbrev pub Follows : Next → List ℕ → List ℕ → Memory → Memory → ℕ → Advanced → Type 0
 Follows (chunk s bytes later) h h′ m m′ room r = (r .chunks ≡ 1) × (h′ ≡ later) × Serves s bytes m m′ room (r .going)
 Follows more h h′ m m′ room r = (r .chunks ≡ 0) × (m′ ≡ m) × (r .going ≡ true → (length h < length h′) × (take (length h) h′ ≡ h))
-Follows stop h h′ m m′ room r = (r .going ≡ false) × (m′ ≡ m)
+Follows stop h h′ m m′ room r = (r .chunks ≡ 0) × (r .going ≡ false) × (m′ ≡ m)
 
 pub record Advances (from end : ℕ) (before after : List ℕ) (m m′ : Memory) (room : ℕ) (r : Advanced) : Type 0 where
   pub follows : Follows (next (held from end before)) (held from end before) (held (r .from) (r .end) after) m m′ room r
@@ -68,8 +68,18 @@ pub record Advances (from end : ℕ) (before after : List ℕ) (m m′ : Memory)
   pub more : r .going ≡ true → r .chunks ≡ 0 → end - from < r .end - r .from
   pub stays : valid m ≡ true → valid m′ ≡ true
 
--- the whole run: it takes no more chunks than the budget, and that many where it did not stop before; memory is valid at its end
-pub record Ends (m : Memory) (r : Ended) : Type 0 where
+-- turns one after the other, from nothing held, each on the bytes and the memory that the one before it left, until one does not go on:
+-- how many chunks they took, whether the last goes on, and what it left
+pub data Runs (b₀ : List ℕ) (m₀ : Memory) : ℕ → Bool → List ℕ → ℕ → ℕ → Memory → Type 0 where
+  none : Runs b₀ m₀ 0 true b₀ 0 0 m₀
+  turn : {n from end room : ℕ} {b b′ : List ℕ} {m m′ : Memory} {r : Advanced} → Runs b₀ m₀ n true b from end m → maxAnswer ≤ room → Advances from end b b′ m m′ room r
+      → Runs b₀ m₀ (n + r .chunks) (r .going) b′ (r .from) (r .end) m′
+
+-- the whole run: turns until one stops it or the budget is used up; no more chunks than the budget, and that many where it did not stop before
+pub record Ends (b₀ b : List ℕ) (m₀ m : Memory) (r : Ended) : Type 0 where
+  pub from : ℕ
+  pub end : ℕ
+  pub runs : Runs b₀ m₀ (r .chunks) (not (r .stopped)) b from end m
   pub most : r .chunks ≤ budget
   pub all : r .stopped ≡ false → r .chunks ≡ budget
   pub memory : valid m ≡ true

@@ -6,13 +6,13 @@ ghost use Rattle.handle.specs.Words.{recordsIn};
 ghost use Rattle.valid.specs.Meaning.{memoryOf};
 ghost use Rattle.obriska.specs.Serving.{bufferBytes, Ready, Steps, Serves, Room, Refilled, Advances, Ends};
 use broker::by_value::MAX_ANSWER;
+use control::layout::CONTROL_WORDS;
 use handle::Handles;
 use libc::STDIN_FILENO;
 use libc::STDOUT_FILENO;
 use session::input;
 use session::input::Next;
 use session::turn;
-use valid::layout::COUNTERS_AND_ROWS;
 use valid::layout::DACLS;
 use valid::layout::PENDING;
 use valid::layout::TOKENS;
@@ -60,10 +60,10 @@ fn feed_once(
     tokens: &mut [u64],
     dacls: &mut [u8],
     handles: Handles,
-    stations: &mut [u64],
+    control: &mut [u64],
     pending: &mut [u8],
 ) -> Step
-    ensures { λ r. ⌜ Steps station (now (chunk .entry)) (memoryOf (now (tokens .entry)) (now (dacls .entry)) (recordsIn (handles .words)) (now (stations .entry)) (now (pending .entry))) (memoryOf (now (tokens .exit)) (now (dacls .exit)) (recordsIn (r .handles .words)) (now (stations .exit)) (now (pending .exit))) (length (now (answer .entry))) r ⌝ }
+    ensures { λ r. ⌜ Steps station (now (chunk .entry)) (memoryOf (now (tokens .entry)) (now (dacls .entry)) (recordsIn (handles .words)) (now (control .entry)) (now (pending .entry))) (memoryOf (now (tokens .exit)) (now (dacls .exit)) (recordsIn (r .handles .words)) (now (control .exit)) (now (pending .exit))) (length (now (answer .entry))) r ⌝ }
 {
     let t = turn::feed(
         station,
@@ -72,7 +72,7 @@ fn feed_once(
         tokens,
         dacls,
         handles,
-        stations,
+        control,
         pending,
     );
     let n = t.fed.answered;
@@ -100,10 +100,10 @@ fn serve(
     tokens: &mut [u64],
     dacls: &mut [u8],
     handles: Handles,
-    stations: &mut [u64],
+    control: &mut [u64],
     pending: &mut [u8],
 ) -> Served
-    ensures { λ r. ⌜ Serves station (now (chunk .entry)) (memoryOf (now (tokens .entry)) (now (dacls .entry)) (recordsIn (handles .words)) (now (stations .entry)) (now (pending .entry))) (memoryOf (now (tokens .exit)) (now (dacls .exit)) (recordsIn (r .handles .words)) (now (stations .exit)) (now (pending .exit))) (length (now (answer .entry))) (r .written) ⌝ }
+    ensures { λ r. ⌜ Serves station (now (chunk .entry)) (memoryOf (now (tokens .entry)) (now (dacls .entry)) (recordsIn (handles .words)) (now (control .entry)) (now (pending .entry))) (memoryOf (now (tokens .exit)) (now (dacls .exit)) (recordsIn (r .handles .words)) (now (control .exit)) (now (pending .exit))) (length (now (answer .entry))) (r .written) ⌝ }
 {
     let mut held = handles;
     let mut used: usize = 0;
@@ -115,7 +115,7 @@ fn serve(
             tokens,
             dacls,
             held,
-            stations,
+            control,
             pending,
         );
         held = t.handles;
@@ -155,13 +155,13 @@ fn advance(
     tokens: &mut [u64],
     dacls: &mut [u8],
     handles: Handles,
-    stations: &mut [u64],
+    control: &mut [u64],
     pending: &mut [u8],
     from: usize,
     end: usize,
 ) -> Advanced
     requires { ⌜ (from ≤ end) × (end ≤ length (now buffer)) × (length (now buffer) ≡ bufferBytes) ⌝ }
-    ensures { λ r. ⌜ Advances from end (now (buffer .entry)) (now (buffer .exit)) (memoryOf (now (tokens .entry)) (now (dacls .entry)) (recordsIn (handles .words)) (now (stations .entry)) (now (pending .entry))) (memoryOf (now (tokens .exit)) (now (dacls .exit)) (recordsIn (r .handles .words)) (now (stations .exit)) (now (pending .exit))) (length (now (answer .entry))) r ⌝ }
+    ensures { λ r. ⌜ Advances from end (now (buffer .entry)) (now (buffer .exit)) (memoryOf (now (tokens .entry)) (now (dacls .entry)) (recordsIn (handles .words)) (now (control .entry)) (now (pending .entry))) (memoryOf (now (tokens .exit)) (now (dacls .exit)) (recordsIn (r .handles .words)) (now (control .exit)) (now (pending .exit))) (length (now (answer .entry))) r ⌝ }
 {
     match input::next_chunk(&buffer[..end], from) {
         Next::Stop => Advanced {
@@ -190,7 +190,7 @@ fn advance(
                 tokens,
                 dacls,
                 handles,
-                stations,
+                control,
                 pending,
             );
             let held = s.handles;
@@ -212,11 +212,11 @@ fn run(
     tokens: &mut [u64],
     dacls: &mut [u8],
     handles: Handles,
-    stations: &mut [u64],
+    control: &mut [u64],
     pending: &mut [u8],
 ) -> Ended
-    requires { ⌜ Ready (now buffer) (now answer) (memoryOf (now tokens) (now dacls) (recordsIn (handles .words)) (now stations) (now pending)) ⌝ }
-    ensures { λ r. ⌜ Ends (memoryOf (now (tokens .exit)) (now (dacls .exit)) (recordsIn (r .handles .words)) (now (stations .exit)) (now (pending .exit))) r ⌝ }
+    requires { ⌜ Ready (now buffer) (now answer) (memoryOf (now tokens) (now dacls) (recordsIn (handles .words)) (now control) (now pending)) ⌝ }
+    ensures { λ r. ⌜ Ends (now (buffer .entry)) (now (buffer .exit)) (memoryOf (now (tokens .entry)) (now (dacls .entry)) (recordsIn (handles .words)) (now (control .entry)) (now (pending .entry))) (memoryOf (now (tokens .exit)) (now (dacls .exit)) (recordsIn (r .handles .words)) (now (control .exit)) (now (pending .exit))) r ⌝ }
 {
     let mut held = handles;
     let mut chunks: u64 = 0;
@@ -229,7 +229,7 @@ fn run(
             tokens,
             dacls,
             held,
-            stations,
+            control,
             pending,
             from,
             end,
@@ -258,16 +258,16 @@ fn main() {
     let mut answer = [0u8; MAX_ANSWER];
     let mut tokens = [0u64; TOKENS];
     let mut dacls = [0u8; DACLS];
-    let mut stations = [0u64; COUNTERS_AND_ROWS];
+    let mut control = [0u64; CONTROL_WORDS];
     let mut pending = [0u8; PENDING];
-    let handles = turn::start(&mut tokens, &mut dacls, &mut stations, &mut pending);
+    let handles = turn::start(&mut tokens, &mut dacls, &mut control, &mut pending);
     run(
         &mut buffer,
         &mut answer,
         &mut tokens,
         &mut dacls,
         handles,
-        &mut stations,
+        &mut control,
         &mut pending,
     );
 }

@@ -125,25 +125,25 @@ module _ (n class capacity : ℕ) {ts : List ℕ} where
 
 -- ---- the request
 
-module _ {s n : ℕ} (class capacity : ℕ) {hs : List Handle} {ss ts ds : List ℕ} {h : Handle} {k : ℕ} (l : LookedUp s n mask.query hs h k) where
+module _ {s n : ℕ} (class capacity : ℕ) {hs : List Handle} {cs ts ds : List ℕ} {h : Handle} {k : ℕ} (l : LookedUp s n mask.query hs h k) where
   pub query-refused : {r : Outcome} → (k ≡ 0 → ⊥) → Ends (answers.Refused k) r
-      → Carried (λ σ. query σ s n class capacity) hs ss ts ds ss ts ds r
+      → Carried (λ σ. query σ s n class capacity) ts ds hs cs ts ds cs r
   unfolding query
   query-refused {r} f e = handle-refuses l (λ σ h x. classDecision class capacity σ x) r e f
 
   module _ {a : Answer} (found : k ≡ 0) (c : ClassAnswered (h .token) class capacity ts a) where
-    is-there : (σ : State) → valid σ ≡ true → PartsIn σ hs ss ts ds → Mem (h .token) (map numberOf (lives (σ .tokens .slots)))
+    is-there : (σ : State) → valid σ ≡ true → PartsIn σ ts ds hs cs → Mem (h .token) (map numberOf (lives (σ .tokens .slots)))
     unfolding numberOf
     is-there σ v p =
         let i = looked-up-found l σ v (p .handles) found .token in
         mem-by numberOf (sym (i .number)) (i .was)
 
-    decided : (σ : State) → valid σ ≡ true → PartsIn σ hs ss ts ds
+    decided : (σ : State) → valid σ ≡ true → PartsIn σ ts ds hs cs
         → carriedOut σ (query σ s n class capacity) ≡ record { state = σ; answer = answerOf ts ds a }
     unfolding query
     decided σ v p =
         looked-up l σ v (p .handles) (λ h x. classDecision class capacity σ x) found
         ∙ c .answer σ v ds (p .tokens) (is-there σ v p)
 
-    pub query-answered : {r : Outcome} → Ends a r → Carried (λ σ. query σ s n class capacity) hs ss ts ds ss ts ds r
+    pub query-answered : {r : Outcome} → Ends a r → Carried (λ σ. query σ s n class capacity) ts ds hs cs ts ds cs r
     query-answered {r} e = ends-with a r e (λ σ v p. c .fit σ v ds (p .tokens) (is-there σ v p)) (λ σ v p. rw (decided σ v p) p) (λ σ v p. rw (decided σ v p))

@@ -51,10 +51,10 @@ pub fn query(
     handles: &[u64; HANDLE_WORDS],
     tokens: &[u64],
     dacls: &[u8],
-    stations: &[u64],
+    control: &[u64],
 ) -> Outcome
-    requires { ⌜ Lent (now tokens) (now dacls) (now stations) ⌝ }
-    ensures { λ r. ⌜ Carried (λ σ. rules.query σ station (f .handle) (f .class) (f .capacity)) (recordsIn (now (handles .entry))) (now (stations .entry)) (now (tokens .entry)) (now (dacls .entry)) (now (stations .entry)) (now (tokens .entry)) (now (dacls .entry)) r ⌝ }
+    requires { ⌜ Lent (now tokens) (now dacls) (now control) ⌝ }
+    ensures { λ r. ⌜ Carried (λ σ. rules.query σ station (f .handle) (f .class) (f .capacity)) (now (tokens .entry)) (now (dacls .entry)) (recordsIn (now (handles .entry))) (now (control .entry)) (now (tokens .entry)) (now (dacls .entry)) (now (control .entry)) r ⌝ }
 {
     let found = find_handle(station, f.handle, handles);
     let refused = handle_refusal(found, mask_of(found).may_query());

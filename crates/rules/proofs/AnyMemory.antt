@@ -19,7 +19,7 @@ use Rattle.rules.specs.State.{State, start, stationCount, stationAt, wit
 use Rattle.rules.specs.Serve.{serve}
 use Rattle.rules.specs.Frame.{maxAnswer, frame, lengthOf, framedBy, framed, Framed, part, broken, whole}
 use Rattle.rules.specs.Model.{Result, Step, silent, answers, joined, byteAt, step, fedOn, fedFrom, reconnect}
-use Rattle.rules.specs.Memory.{Memory, stationWords, slotRow, slotDacl, slotHandle, stationRow, encode, decode, valid}
+use Rattle.rules.specs.Memory.{Memory, stationWords, slotRow, slotDacl, slotHandle, stationRow, sections, control, encode, decode, valid}
 use Rattle.rules.specs.Run.{Call, feeds, reconnects, returned, ofBytes, SameRights}
 use Rattle.rules.specs.Growth.{Mem, here, there}
 use Rattle.rules.specs.Calls.{Done, refusedOn, written, feedOn, reconnectOn}
@@ -108,16 +108,18 @@ module _ (s : ℕ) (c : State) (f : StateFacts c) where
 
 -- ---- the same rights, written
 
-same-primary : (n : ℕ) (xs ys : List Station) → map stationToken xs ≡ map stationToken ys → column stationWords n (flat stationRow xs) ≡ column stationWords n (flat stationRow ys)
+-- whatever stands behind the rows
+same-primary : (n : ℕ) (xs ys : List Station) (behind : List ℕ) → map stationToken xs ≡ map stationToken ys
+    → column stationWords n (flat stationRow xs ++ behind) ≡ column stationWords n (flat stationRow ys ++ behind)
 unfolding column flat stationRow stationToken
-same-primary zero xs ys e = refl
-same-primary (suc n) [] [] e = refl
-same-primary (suc n) [] (y ∷ ys) e = absurd (let z : _≡_ {A = ℕ} 0 1 = cc in omega arith)
-same-primary (suc n) (x ∷ xs) [] e = absurd (let z : _≡_ {A = ℕ} 0 1 = cc in omega arith)
-same-primary (suc n) (x ∷ xs) (y ∷ ys) e = ap₂ (λ k ks. k ∷ ks) (cc) (same-primary n xs ys (cc))
+same-primary zero xs ys behind e = refl
+same-primary (suc n) [] [] behind e = refl
+same-primary (suc n) [] (y ∷ ys) behind e = absurd (let z : _≡_ {A = ℕ} 0 1 = cc in omega arith)
+same-primary (suc n) (x ∷ xs) [] behind e = absurd (let z : _≡_ {A = ℕ} 0 1 = cc in omega arith)
+same-primary (suc n) (x ∷ xs) (y ∷ ys) behind e = ap₂ (λ k ks. k ∷ ks) (cc) (same-primary n xs ys behind (cc))
 
 rights-left : {p q : State} → SameRights p q → LeftAlone (encode p) (encode q)
-unfolding encode counters primaries
+unfolding encode control sections flat counters primaries
 rights-left {p} {q} h =
     let t = sym (h .tokens) in
     record {
@@ -125,7 +127,7 @@ rights-left {p} {q} h =
       dacls = ap (λ (x : Table Token). flat slotDacl (x .slots)) t;
       handles = ap (λ (x : Table Handle). map slotHandle (x .slots)) (sym (h .handles));
       counted = ap₂ (λ (x : Table Token) (y : Table Handle). x .next ∷ y .next ∷ []) t (sym (h .handles));
-      primary = same-primary stationCount (q .stations) (p .stations) (sym (h .primary));
+      primary = same-primary stationCount (q .stations) (p .stations) [] (sym (h .primary));
     }
 
 -- ---- a call

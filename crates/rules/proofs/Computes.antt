@@ -56,7 +56,7 @@ unfolding
     Create.validPair Create.validIntegrity Create.validCreate Create.entered Create.create
     Query.pairs Query.words Query.classes Query.classBytes Query.query
     AdjustPrivileges.isReset AdjustPrivileges.validEntry AdjustPrivileges.applied AdjustPrivileges.adjusted AdjustPrivileges.named AdjustPrivileges.previous AdjustPrivileges.report AdjustPrivileges.adjustedToken AdjustPrivileges.adjust
-    AdjustGroups.isReset AdjustGroups.validEntry AdjustGroups.maySwitch AdjustGroups.unprotected AdjustGroups.applied AdjustGroups.resetGroup AdjustGroups.adjusted AdjustGroups.enabledBits AdjustGroups.enabledWords AdjustGroups.adjustedToken AdjustGroups.adjust
+    AdjustGroups.isReset AdjustGroups.validEntry AdjustGroups.isProtected AdjustGroups.unprotected AdjustGroups.applied AdjustGroups.resetGroup AdjustGroups.adjusted AdjustGroups.enabledBits AdjustGroups.enabledWords AdjustGroups.adjustedToken AdjustGroups.adjust
     AdjustScope.scopedToken AdjustScope.scope
     AdjustDefaults.validOwner AdjustDefaults.validGroup AdjustDefaults.validDacl AdjustDefaults.validDefaults AdjustDefaults.orKept AdjustDefaults.adjusted AdjustDefaults.adjustedToken AdjustDefaults.adjust
     Duplicate.retyped Duplicate.copied Duplicate.nobody Duplicate.anonymousCopy Duplicate.duplicated Duplicate.validLevel Duplicate.validDuplicate Duplicate.duplicate
@@ -69,5 +69,5 @@ unfolding
     Ladder.failing Ladder.firstOf Ladder.status
     Run.returned Run.after Run.noted Run.answered Run.ofBytes Run.eventsOf Run.events Run.happens Run.stateOf Run.told Run.afterEvents Run.answersTo Run.stationOf Run.notedAt Run.timed Run.placeOf Run.toldAt Run.timedTo Run.untilUsed Run.outcomeOf Run.outcomeAt Run.outcomes Run.servedBy Run.answerTo Run.answeredAt Run.answeredFrom Run.OneByOne
     Growth.sidOf Growth.Live Growth.LiveHandle Growth.tokenAt Growth.sourceOf Growth.NoMore
-    Memory.sized Memory.mark Memory.pack Memory.unpack Memory.head Memory.tokenRow Memory.daclRow Memory.slotRow Memory.slotDacl Memory.slotHandle Memory.stationRow Memory.pendingRow Memory.encode Memory.identityAt Memory.privilegesAt Memory.groupsAt Memory.limitsAt Memory.defaultsAt Memory.tokenAt Memory.slotAt Memory.handleAt Memory.stationAt Memory.decode Memory.same Memory.sameHandle Memory.sameHandles Memory.sameMemory Memory.isImage Memory.valid
+    Memory.sized Memory.mark Memory.pack Memory.unpack Memory.head Memory.tokenRow Memory.daclRow Memory.slotRow Memory.slotDacl Memory.slotHandle Memory.stationRow Memory.pendingRow Memory.sections Memory.control Memory.encode Memory.identityAt Memory.privilegesAt Memory.groupsAt Memory.limitsAt Memory.defaultsAt Memory.tokenAt Memory.slotAt Memory.handleAt Memory.stationAt Memory.decode Memory.same Memory.sameHandle Memory.sameHandles Memory.sameMemory Memory.isImage Memory.valid
 computes = tt

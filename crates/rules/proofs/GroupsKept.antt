@@ -8,7 +8,7 @@ use lib.Bits.{bitOr}
 use lib.ListN.{length, getD}
 use borrow.Author.Tests.{eqb-true, not-true}
 use Rattle.rules.specs.AdjustDefaults.{validOwner, validGroup}
-use Rattle.rules.specs.AdjustGroups.{isReset, maySwitch, unprotected, applied, resetGroup, adjusted}
+use Rattle.rules.specs.AdjustGroups.{isReset, isProtected, unprotected, applied, resetGroup, adjusted}
 use Rattle.rules.specs.Basic.{if_then_else_, implies, bothOrNeither, all, changeAt}
 use Rattle.rules.specs.Bits.{has, without, within}
 use Rattle.rules.specs.Create.{givable, validPair, entered}
@@ -18,7 +18,7 @@ use Rattle.rules.specs.Growth.{sidOf, Mem, here, there}
 use Rattle.rules.specs.Restrict.{deniedAll}
 use Rattle.rules.specs.Token.{maxGroups, Defaults, Token}
 use Rattle.rules.specs.Valid.{is32, groupValid, groupsValid, defaultsValid}
-use Rattle.rules.proofs.Logic.{and-l, and-r, and-i, not-both, not-e, not-i, implies-e, implies-i, all-mem}
+use Rattle.rules.proofs.Logic.{and-l, and-r, and-i, or-l, or-r, not-both, not-e, not-i, implies-e, implies-i, all-mem}
 use Rattle.rules.proofs.Bits.{has-or, or-same, without-same, without-none, within-has, within-trans, without-within, within-or}
 use Rattle.rules.proofs.Tables.{on-if}
 use Rattle.rules.proofs.Widths.{sid32}
@@ -187,9 +187,13 @@ all-applied (e ∷ es) gs h o =
     let p : Groups gs (changeAt (e .key) (withEnabled b) gs) = at-index (withEnabled b) gs (e .key) (λ k. setting (getD gs (e .key) noGroup) b k (h e (here refl))) o in
     groups-trans p (all-applied es _ (λ f m t. marks b gs (e .key) (f .key) ∙ h f (there m) t) (groups-order p o))
 
+deny-only-protected : (user v : ℕ) (g : Group) → isDenyOnly g ≡ true → isProtected user v g ≡ true
+unfolding isProtected
+deny-only-protected user v g h = search (or-l, or-r)
+
 allowed-fits : (t : Token) (e : Entry) → unprotected t e ≡ true → Fits (t .groups) e
-unfolding unprotected maySwitch Fits
-allowed-fits t e h v = not-true _ (rw (eqb-true (e .value) 1 v) at h)
+unfolding unprotected Fits
+allowed-fits t e h v = let g = getD (t .groups) (e .key) noGroup in not-true (isDenyOnly g) (not-i _ (λ d. not-e _ h (deny-only-protected _ (e .value) g d)))
 
 reset-one : (b : Bool) (g : Group) → groupValid g ≡ true → (b ≡ false → isDenyOnly g ≡ false) → Alike g (if b then g else withEnabled (isEnabledByDefault g) g)
 reset-one true g o h = alike-refl g

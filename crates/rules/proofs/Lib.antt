@@ -24,6 +24,7 @@ pub mod Served
 pub mod Throughout
 pub mod Same
 pub mod Rows
+pub mod Control
 pub mod Memory
 pub mod WholeList
 pub mod AnyMemory

@@ -6,7 +6,7 @@ use mathlib.Core.Bool.{Bool, true, false, not, _&&_, _||_, or-true}
 use mathlib.Core.Logic.{_⊎_, inl, inr, ⊎-elim}
 use mathlib.Core.List.{List, [], _∷_, _++_, map}
 use lib.Dec.{eqb}
-use lib.ListN.{length, getD}
+use lib.ListN.{length, getD, set}
 use borrow.Author.Tests.{eqb-true, eq-eqb}
 use Rattle.rules.specs.Basic.{all, member, distinct, implies, changeAt}
 use Rattle.rules.specs.Growth.{Mem, here, there}
@@ -98,6 +98,12 @@ module _ {A : Type 0} where
   length-changeAt [] i f = refl
   length-changeAt (x ∷ xs) zero f = refl
   length-changeAt (x ∷ xs) (suc i) f = ap suc (length-changeAt xs i f)
+
+  pub changeAt-set : (xs : List A) (i : ℕ) (f : A → A) (z : A) → changeAt i f xs ≡ set xs i (f (getD xs i z))
+  unfolding changeAt
+  changeAt-set [] i f z = refl
+  changeAt-set (x ∷ xs) zero f z = refl
+  changeAt-set (x ∷ xs) (suc i) f z = ap (λ ys. x ∷ ys) (changeAt-set xs i f z)
 
   -- what stands there after a change, and what stood there before
   pub mem-changeAt : (xs : List A) (i : ℕ) (f : A → A) {a : A} → Mem a (changeAt i f xs) → ((b : A) × Mem b xs × (a ≡ f b)) ⊎ Mem a xs

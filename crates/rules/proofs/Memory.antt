@@ -1,22 +1,24 @@
 -- Valid memory is exactly what a valid state is written as: a valid state is read back from its memory, which is valid, and valid memory is
 -- what the valid state that it stands for is written as. The start is such a state. Assumes nothing.
-use Prim.Native.Nat.{ℕ, suc, _*_}
+use Prim.Native.Nat.{ℕ, _*_}
 use mathlib.Core.Path.{_≡_, ap, _∙_}
 use mathlib.Core.Bool.{true, _&&_}
+use mathlib.Core.List.{List}
 use lib.ListN.{length-map}
 use borrow.Author.Tests.{eq-eqb}
 use Rattle.table.specs.Lists.{map-undo}
-use Rattle.table.specs.Table.{length-flat}
-use Rattle.table.specs.Rows.{rows-written}
+use Rattle.table.specs.Table.{flat, length-flat}
+use Rattle.table.specs.Rows.{readRows, rows-written}
 use Rattle.rules.specs.Token.{maxDacl}
 use Rattle.rules.specs.State.{State, start, tokenSlots, stationCount, numberOf, handleNumber}
 use Rattle.rules.specs.Valid as Valid
 use Rattle.rules.specs.Valid.{streamValid}
-use Rattle.rules.specs.Memory.{Memory, tokenWords, stationWords, pendingBytes, slotRow, slotDacl, slotHandle, stationRow, pendingRow, encode, slotAt, handleAt, stationAt, decode, sized, isImage, valid}
+use Rattle.rules.specs.Memory.{Memory, tokenWords, stationWords, pendingBytes, slotRow, slotDacl, slotHandle, stationRow, pendingRow, sections, control, encode, slotAt, handleAt, stationAt, decode, sized, isImage, valid}
 use Rattle.rules.proofs.Logic.{and-l, and-r, and-i, map-mem}
 use Rattle.rules.proofs.Facts.{facts-token, valid-facts}
 use Rattle.rules.proofs.Always.{start-valid}
 use Rattle.rules.proofs.Same.{memory-eq, memory-refl}
+use Rattle.rules.proofs.Control.{control-long, stations-read}
 use Rattle.rules.proofs.Rows.{length-slotRow, length-slotDacl, length-stationRow, length-pendingRow, each, each-slot, TokenSlot, slot-back, HandleSlot, handle-back, station-back}
 
 module _ (m : Memory) (v : valid m ≡ true) where
@@ -30,7 +32,7 @@ module _ (m : Memory) (v : valid m ≡ true) where
 
 module _ (σ : State) (v : Valid.valid σ ≡ true) where
   pub read-back : decode (encode σ) ≡ σ
-  unfolding decode encode TokenSlot HandleSlot
+  unfolding decode encode control sections flat TokenSlot HandleSlot
   read-back =
       let f = valid-facts σ v .loose in
       let ts = σ .tokens .slots in
@@ -47,8 +49,9 @@ module _ (σ : State) (v : Valid.valid σ ≡ true) where
           next = σ .handles .next;
         };
         stations =
-            rows-written stationAt stationWords pendingBytes stationRow pendingRow length-stationRow length-pendingRow (λ x. streamValid x ≡ true) station-back
-            stationCount (σ .stations) (f .stations) (each _ (σ .stations) (f .eachStation)) i;
+            (ap (λ (ws : List ℕ). readRows stationAt stationWords pendingBytes stationCount ws (flat pendingRow (σ .stations))) (stations-read σ v)
+            ∙ rows-written stationAt stationWords pendingBytes stationRow pendingRow length-stationRow length-pendingRow (λ x. streamValid x ≡ true) station-back
+            stationCount (σ .stations) (f .stations) (each _ (σ .stations) (f .eachStation))) i;
       }
 
   written-sized : sized (encode σ) ≡ true
@@ -60,7 +63,7 @@ module _ (σ : State) (v : Valid.valid σ ≡ true) where
       (eq-eqb _ _ (length-flat slotRow tokenWords length-slotRow ts ∙ ap (λ (n : ℕ). n * tokenWords) (f .tokens .sized)))
       (eq-eqb _ _ (length-flat slotDacl maxDacl length-slotDacl ts ∙ ap (λ (n : ℕ). n * maxDacl) (f .tokens .sized))))
       (eq-eqb _ _ (length-map (σ .handles .slots) slotHandle ∙ f .handles .sized)))
-      (eq-eqb _ _ (ap (λ (n : ℕ). suc (suc n)) (length-flat stationRow stationWords length-stationRow (σ .stations) ∙ ap (λ (n : ℕ). n * stationWords) (f .stations)))))
+      (eq-eqb _ _ (control-long σ v)))
       (eq-eqb _ _ (length-flat pendingRow pendingBytes length-pendingRow (σ .stations) ∙ ap (λ (n : ℕ). n * pendingBytes) (f .stations)))
 
   pub written-valid : valid (encode σ) ≡ true

@@ -60,7 +60,7 @@ memory-eq a b h = λ i.
       tokens = same-eq (a .tokens) (b .tokens) (search (and-l, and-r)) i;
       dacls = same-eq (a .dacls) (b .dacls) (search (and-l, and-r)) i;
       handles = handles-eq (a .handles) (b .handles) (search (and-l, and-r)) i;
-      stations = same-eq (a .stations) (b .stations) (search (and-l, and-r)) i;
+      control = same-eq (a .control) (b .control) (search (and-l, and-r)) i;
       pending = same-eq (a .pending) (b .pending) (search (and-l, and-r)) i;
     }
 

@@ -8,7 +8,7 @@ use Rattle.rules.specs.Basic.{if_then_else_, all, changeAt}
 use Rattle.rules.specs.Number.{encodeAll, max32}
 use Rattle.rules.specs.Mask.{adjustGroups}
 use Rattle.rules.specs.Refusal.{badField, protectedGroup}
-use Rattle.rules.specs.Group.{Group, noGroup, isEnabled, isEnabledByDefault, isDenyOnly, isFixed, withEnabled}
+use Rattle.rules.specs.Group.{Group, noGroup, isMandatory, isEnabledByDefault, isEnabled, isDenyOnly, isLogon, withEnabled}
 use Rattle.rules.specs.Token.{Token, withGroups, nextModified}
 use Rattle.rules.specs.State.{State, changeToken}
 use Rattle.rules.specs.Entry.{Entry, isOnly, validEntries, applyAll}
@@ -21,13 +21,12 @@ isReset es = isOnly max32 0 es
 unfoldable pub validEntry : List Group → Entry → Bool
 validEntry gs e = ltb e.key (length gs) && leb e.value 1
 
--- protected: disabling a mandatory, logon or user-SID group that isn't deny-only, and enabling a deny-only one
-unfoldable pub maySwitch : ℕ → ℕ → Group → Bool
-maySwitch user zero g = isDenyOnly g || not (isFixed user g)
-maySwitch user (suc v) g = not (isDenyOnly g)
+-- protected: a mandatory, deny-only or logon group, whichever way the entry points, and a group with the user's SID on disabling
+unfoldable pub isProtected : ℕ → ℕ → Group → Bool
+isProtected user value g = isMandatory g || isDenyOnly g || isLogon g || (eqb g.sid user && eqb value 0)
 
 unfoldable pub unprotected : Token → Entry → Bool
-unprotected t e = maySwitch (t .identity .user) e.value (getD t.groups e.key noGroup)
+unprotected t e = not (isProtected (t .identity .user) e.value (getD t.groups e.key noGroup))
 
 unfoldable pub applied : Entry → List Group → List Group
 applied e gs = changeAt e.key (withEnabled (eqb e.value 1)) gs

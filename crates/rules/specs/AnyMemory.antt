@@ -6,10 +6,11 @@ use mathlib.Core.Logic.{_⊎_}
 use mathlib.Core.List.{List, [], _∷_}
 use lib.ListN.{length, take, drop}
 use Rattle.table.specs.Column.{column}
+use Rattle.table.specs.Sections.{section}
 use Rattle.rules.specs.Refusal.{ranks, streamBroken, noStation, shortBuffer, invalidMemory}
 use Rattle.rules.specs.State.{stationCount}
 use Rattle.rules.specs.Frame.{Framed, part, broken, whole, framed, maxAnswer}
-use Rattle.rules.specs.Memory.{Memory, counterWords, stationWords, valid}
+use Rattle.rules.specs.Memory.{Memory, stationWords, primaryWord, counterSection, controlSizes, stationWordAt, valid}
 use Rattle.rules.specs.Run.{Call, ofBytes}
 use Rattle.rules.specs.Growth.{Mem}
 use Rattle.rules.specs.Calls.{refusedOn}
@@ -31,11 +32,11 @@ statuses answer = statusesIn (framed answer)
 
 -- the next numbers of tokens and of handles
 unfoldable pub counters : Memory → List ℕ
-counters m = take counterWords m.stations
+counters m = section controlSizes counterSection m.control
 
--- each station's primary token, the first word of its row
+-- each station's primary token, a word of its row
 unfoldable pub primaries : Memory → List ℕ
-primaries m = column stationWords stationCount (drop counterWords m.stations)
+primaries m = column stationWords stationCount (drop (stationWordAt 0 primaryWord) m.control)
 
 pub record LeftAlone (m m′ : Memory) : Type 0 where
   pub tokens : m′ .tokens ≡ m .tokens

@@ -8,6 +8,7 @@ use lib.Dec.{eqb}
 use Rattle.table.specs.Lists.{pad}
 use Rattle.table.specs.Table.{flat}
 use Rattle.table.specs.Rows.{readRows}
+use Rattle.table.specs.Sections.{total, placeOf, joined, section}
 use Rattle.rules.specs.Basic.{if_then_else_}
 use Rattle.rules.specs.Privileges.{Privileges}
 use Rattle.rules.specs.Group.{Group}
@@ -24,7 +25,7 @@ pub record Memory : Type 0 where
   pub tokens : List ℕ
   pub dacls : List ℕ
   pub handles : List Handle
-  pub stations : List ℕ
+  pub control : List ℕ
   pub pending : List ℕ
 
 -- ---- sizes
@@ -36,23 +37,70 @@ headWords = 20
 abbrev pub tokenWords : ℕ
 tokenWords = headWords + maxGroups + maxRestricting
 
--- a station's row; before the rows stand the two next numbers
-abbrev pub stationWords : ℕ
-stationWords = 3
+-- a station's pending bytes: a frame's two length bytes and its body
+abbrev pub pendingBytes : ℕ
+pendingBytes = maxBody + 2
+
+-- ---- the control words: what the broker keeps beside tokens, handles and pending bytes, in sections of fixed sizes one after the other.
+-- What is new goes to the end, a section behind the last and a word behind the others of its row
+
+-- the two next numbers
+abbrev pub tokenCounter : ℕ
+tokenCounter = 0
+
+abbrev pub handleCounter : ℕ
+handleCounter = 1
 
 abbrev pub counterWords : ℕ
 counterWords = 2
 
--- a station's pending bytes: a frame's two length bytes and its body
-abbrev pub pendingBytes : ℕ
-pendingBytes = maxBody + 2
+-- a station's row: its primary token, how many bytes are pending, whether the stream is broken
+abbrev pub primaryWord : ℕ
+primaryWord = 0
+
+abbrev pub countWord : ℕ
+countWord = 1
+
+abbrev pub brokenWord : ℕ
+brokenWord = 2
+
+abbrev pub stationWords : ℕ
+stationWords = 3
+
+-- the sections
+abbrev pub counterSection : ℕ
+counterSection = 0
+
+abbrev pub stationSection : ℕ
+stationSection = 1
+
+abbrev pub controlSizes : List ℕ
+controlSizes = counterWords ∷ stationCount * stationWords ∷ []
+
+abbrev pub controlWords : ℕ
+controlWords = total controlSizes
+
+abbrev pub nextToken : List ℕ → ℕ
+nextToken ws = getD ws tokenCounter 0
+
+abbrev pub nextHandle : List ℕ → ℕ
+nextHandle ws = getD ws handleCounter 0
+
+abbrev pub stationsIn : List ℕ → List ℕ
+stationsIn ws = section controlSizes stationSection ws
+
+-- where word k of station s stands
+abbrev pub stationWordAt : ℕ → ℕ → ℕ
+stationWordAt s k = placeOf controlSizes stationSection + (s * stationWords + k)
+
+-- ---- every part has its size
 
 unfoldable pub sized : Memory → Bool
 sized m =
     eqb (length m.tokens) (tokenSlots * tokenWords)
     && eqb (length m.dacls) (tokenSlots * maxDacl)
     && eqb (length m.handles) handleSlots
-    && eqb (length m.stations) (counterWords + stationCount * stationWords)
+    && eqb (length m.control) controlWords
     && eqb (length m.pending) (stationCount * pendingBytes)
 
 -- ---- words
@@ -109,6 +157,15 @@ slotHandle (live h) = h
 unfoldable pub stationRow : Station → List ℕ
 stationRow x = x.token ∷ length x.pending ∷ mark x.isBroken ∷ []
 
+abbrev pub counters : State → List ℕ
+counters σ = σ .tokens .next ∷ σ .handles .next ∷ []
+
+unfoldable pub sections : State → List (List ℕ)
+sections σ = counters σ ∷ flat stationRow σ.stations ∷ []
+
+unfoldable pub control : State → List ℕ
+control σ = joined (sections σ)
+
 unfoldable pub pendingRow : Station → List ℕ
 pendingRow x = pad pendingBytes x.pending
 
@@ -118,7 +175,7 @@ encode σ =
       tokens = flat slotRow (σ .tokens .slots);
       dacls = flat slotDacl (σ .tokens .slots);
       handles = map slotHandle (σ .handles .slots);
-      stations = σ .tokens .next ∷ σ .handles .next ∷ flat stationRow σ.stations;
+      control = control σ;
       pending = flat pendingRow σ.stations;
     }
 
@@ -173,14 +230,14 @@ unfoldable pub handleAt : Handle → Slot Handle
 handleAt h = if eqb h.number 0 then free else live h
 
 unfoldable pub stationAt : List ℕ → List ℕ → Station
-stationAt ws bs = record { token = getD ws 0 0; pending = take (getD ws 1 0) bs; isBroken = eqb (getD ws 2 0) 1 }
+stationAt ws bs = record { token = getD ws primaryWord 0; pending = take (getD ws countWord 0) bs; isBroken = eqb (getD ws brokenWord 0) 1 }
 
 unfoldable pub decode : Memory → State
 decode m =
     record {
-      tokens = record { slots = readRows slotAt tokenWords maxDacl tokenSlots m.tokens m.dacls; next = getD m.stations 0 0 };
-      handles = record { slots = map handleAt m.handles; next = getD m.stations 1 0 };
-      stations = readRows stationAt stationWords pendingBytes stationCount (drop counterWords m.stations) m.pending;
+      tokens = record { slots = readRows slotAt tokenWords maxDacl tokenSlots m.tokens m.dacls; next = nextToken m.control };
+      handles = record { slots = map handleAt m.handles; next = nextHandle m.control };
+      stations = readRows stationAt stationWords pendingBytes stationCount (stationsIn m.control) m.pending;
     }
 
 -- ---- valid memory: its sizes are right, it is what the state that it stands for is written as, and that state is valid
@@ -202,7 +259,7 @@ sameHandles (x ∷ xs) (y ∷ ys) = sameHandle x y && sameHandles xs ys
 
 unfoldable pub sameMemory : Memory → Memory → Bool
 sameMemory a b =
-    same a.tokens b.tokens && same a.dacls b.dacls && sameHandles a.handles b.handles && same a.stations b.stations && same a.pending b.pending
+    same a.tokens b.tokens && same a.dacls b.dacls && sameHandles a.handles b.handles && same a.control b.control && same a.pending b.pending
 
 unfoldable pub isImage : Memory → Bool
 isImage m = sameMemory (encode (decode m)) m

@@ -37,7 +37,7 @@ returnsOf (c ∷ cs) σ = let r = returned σ c in r ∷ returnsOf cs (r .after)
 pub record WholeList (σ : State) (cs : List Call) : Type 0 where
   -- 'after the list the memory holds what the plain desk holds'
   pub memory : memoryAfter cs (encode σ) ≡ encode (Run.after cs σ)
-  -- 'each call has returned and answered what the plain desk does', and so is the memory after each
+  -- 'each call has returned and answered what the plain desk does', and the memory after it holds what the plain desk then holds
   pub returns : returnsOn cs (encode σ) ≡ map written (returnsOf cs σ)
   -- '13 never comes'
   pub never13 : (r : Done) → Mem r (returnsOn cs (encode σ)) → r .refusal ≡ invalidMemory → ⊥
@@ -46,7 +46,7 @@ pub record WholeList (σ : State) (cs : List Call) : Type 0 where
   -- the order of serving, cutting, growth, and that answers fit
   pub throughout : Throughout σ cs
 
--- 'from the desk's start': start on any memory of the right size leaves the memory of such a state
+-- 'from the desk's start': on any memory of the right size start leaves the memory of the state `start`, which is valid
 pub record AfterStart (cs : List Call) : Type 0 where
   pub begun : (m : Memory) → sized m ≡ true → startOn m .after ≡ encode start
   pub whole : WholeList start cs

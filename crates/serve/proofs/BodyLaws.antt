@@ -36,13 +36,13 @@ module _ {body : List ℕ} {first : Field} (b : Begun body first) where
   same-layout : (layout : Reader Request) → getD layouts (first .value) unknown ≡ layout → readFrom layout (restOf body (first .next)) ≡ parse body
   same-layout layout e = ap (λ (l : Reader Request). readFrom l (restOf body (first .next))) (sym e) ∙ b .parsed
 
-  module _ (station : ℕ) {hs : List Handle} {ss ts ds : List ℕ} (r : Outcome) where
-    pub by-number : (n : ℕ) → first .value ≡ n → {ss′ ts′ ds′ : List ℕ}
-        → LayoutCarried (getD layouts n unknown) station body (first .next) hs ss ts ds ss′ ts′ ds′ r → BodyCarried station body hs ss ts ds ss′ ts′ ds′ r
+  module _ (station : ℕ) {hs : List Handle} {cs ts ds : List ℕ} (r : Outcome) where
+    pub by-number : (n : ℕ) → first .value ≡ n → {cs′ ts′ ds′ : List ℕ}
+        → LayoutCarried (getD layouts n unknown) station body (first .next) ts ds hs cs ts′ ds′ cs′ r → BodyCarried station body ts ds hs cs ts′ ds′ cs′ r
     unfolding decision
     by-number n e x = record { carried = read-alike station r (same-layout (getD layouts n unknown) (ap (λ (m : ℕ). getD layouts m unknown) e)) (x .carried) }
 
-    pub by-none : Apart 11 (first .value) → Ends (answers.Refused 1) r → BodyCarried station body hs ss ts ds ss ts ds r
+    pub by-none : Apart 11 (first .value) → Ends (answers.Refused 1) r → BodyCarried station body ts ds hs cs ts ds cs r
     unfolding decision
     by-none u i = record {
       carried = malformed station r (parse body) (sym (same-layout unknown (none-of (first .value) u)) ∙ no-layout (restOf body (first .next))) i;
@@ -50,13 +50,13 @@ module _ {body : List ℕ} {first : Field} (b : Begun body first) where
 
 -- ---- the answer is written
 
-module _ {station : ℕ} {body : List ℕ} {hs : List Handle} {ss ts ds ss′ ts′ ds′ : List ℕ} (r : Outcome)
-    (x : BodyCarried station body hs ss ts ds ss′ ts′ ds′ r) where
-  pub answer-fits : Held hs ss ts ds → Fit ts′ ds′ (r .answer)
+module _ {station : ℕ} {body : List ℕ} {hs : List Handle} {cs ts ds cs′ ts′ ds′ : List ℕ} (r : Outcome)
+    (x : BodyCarried station body ts ds hs cs ts′ ds′ cs′ r) where
+  pub answer-fits : Held ts ds hs cs → Fit ts′ ds′ (r .answer)
   answer-fits h = x .carried .fit (h .state) (h .isValid) (h .parts)
 
   pub answered : (out out′ : List ℕ) (w : ℕ) → WroteFrame (answerOf ts′ ds′ (r .answer)) out out′ w
-      → BodyServed station body hs ss ts ds ss′ ts′ ds′ out out′ (record { written = w; change = r .change })
+      → BodyServed station body ts ds hs cs ts′ ds′ cs′ out out′ (record { written = w; change = r .change })
   unfolding serve
   answered out out′ w f = record {
     parts = x .carried .parts;

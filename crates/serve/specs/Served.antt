@@ -19,21 +19,21 @@ use Rattle.decide.specs.declared.outcome.Outcome.{Outcome}
 use Rattle.serve.specs.declared.Reply.{Reply}
 
 -- the parts hold a valid state
-pub record Held (hs : List Handle) (ss ts ds : List ℕ) : Type 0 where
+pub record Held (ts ds : List ℕ) (hs : List Handle) (cs : List ℕ) : Type 0 where
   pub state : State
   pub isValid : valid state ≡ true
-  pub parts : PartsIn state hs ss ts ds
+  pub parts : PartsIn state ts ds hs cs
 
 -- the rest of a body, from a cursor on, is read by a layout, decided and carried out
-pub record LayoutCarried (layout : Reader Request) (station : ℕ) (s : List ℕ) (c : Cursor)
-    (hs : List Handle) (ss ts ds ss′ ts′ ds′ : List ℕ) (r : Outcome) : Type 0 where
-  pub carried : Carried (λ σ. decided σ station (readFrom layout (restOf s c))) hs ss ts ds ss′ ts′ ds′ r
+pub record LayoutCarried (layout : Reader Request) (station : ℕ) (s : List ℕ) (c : Cursor) (ts ds : List ℕ) (hs : List Handle) (cs ts′ ds′ cs′ : List ℕ)
+    (r : Outcome) : Type 0 where
+  pub carried : Carried (λ σ. decided σ station (readFrom layout (restOf s c))) ts ds hs cs ts′ ds′ cs′ r
 
 -- a whole body
-pub record BodyCarried (station : ℕ) (body : List ℕ) (hs : List Handle) (ss ts ds ss′ ts′ ds′ : List ℕ) (r : Outcome) : Type 0 where
-  pub carried : Carried (λ σ. decision σ station body) hs ss ts ds ss′ ts′ ds′ r
+pub record BodyCarried (station : ℕ) (body ts ds : List ℕ) (hs : List Handle) (cs ts′ ds′ cs′ : List ℕ) (r : Outcome) : Type 0 where
+  pub carried : Carried (λ σ. decision σ station body) ts ds hs cs ts′ ds′ cs′ r
 
 -- the parts after it hold the rules' state after it, and the buffer has the rules' answer frame before its old bytes
-pub record BodyServed (station : ℕ) (body : List ℕ) (hs : List Handle) (ss ts ds ss′ ts′ ds′ out out′ : List ℕ) (r : Reply) : Type 0 where
-  pub parts : (σ : State) → valid σ ≡ true → PartsIn σ hs ss ts ds → PartsIn (serve σ station body .state) (changed hs (r .change)) ss′ ts′ ds′
-  pub answer : (σ : State) → valid σ ≡ true → PartsIn σ hs ss ts ds → WroteFrame (serve σ station body .answer) out out′ (r .written)
+pub record BodyServed (station : ℕ) (body ts ds : List ℕ) (hs : List Handle) (cs ts′ ds′ cs′ out out′ : List ℕ) (r : Reply) : Type 0 where
+  pub parts : (σ : State) → valid σ ≡ true → PartsIn σ ts ds hs cs → PartsIn (serve σ station body .state) ts′ ds′ (changed hs (r .change)) cs′
+  pub answer : (σ : State) → valid σ ≡ true → PartsIn σ ts ds hs cs → WroteFrame (serve σ station body .answer) out out′ (r .written)

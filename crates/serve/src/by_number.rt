@@ -21,16 +21,16 @@ pub fn open_own(
     handles: &[u64; HANDLE_WORDS],
     tokens: &mut [u64],
     dacls: &mut [u8],
-    stations: &mut [u64],
+    control: &mut [u64],
 ) -> Outcome
-    requires { ⌜ Lent (now tokens) (now dacls) (now stations) × (station < stationCount) ⌝ }
-    ensures { λ r. ⌜ LayoutCarried (numberLayout rules.openOwn) station (now (s .entry)) c (recordsIn (now (handles .entry))) (now (stations .entry)) (now (tokens .entry)) (now (dacls .entry)) (now (stations .exit)) (now (tokens .exit)) (now (dacls .exit)) r ⌝ }
+    requires { ⌜ Lent (now tokens) (now dacls) (now control) × (station < stationCount) ⌝ }
+    ensures { λ r. ⌜ LayoutCarried (numberLayout rules.openOwn) station (now (s .entry)) c (now (tokens .entry)) (now (dacls .entry)) (recordsIn (now (handles .entry))) (now (control .entry)) (now (tokens .exit)) (now (dacls .exit)) (now (control .exit)) r ⌝ }
 {
     let f = layout::number(s, c);
     if !f.ok {
         return outcome::refused(refusal::MALFORMED);
     }
-    open::open_own(station, f.value, handles, tokens, dacls, stations)
+    open::open_own(station, f.value, handles, tokens, dacls, control)
 }
 
 pub fn close(
@@ -40,16 +40,16 @@ pub fn close(
     handles: &[u64; HANDLE_WORDS],
     tokens: &mut [u64],
     dacls: &mut [u8],
-    stations: &mut [u64],
+    control: &mut [u64],
 ) -> Outcome
-    requires { ⌜ Lent (now tokens) (now dacls) (now stations) × (station < stationCount) ⌝ }
-    ensures { λ r. ⌜ LayoutCarried (numberLayout rules.close) station (now (s .entry)) c (recordsIn (now (handles .entry))) (now (stations .entry)) (now (tokens .entry)) (now (dacls .entry)) (now (stations .exit)) (now (tokens .exit)) (now (dacls .exit)) r ⌝ }
+    requires { ⌜ Lent (now tokens) (now dacls) (now control) × (station < stationCount) ⌝ }
+    ensures { λ r. ⌜ LayoutCarried (numberLayout rules.close) station (now (s .entry)) c (now (tokens .entry)) (now (dacls .entry)) (recordsIn (now (handles .entry))) (now (control .entry)) (now (tokens .exit)) (now (dacls .exit)) (now (control .exit)) r ⌝ }
 {
     let f = layout::number(s, c);
     if !f.ok {
         return outcome::refused(refusal::MALFORMED);
     }
-    open::close(station, f.value, handles, tokens, dacls, stations)
+    open::close(station, f.value, handles, tokens, dacls, control)
 }
 
 pub fn create(
@@ -59,16 +59,16 @@ pub fn create(
     handles: &[u64; HANDLE_WORDS],
     tokens: &mut [u64],
     dacls: &mut [u8],
-    stations: &mut [u64],
+    control: &mut [u64],
 ) -> Outcome
-    requires { ⌜ Lent (now tokens) (now dacls) (now stations) × (station < stationCount) ⌝ }
-    ensures { λ r. ⌜ LayoutCarried createLayout station (now (s .entry)) c (recordsIn (now (handles .entry))) (now (stations .entry)) (now (tokens .entry)) (now (dacls .entry)) (now (stations .exit)) (now (tokens .exit)) (now (dacls .exit)) r ⌝ }
+    requires { ⌜ Lent (now tokens) (now dacls) (now control) × (station < stationCount) ⌝ }
+    ensures { λ r. ⌜ LayoutCarried createLayout station (now (s .entry)) c (now (tokens .entry)) (now (dacls .entry)) (recordsIn (now (handles .entry))) (now (control .entry)) (now (tokens .exit)) (now (dacls .exit)) (now (control .exit)) r ⌝ }
 {
     let f = layout::create(s, c);
     if !f.ok {
         return outcome::refused(refusal::MALFORMED);
     }
-    create::create(station, f, s, handles, tokens, dacls, stations)
+    create::create(station, f, s, handles, tokens, dacls, control)
 }
 
 pub fn query(
@@ -78,16 +78,16 @@ pub fn query(
     handles: &[u64; HANDLE_WORDS],
     tokens: &mut [u64],
     dacls: &mut [u8],
-    stations: &mut [u64],
+    control: &mut [u64],
 ) -> Outcome
-    requires { ⌜ Lent (now tokens) (now dacls) (now stations) × (station < stationCount) ⌝ }
-    ensures { λ r. ⌜ LayoutCarried queryLayout station (now (s .entry)) c (recordsIn (now (handles .entry))) (now (stations .entry)) (now (tokens .entry)) (now (dacls .entry)) (now (stations .exit)) (now (tokens .exit)) (now (dacls .exit)) r ⌝ }
+    requires { ⌜ Lent (now tokens) (now dacls) (now control) × (station < stationCount) ⌝ }
+    ensures { λ r. ⌜ LayoutCarried queryLayout station (now (s .entry)) c (now (tokens .entry)) (now (dacls .entry)) (recordsIn (now (handles .entry))) (now (control .entry)) (now (tokens .exit)) (now (dacls .exit)) (now (control .exit)) r ⌝ }
 {
     let f = layout::query(s, c);
     if !f.ok {
         return outcome::refused(refusal::MALFORMED);
     }
-    query::query(station, f, handles, tokens, dacls, stations)
+    query::query(station, f, handles, tokens, dacls, control)
 }
 
 pub fn privileges(
@@ -97,16 +97,16 @@ pub fn privileges(
     handles: &[u64; HANDLE_WORDS],
     tokens: &mut [u64],
     dacls: &mut [u8],
-    stations: &mut [u64],
+    control: &mut [u64],
 ) -> Outcome
-    requires { ⌜ Lent (now tokens) (now dacls) (now stations) × (station < stationCount) ⌝ }
-    ensures { λ r. ⌜ LayoutCarried (entriesLayout rules.privileges) station (now (s .entry)) c (recordsIn (now (handles .entry))) (now (stations .entry)) (now (tokens .entry)) (now (dacls .entry)) (now (stations .exit)) (now (tokens .exit)) (now (dacls .exit)) r ⌝ }
+    requires { ⌜ Lent (now tokens) (now dacls) (now control) × (station < stationCount) ⌝ }
+    ensures { λ r. ⌜ LayoutCarried (entriesLayout rules.privileges) station (now (s .entry)) c (now (tokens .entry)) (now (dacls .entry)) (recordsIn (now (handles .entry))) (now (control .entry)) (now (tokens .exit)) (now (dacls .exit)) (now (control .exit)) r ⌝ }
 {
     let f = layout::entries(s, c);
     if !f.ok {
         return outcome::refused(refusal::MALFORMED);
     }
-    adjust::privileges::adjust_privileges(station, f, s, handles, tokens, dacls, stations)
+    adjust::privileges::adjust_privileges(station, f, s, handles, tokens, dacls, control)
 }
 
 pub fn groups(
@@ -116,16 +116,16 @@ pub fn groups(
     handles: &[u64; HANDLE_WORDS],
     tokens: &mut [u64],
     dacls: &mut [u8],
-    stations: &mut [u64],
+    control: &mut [u64],
 ) -> Outcome
-    requires { ⌜ Lent (now tokens) (now dacls) (now stations) × (station < stationCount) ⌝ }
-    ensures { λ r. ⌜ LayoutCarried (entriesLayout rules.groups) station (now (s .entry)) c (recordsIn (now (handles .entry))) (now (stations .entry)) (now (tokens .entry)) (now (dacls .entry)) (now (stations .exit)) (now (tokens .exit)) (now (dacls .exit)) r ⌝ }
+    requires { ⌜ Lent (now tokens) (now dacls) (now control) × (station < stationCount) ⌝ }
+    ensures { λ r. ⌜ LayoutCarried (entriesLayout rules.groups) station (now (s .entry)) c (now (tokens .entry)) (now (dacls .entry)) (recordsIn (now (handles .entry))) (now (control .entry)) (now (tokens .exit)) (now (dacls .exit)) (now (control .exit)) r ⌝ }
 {
     let f = layout::entries(s, c);
     if !f.ok {
         return outcome::refused(refusal::MALFORMED);
     }
-    adjust::groups::adjust_groups(station, f, s, handles, tokens, dacls, stations)
+    adjust::groups::adjust_groups(station, f, s, handles, tokens, dacls, control)
 }
 
 pub fn scope(
@@ -135,16 +135,16 @@ pub fn scope(
     handles: &[u64; HANDLE_WORDS],
     tokens: &mut [u64],
     dacls: &mut [u8],
-    stations: &mut [u64],
+    control: &mut [u64],
 ) -> Outcome
-    requires { ⌜ Lent (now tokens) (now dacls) (now stations) × (station < stationCount) ⌝ }
-    ensures { λ r. ⌜ LayoutCarried scopeLayout station (now (s .entry)) c (recordsIn (now (handles .entry))) (now (stations .entry)) (now (tokens .entry)) (now (dacls .entry)) (now (stations .exit)) (now (tokens .exit)) (now (dacls .exit)) r ⌝ }
+    requires { ⌜ Lent (now tokens) (now dacls) (now control) × (station < stationCount) ⌝ }
+    ensures { λ r. ⌜ LayoutCarried scopeLayout station (now (s .entry)) c (now (tokens .entry)) (now (dacls .entry)) (recordsIn (now (handles .entry))) (now (control .entry)) (now (tokens .exit)) (now (dacls .exit)) (now (control .exit)) r ⌝ }
 {
     let f = layout::scope(s, c);
     if !f.ok {
         return outcome::refused(refusal::MALFORMED);
     }
-    adjust::scope::scope(station, f, handles, tokens, dacls, stations)
+    adjust::scope::scope(station, f, handles, tokens, dacls, control)
 }
 
 pub fn defaults(
@@ -154,16 +154,16 @@ pub fn defaults(
     handles: &[u64; HANDLE_WORDS],
     tokens: &mut [u64],
     dacls: &mut [u8],
-    stations: &mut [u64],
+    control: &mut [u64],
 ) -> Outcome
-    requires { ⌜ Lent (now tokens) (now dacls) (now stations) × (station < stationCount) × (c .at ≤ length (now s)) ⌝ }
-    ensures { λ r. ⌜ LayoutCarried defaultsLayout station (now (s .entry)) c (recordsIn (now (handles .entry))) (now (stations .entry)) (now (tokens .entry)) (now (dacls .entry)) (now (stations .exit)) (now (tokens .exit)) (now (dacls .exit)) r ⌝ }
+    requires { ⌜ Lent (now tokens) (now dacls) (now control) × (station < stationCount) × (c .at ≤ length (now s)) ⌝ }
+    ensures { λ r. ⌜ LayoutCarried defaultsLayout station (now (s .entry)) c (now (tokens .entry)) (now (dacls .entry)) (recordsIn (now (handles .entry))) (now (control .entry)) (now (tokens .exit)) (now (dacls .exit)) (now (control .exit)) r ⌝ }
 {
     let f = layout::defaults(s, c);
     if !f.ok {
         return outcome::refused(refusal::MALFORMED);
     }
-    adjust::defaults::adjust_defaults(station, f, s, handles, tokens, dacls, stations)
+    adjust::defaults::adjust_defaults(station, f, s, handles, tokens, dacls, control)
 }
 
 pub fn duplicate(
@@ -173,16 +173,16 @@ pub fn duplicate(
     handles: &[u64; HANDLE_WORDS],
     tokens: &mut [u64],
     dacls: &mut [u8],
-    stations: &mut [u64],
+    control: &mut [u64],
 ) -> Outcome
-    requires { ⌜ Lent (now tokens) (now dacls) (now stations) × (station < stationCount) ⌝ }
-    ensures { λ r. ⌜ LayoutCarried duplicateLayout station (now (s .entry)) c (recordsIn (now (handles .entry))) (now (stations .entry)) (now (tokens .entry)) (now (dacls .entry)) (now (stations .exit)) (now (tokens .exit)) (now (dacls .exit)) r ⌝ }
+    requires { ⌜ Lent (now tokens) (now dacls) (now control) × (station < stationCount) ⌝ }
+    ensures { λ r. ⌜ LayoutCarried duplicateLayout station (now (s .entry)) c (now (tokens .entry)) (now (dacls .entry)) (recordsIn (now (handles .entry))) (now (control .entry)) (now (tokens .exit)) (now (dacls .exit)) (now (control .exit)) r ⌝ }
 {
     let f = layout::duplicate(s, c);
     if !f.ok {
         return outcome::refused(refusal::MALFORMED);
     }
-    copy::duplicate::duplicate(station, f, handles, tokens, dacls, stations)
+    copy::duplicate::duplicate(station, f, handles, tokens, dacls, control)
 }
 
 pub fn restrict(
@@ -192,16 +192,16 @@ pub fn restrict(
     handles: &[u64; HANDLE_WORDS],
     tokens: &mut [u64],
     dacls: &mut [u8],
-    stations: &mut [u64],
+    control: &mut [u64],
 ) -> Outcome
-    requires { ⌜ Lent (now tokens) (now dacls) (now stations) × (station < stationCount) ⌝ }
-    ensures { λ r. ⌜ LayoutCarried restrictLayout station (now (s .entry)) c (recordsIn (now (handles .entry))) (now (stations .entry)) (now (tokens .entry)) (now (dacls .entry)) (now (stations .exit)) (now (tokens .exit)) (now (dacls .exit)) r ⌝ }
+    requires { ⌜ Lent (now tokens) (now dacls) (now control) × (station < stationCount) ⌝ }
+    ensures { λ r. ⌜ LayoutCarried restrictLayout station (now (s .entry)) c (now (tokens .entry)) (now (dacls .entry)) (recordsIn (now (handles .entry))) (now (control .entry)) (now (tokens .exit)) (now (dacls .exit)) (now (control .exit)) r ⌝ }
 {
     let f = layout::restrict(s, c);
     if !f.ok {
         return outcome::refused(refusal::MALFORMED);
     }
-    copy::restrict::restrict(station, f, s, handles, tokens, dacls, stations)
+    copy::restrict::restrict(station, f, s, handles, tokens, dacls, control)
 }
 
 pub fn install(
@@ -211,14 +211,14 @@ pub fn install(
     handles: &[u64; HANDLE_WORDS],
     tokens: &mut [u64],
     dacls: &mut [u8],
-    stations: &mut [u64],
+    control: &mut [u64],
 ) -> Outcome
-    requires { ⌜ Lent (now tokens) (now dacls) (now stations) × (station < stationCount) ⌝ }
-    ensures { λ r. ⌜ LayoutCarried (numberLayout rules.install) station (now (s .entry)) c (recordsIn (now (handles .entry))) (now (stations .entry)) (now (tokens .entry)) (now (dacls .entry)) (now (stations .exit)) (now (tokens .exit)) (now (dacls .exit)) r ⌝ }
+    requires { ⌜ Lent (now tokens) (now dacls) (now control) × (station < stationCount) ⌝ }
+    ensures { λ r. ⌜ LayoutCarried (numberLayout rules.install) station (now (s .entry)) c (now (tokens .entry)) (now (dacls .entry)) (recordsIn (now (handles .entry))) (now (control .entry)) (now (tokens .exit)) (now (dacls .exit)) (now (control .exit)) r ⌝ }
 {
     let f = layout::number(s, c);
     if !f.ok {
         return outcome::refused(refusal::MALFORMED);
     }
-    install::install(station, f.value, handles, tokens, dacls, stations)
+    install::install(station, f.value, handles, tokens, dacls, control)
 }

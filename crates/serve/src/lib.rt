@@ -28,26 +28,26 @@ fn carry_out(
     handles: &[u64; HANDLE_WORDS],
     tokens: &mut [u64],
     dacls: &mut [u8],
-    stations: &mut [u64],
+    control: &mut [u64],
 ) -> Outcome
-    requires { ⌜ Lent (now tokens) (now dacls) (now stations) × (station < stationCount) ⌝ }
-    ensures { λ r. ⌜ BodyCarried station (now (body .entry)) (recordsIn (now (handles .entry))) (now (stations .entry)) (now (tokens .entry)) (now (dacls .entry)) (now (stations .exit)) (now (tokens .exit)) (now (dacls .exit)) r ⌝ }
+    requires { ⌜ Lent (now tokens) (now dacls) (now control) × (station < stationCount) ⌝ }
+    ensures { λ r. ⌜ BodyCarried station (now (body .entry)) (now (tokens .entry)) (now (dacls .entry)) (recordsIn (now (handles .entry))) (now (control .entry)) (now (tokens .exit)) (now (dacls .exit)) (now (control .exit)) r ⌝ }
 {
     let first = layout::request_number(body);
     let n = first.value;
     let c = first.next;
     match n {
-        1 => by_number::open_own(station, body, c, handles, tokens, dacls, stations),
-        2 => by_number::close(station, body, c, handles, tokens, dacls, stations),
-        3 => by_number::create(station, body, c, handles, tokens, dacls, stations),
-        4 => by_number::query(station, body, c, handles, tokens, dacls, stations),
-        5 => by_number::privileges(station, body, c, handles, tokens, dacls, stations),
-        6 => by_number::groups(station, body, c, handles, tokens, dacls, stations),
-        7 => by_number::scope(station, body, c, handles, tokens, dacls, stations),
-        8 => by_number::defaults(station, body, c, handles, tokens, dacls, stations),
-        9 => by_number::duplicate(station, body, c, handles, tokens, dacls, stations),
-        10 => by_number::restrict(station, body, c, handles, tokens, dacls, stations),
-        11 => by_number::install(station, body, c, handles, tokens, dacls, stations),
+        1 => by_number::open_own(station, body, c, handles, tokens, dacls, control),
+        2 => by_number::close(station, body, c, handles, tokens, dacls, control),
+        3 => by_number::create(station, body, c, handles, tokens, dacls, control),
+        4 => by_number::query(station, body, c, handles, tokens, dacls, control),
+        5 => by_number::privileges(station, body, c, handles, tokens, dacls, control),
+        6 => by_number::groups(station, body, c, handles, tokens, dacls, control),
+        7 => by_number::scope(station, body, c, handles, tokens, dacls, control),
+        8 => by_number::defaults(station, body, c, handles, tokens, dacls, control),
+        9 => by_number::duplicate(station, body, c, handles, tokens, dacls, control),
+        10 => by_number::restrict(station, body, c, handles, tokens, dacls, control),
+        11 => by_number::install(station, body, c, handles, tokens, dacls, control),
         _ => outcome::refused(refusal::MALFORMED),
     }
 }
@@ -58,13 +58,13 @@ pub fn serve(
     handles: &[u64; HANDLE_WORDS],
     tokens: &mut [u64],
     dacls: &mut [u8],
-    stations: &mut [u64],
+    control: &mut [u64],
     out: &mut [u8],
 ) -> Reply
-    requires { ⌜ Lent (now tokens) (now dacls) (now stations) × (station < stationCount) × (maxAnswer ≤ length (now out)) × Held (recordsIn (now handles)) (now stations) (now tokens) (now dacls) ⌝ }
-    ensures { λ r. ⌜ BodyServed station (now (body .entry)) (recordsIn (now (handles .entry))) (now (stations .entry)) (now (tokens .entry)) (now (dacls .entry)) (now (stations .exit)) (now (tokens .exit)) (now (dacls .exit)) (now (out .entry)) (now (out .exit)) r ⌝ }
+    requires { ⌜ Lent (now tokens) (now dacls) (now control) × (station < stationCount) × (maxAnswer ≤ length (now out)) × Held (now tokens) (now dacls) (recordsIn (now handles)) (now control) ⌝ }
+    ensures { λ r. ⌜ BodyServed station (now (body .entry)) (now (tokens .entry)) (now (dacls .entry)) (recordsIn (now (handles .entry))) (now (control .entry)) (now (tokens .exit)) (now (dacls .exit)) (now (control .exit)) (now (out .entry)) (now (out .exit)) r ⌝ }
 {
-    let done = carry_out(station, body, handles, tokens, dacls, stations);
+    let done = carry_out(station, body, handles, tokens, dacls, control);
     let a = done.answer;
     let change = done.change;
     let written = answer::write(a, tokens, dacls, out);

@@ -141,6 +141,12 @@ module _ (m : Memory) (v : valid m ≡ true) (s : ℕ) (chunk : List ℕ) (room 
       by false true = refuses shortBuffer
       by false false = rw v
 
+  pub call-refused : maxAnswer ≤ room → (feedOn m s chunk room .refusal ≡ 0 → ⊥) → feedOn m s chunk room .refusal ≡ noStation
+  unfolding feedOn refusedOn written
+  call-refused fits =
+      on-if (λ (d : Done). (d .refusal ≡ 0 → ⊥) → d .refusal ≡ noStation) (leb stationCount s) _ _ (λ t z. refl)
+      (λ t. rw (le-ltb room maxAnswer fits, v) (λ z. absurd (z (fed-uses chunk 0 s (decode m) .accepted))))
+
   module _ (bytes : all isByte chunk ≡ true) where
     after-valid : Valid.valid (feed (decode m) s chunk room .after) ≡ true
     unfolding all ofBytes after returned

@@ -23,7 +23,7 @@ use Rattle.broker.proofs.Freeing.{of-bytes}
 use Rattle.session.specs.Program.{fed}
 use Rattle.session.specs.Turns.{Starts, Turns}
 use Rattle.session.specs.declared.turn.Turned.{Turned}
-use Rattle.session.proofs.Feeding.{call-goes, call-valid, call-taken, call-skipped}
+use Rattle.session.proofs.Feeding.{call-goes, call-refused, call-valid, call-taken, call-skipped}
 
 -- ---- start
 
@@ -37,13 +37,13 @@ none-freed n zero h = refl
 none-freed zero (suc k) h = absurd (omega arith)
 none-freed (suc n) (suc k) h = ap (λ (hs : List Handle). none ∷ hs) (none-freed n k (omega arith))
 
-pub started : (ts ds ss ps ts′ ds′ ss′ ps′ : List ℕ) (x : Started) → StartsWith handleSlots ts ds ss ps ts′ ds′ ss′ ps′ x
-    → Starts ts ds ss ps ts′ ds′ ss′ ps′ (record { words = replicate (handleSlots * slotWords) 0 })
-started ts ds ss ps ts′ ds′ ss′ ps′ x w =
+pub started : (ts ds cs ps ts′ ds′ cs′ ps′ : List ℕ) (x : Started) → StartsWith handleSlots ts ds cs ps ts′ ds′ cs′ ps′ x
+    → Starts ts ds cs ps ts′ ds′ cs′ ps′ (record { words = replicate (handleSlots * slotWords) 0 })
+started ts ds cs ps ts′ ds′ cs′ ps′ x w =
     let hs : List Handle = replicate handleSlots none in
     record {
       handles = records-none;
-      memory = rw records-none (ap (λ (y : List Handle). memoryOf ts′ ds′ y ss′ ps′) (sym (none-freed handleSlots (x .freed) (w .inside))) ∙ w .started hs (length-replicate handleSlots none) .memory);
+      memory = rw records-none (ap (λ (y : List Handle). memoryOf ts′ ds′ y cs′ ps′) (sym (none-freed handleSlots (x .freed) (w .inside))) ∙ w .started hs (length-replicate handleSlots none) .memory);
     }
 
 -- ---- feed
@@ -62,21 +62,22 @@ module _ (s : ℕ) (chunk : List ℕ) (bytes : (i : ℕ) → getD chunk i 0 < 25
         feeds = f;
         inside = omega (arith, f .used, g .inside);
         fits = omega (arith, f .answered, ap length (f .answer), length-append (d .answer) (drop (length (d .answer)) out));
+        refusal = λ v fits z. f .refusal ∙ call-refused m v s chunk (length out) fits (λ e. z (f .refusal ∙ e));
         forward = λ e h. omega (arith, f .used, g .forward (sym (f .refusal) ∙ e) h);
         stays = λ v. rw (f .memory) (call-valid m v s chunk (length out) (of-bytes chunk bytes));
         taken = λ v fits some e. rw (answer, f .memory, f .used) (call-taken m v s chunk (length out) (of-bytes chunk bytes) fits some (sym (f .refusal) ∙ e));
         skipped = λ v fits some z. rw (f .memory) (call-skipped m v s chunk (length out) (of-bytes chunk bytes) fits some (λ e. z (f .refusal ∙ e)));
       }
 
-module _ (chunk : List ℕ) (bytes : (i : ℕ) → getD chunk i 0 < 256) (s : ℕ) (ws ts ds ss ps out ts′ ds′ ss′ ps′ out′ : List ℕ) (x : Turn) where
+module _ (chunk : List ℕ) (bytes : (i : ℕ) → getD chunk i 0 < 256) (s : ℕ) (ws ts ds cs ps out ts′ ds′ cs′ ps′ out′ : List ℕ) (x : Turn) where
   abbrev hs : List Handle
   hs = recordsIn ws
 
-  pub turned : FeedsWith s chunk handleSlots hs ts ds ss ps out ts′ ds′ ss′ ps′ out′ x
+  pub turned : FeedsWith s chunk handleSlots hs ts ds cs ps out ts′ ds′ cs′ ps′ out′ x
       → (n : Handles) → recordsIn (n .words) ≡ changed hs (x .change)
-      → Turns s chunk (memoryOf ts ds hs ss ps) (memoryOf ts′ ds′ (recordsIn (n .words)) ss′ ps′) out out′ (record { fed = x .fed; handles = n })
+      → Turns s chunk (memoryOf ts ds hs cs ps) (memoryOf ts′ ds′ (recordsIn (n .words)) cs′ ps′) out out′ (record { fed = x .fed; handles = n })
   turned w n e =
       let l : length hs ≡ handleSlots = records-long handleSlots ws in
       let all : loaded hs ≡ hs = take-at hs (replicate handleSlots none) handleSlots l in
-      turns s chunk bytes (memoryOf ts ds hs ss ps) (memoryOf ts′ ds′ (recordsIn (n .words)) ss′ ps′) out out′ (record { fed = x .fed; handles = n })
+      turns s chunk bytes (memoryOf ts ds hs cs ps) (memoryOf ts′ ds′ (recordsIn (n .words)) cs′ ps′) out out′ (record { fed = x .fed; handles = n })
       (rw e (w .fed hs l all))

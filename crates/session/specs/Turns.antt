@@ -4,6 +4,7 @@ use mathlib.Core.Path.{_≡_}
 use mathlib.Core.Bool.{true}
 use mathlib.Core.List.{List, _++_}
 use lib.ListN.{length, take, drop, replicate}
+use Rattle.rules.specs.Refusal.{noStation}
 use Rattle.rules.specs.State.{handleSlots}
 use Rattle.rules.specs.Frame.{maxAnswer}
 use Rattle.rules.specs.Memory.{Memory, decode, valid}
@@ -17,9 +18,9 @@ use Rattle.session.specs.Program.{Output, nothing, fed}
 use Rattle.session.specs.declared.turn.Turned.{Turned}
 
 -- a start over no handles
-pub record Starts (ts ds ss ps ts′ ds′ ss′ ps′ : List ℕ) (r : Handles) : Type 0 where
+pub record Starts (ts ds cs ps ts′ ds′ cs′ ps′ : List ℕ) (r : Handles) : Type 0 where
   pub handles : recordsIn (r .words) ≡ replicate handleSlots none
-  pub memory : memoryOf ts′ ds′ (recordsIn (r .words)) ss′ ps′ ≡ startOn (memoryOf ts ds (recordsIn (r .words)) ss ps) .after
+  pub memory : memoryOf ts′ ds′ (recordsIn (r .words)) cs′ ps′ ≡ startOn (memoryOf ts ds (recordsIn (r .words)) cs ps) .after
 
 -- the answer that was written, before what the rest of a chunk brings
 abbrev pub answering : List ℕ → Output → Output
@@ -30,6 +31,8 @@ pub record Turns (s : ℕ) (chunk : List ℕ) (m m′ : Memory) (out out′ : Li
   pub feeds : FeedPromise m s chunk out m′ out′ (r .fed)
   pub inside : r .fed .used ≤ length chunk
   pub fits : r .fed .answered ≤ length out′
+  -- 11 is the only refusal
+  pub refusal : valid m ≡ true → maxAnswer ≤ length out → (r .fed .refusal ≡ 0 → ⊥) → r .fed .refusal ≡ noStation
   pub forward : r .fed .refusal ≡ 0 → 0 < length chunk → 0 < r .fed .used
   pub stays : valid m ≡ true → valid m′ ≡ true
   pub taken : valid m ≡ true → maxAnswer ≤ length out → 0 < length chunk → r .fed .refusal ≡ 0

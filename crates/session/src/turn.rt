@@ -18,12 +18,12 @@ pub struct Turned {
 pub fn start(
     tokens: &mut [u64],
     dacls: &mut [u8],
-    stations: &mut [u64],
+    control: &mut [u64],
     pending: &mut [u8],
 ) -> Handles
-    ensures { λ r. ⌜ Starts (now (tokens .entry)) (now (dacls .entry)) (now (stations .entry)) (now (pending .entry)) (now (tokens .exit)) (now (dacls .exit)) (now (stations .exit)) (now (pending .exit)) r ⌝ }
+    ensures { λ r. ⌜ Starts (now (tokens .entry)) (now (dacls .entry)) (now (control .entry)) (now (pending .entry)) (now (tokens .exit)) (now (dacls .exit)) (now (control .exit)) (now (pending .exit)) r ⌝ }
 {
-    by_value::start(tokens, dacls, SLOTS, stations, pending);
+    by_value::start(tokens, dacls, SLOTS, control, pending);
     Handles {
         words: [0; HANDLE_WORDS],
     }
@@ -37,10 +37,10 @@ pub fn feed(
     tokens: &mut [u64],
     dacls: &mut [u8],
     handles: Handles,
-    stations: &mut [u64],
+    control: &mut [u64],
     pending: &mut [u8],
 ) -> Turned
-    ensures { λ r. ⌜ Turns station (now (chunk .entry)) (memoryOf (now (tokens .entry)) (now (dacls .entry)) (recordsIn (handles .words)) (now (stations .entry)) (now (pending .entry))) (memoryOf (now (tokens .exit)) (now (dacls .exit)) (recordsIn (r .handles .words)) (now (stations .exit)) (now (pending .exit))) (now (out .entry)) (now (out .exit)) r ⌝ }
+    ensures { λ r. ⌜ Turns station (now (chunk .entry)) (memoryOf (now (tokens .entry)) (now (dacls .entry)) (recordsIn (handles .words)) (now (control .entry)) (now (pending .entry))) (memoryOf (now (tokens .exit)) (now (dacls .exit)) (recordsIn (r .handles .words)) (now (control .exit)) (now (pending .exit))) (now (out .entry)) (now (out .exit)) r ⌝ }
 {
     let turn = by_value::feed(
         station,
@@ -50,7 +50,7 @@ pub fn feed(
         dacls,
         SLOTS,
         handles,
-        stations,
+        control,
         pending,
     );
     let fed = turn.fed;

@@ -17,7 +17,7 @@ use Rattle.rules.proofs.Rows.{length-slotRow, length-slotDacl, each-slot, Token
 use Rattle.handle.specs.Meaning as handle
 use Rattle.handle.specs.declared.Handle.{Handle}
 use Rattle.token.specs.Meaning as token
-use Rattle.state.specs.Parts.{TokensIn, StationsIn, HandlesIn}
+use Rattle.state.specs.Parts.{TokensIn, HandlesIn}
 use Rattle.state.specs.Formed.{Formed}
 
 pub loose-formed : (σ : State) → Loose σ → Formed σ
@@ -53,7 +53,3 @@ tokens-same e i = record { words = i .words ∙ ap (flat slotRow) e; bytes = i .
 
 pub handles-same : {σ τ : State} {hs : List Handle} → σ .handles .slots ≡ τ .handles .slots → HandlesIn σ hs → HandlesIn τ hs
 handles-same e i = record { records = i .records ∙ ap (map slotHandle) e }
-
-pub stations-same : {σ τ : State} {ss : List ℕ} → σ .tokens .next ≡ τ .tokens .next → σ .handles .next ≡ τ .handles .next → σ .stations ≡ τ .stations
-    → StationsIn σ ss → StationsIn τ ss
-stations-same a b e i = record { words = i .words ∙ cc }

@@ -1,5 +1,5 @@
 -- What is found among the handles, and what a change of one slot is. Assumes nothing.
-use Prim.Native.Nat.{ℕ, zero, suc, _+_, _<_}
+use Prim.Native.Nat.{ℕ, zero, suc, _<_}
 use native.Mathlib.Omega.{arith}
 use mathlib.Core.Path.{_≡_, refl, sym, ap, ap₂, _∙_}
 use mathlib.Core.Bool.{Bool, true, false, not, _&&_}
@@ -15,17 +15,16 @@ use Rattle.rules.specs.Handle as rules
 use Rattle.rules.specs.Valid.{valid}
 use Rattle.rules.specs.State as state
 use Rattle.rules.specs.State.{State, handleSlots, withHandles, findHandle, canAddHandle, addHandle, dropHandle}
-use Rattle.rules.specs.Memory.{slotHandle, handleAt}
+use Rattle.rules.specs.Memory.{handleCounter, sections, slotHandle, handleAt}
 use Rattle.rules.proofs.Logic.{and-r}
 use Rattle.rules.proofs.Index.{found-at, placed-set, exchanged-set}
 use Rattle.handle.specs.Meaning.{handleOf, none}
 use Rattle.handle.specs.declared.Handle.{Handle}
 use Rattle.handle.proofs.Slots.{findIndex, freeSlot, found-item, map-set}
+use Rattle.control.specs.Counters.{NextGiven, Stepped}
 use Rattle.state.specs.Parts.{HandlesIn}
-use Rattle.state.specs.StationFacts.{nextHandle, NextGiven}
 use Rattle.state.specs.HandleFacts.{HandleGiven, HandleRoom, HandleAdded}
 use Rattle.state.proofs.FormedLaws.{valid-formed, handles-back}
-use Rattle.state.proofs.StationLaws.{next-given}
 
 -- ---- one slot
 
@@ -90,10 +89,10 @@ free-there [] = refl
 free-there (free ∷ ps) = lt-ltb zero (suc (length ps)) (omega arith)
 free-there (live a ∷ ps) = leb·suc-suc (suc (freeIndex ps)) (length ps) ∙ free-there ps
 
-pub handle-room : (hs : List Handle) {ss : List ℕ} {i next : ℕ} → i ≡ freeSlot hs → NextGiven ss next
-    → HandleRoom hs ss (ltb i handleSlots && ltb next max32)
+pub handle-room : (hs : List Handle) {cs : List ℕ} {i next : ℕ} → i ≡ freeSlot hs → NextGiven handleCounter cs next
+    → HandleRoom hs cs (ltb i handleSlots && ltb next max32)
 unfolding canAddHandle canAdd
-handle-room hs {ss} {i} {next} e g = record {
+handle-room hs {cs} {i} {next} e g = record {
   room = λ σ v h k.
       let f = valid-formed σ v in
       let w : i ≡ freeIndex (σ .handles .slots) = e ∙ ap freeIndex (handles-back σ f hs h) in
@@ -101,19 +100,18 @@ handle-room hs {ss} {i} {next} e g = record {
   next = λ t. let l : next < max32 = ltb-true next max32 (and-r (ltb i handleSlots) (ltb next max32) t) in let w = g .word in omega arith;
 }
 
-pub handle-added : (s token mask : ℕ) (hs : List Handle) (ss : List ℕ) {i : ℕ} → i ≡ freeSlot hs
-    → HandleAdded s token mask hs ss (set ss 1 (nextHandle ss + 1))
-    (record { slot = i; handle = record { station = s; number = nextHandle ss; token = token; mask = mask } })
-unfolding addHandle withHandles added slotHandle
-handle-added s token mask hs ss {i} e = record {
-  stations = λ σ k. record { words = ap (λ (ws : List ℕ). set ws 1 (nextHandle ws + 1)) (k .words) };
+pub handle-added : (s token mask : ℕ) (hs : List Handle) {cs cs′ : List ℕ} {i n : ℕ} → i ≡ freeSlot hs → NextGiven handleCounter cs n → Stepped handleCounter cs cs′
+    → HandleAdded s token mask hs cs cs′ (record { slot = i; handle = record { station = s; number = n; token = token; mask = mask } })
+unfolding addHandle withHandles added sections slotHandle
+handle-added s token mask hs {i = i} e g t = record {
+  control = λ σ k. t .control σ (addHandle s token mask σ) refl k;
   handles = λ σ f h k.
       let new : rules.Handle = record { station = s; number = σ .handles .next; token = token; mask = mask } in
       record {
         records =
-            set-slot σ hs i (live new) h (ap (λ (n : ℕ). record { station = s; number = n; token = token; mask = mask }) (next-given ss .next σ k))
+            set-slot σ hs i (live new) h (ap (λ (n : ℕ). record { station = s; number = n; token = token; mask = mask }) (g .next σ k))
             ∙ ap (λ (k : ℕ). map slotHandle (set (σ .handles .slots) k (live new))) (e ∙ ap freeIndex (handles-back σ f hs h))
             ∙ ap (map slotHandle) (sym (placed-set new (σ .handles .slots)));
       };
-  number = next-given ss .next;
+  number = g .next;
 }

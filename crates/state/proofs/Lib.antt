@@ -1,5 +1,4 @@
 pub mod FormedLaws
-pub mod StationLaws
 pub mod HandleLaws
 pub mod ReleaseLaws
 pub mod Slots

@@ -15,7 +15,7 @@ use Rattle.rules.specs.Index.{foundIndex, freedOne}
 use Rattle.rules.specs.Handle as rules
 use Rattle.rules.specs.State as state
 use Rattle.rules.specs.State.{State, tokenSlots, handleSlots, withTokens, withHandles, withStations, changeStation, isNumbered, setToken, findHandle, dropHandle, handleToken, stationToken, references, released}
-use Rattle.rules.specs.Memory.{tokenWords, slotRow, slotDacl}
+use Rattle.rules.specs.Memory.{tokenWords, sections, slotRow, slotDacl}
 use Rattle.rules.proofs.Tables.{live-slot}
 use Rattle.rules.proofs.Index.{exchanged-set}
 use Rattle.rules.proofs.Facts.{Loose, valid-facts}
@@ -28,12 +28,13 @@ use Rattle.handle.proofs.Slots.{findIndex, isReferred, kept}
 use Rattle.handle.proofs.Words.{records-long}
 use Rattle.token.specs.Meaning.{slotsOf}
 use Rattle.token.proofs.Laws.{put-words, put-dacls}
+use Rattle.control.specs.Stations.{CallerNumber, TokenSet, StationsRefer}
+use Rattle.control.proofs.Sections.{control-same}
 use Rattle.state.specs.Parts.{TokensIn}
 use Rattle.state.specs.Formed.{Formed}
-use Rattle.state.specs.StationFacts.{CallerNumber, TokenSet, StationsRefer}
 use Rattle.state.specs.ReleaseFacts.{PartsIn, TokenFreed, Closed, Installed}
 use Rattle.state.proofs.HandleLaws.{handle-given, handle-dropped}
-use Rattle.state.proofs.FormedLaws.{loose-formed, tokens-back, handles-back, tokens-same, handles-same, stations-same}
+use Rattle.state.proofs.FormedLaws.{loose-formed, tokens-back, handles-back, tokens-same, handles-same}
 
 -- ---- a token is freed, or stays
 
@@ -46,25 +47,25 @@ member-append n (x ∷ xs) ys = next (eqb n x) (member-append n xs ys)
     next true e = refl
     next false e = e
 
-module _ {token : ℕ} {hs : List Handle} {ss ts ds : List ℕ} {a b : Bool} (by-handle : a ≡ isReferred token hs) (by-station : StationsRefer token ss b) where
-  referred : (σ : State) → Formed σ → PartsIn σ hs ss ts ds → (a || b) ≡ member token (references σ)
+module _ {token : ℕ} {hs : List Handle} {cs ts ds : List ℕ} {a b : Bool} (by-handle : a ≡ isReferred token hs) (by-station : StationsRefer token cs b) where
+  referred : (σ : State) → Formed σ → PartsIn σ ts ds hs cs → (a || b) ≡ member token (references σ)
   unfolding references
   referred σ f p =
-      ap₂ _||_ (by-handle ∙ ap (λ ps. member token (map handleToken (lives ps))) (handles-back σ f hs (p .handles))) (by-station .refer σ (p .stations))
+      ap₂ _||_ (by-handle ∙ ap (λ ps. member token (map handleToken (lives ps))) (handles-back σ f hs (p .handles))) (by-station .refer σ (p .control))
       ∙ member-append token (map handleToken (lives (σ .handles .slots))) (map stationToken (σ .stations))
 
-  pub token-kept : (a || b) ≡ true → TokenFreed token hs ss ts ds ts ds
+  pub token-kept : (a || b) ≡ true → TokenFreed token ts ds hs cs ts ds
   unfolding freedOne
   token-kept t = record { tokens = λ σ f p. rw (sym (referred σ f p) ∙ t) (p .tokens) }
 
   module _ {i : ℕ} (unreferred : (a || b) ≡ false) (found : (bs : List ℕ) → i ≡ foundIndex (isNumbered token) (slotsOf ts bs)) where
-    index : (σ : State) → Formed σ → PartsIn σ hs ss ts ds → exchanged (isNumbered token) free (σ .tokens .slots) ≡ set (σ .tokens .slots) i free
+    index : (σ : State) → Formed σ → PartsIn σ ts ds hs cs → exchanged (isNumbered token) free (σ .tokens .slots) ≡ set (σ .tokens .slots) i free
     index σ f p =
         exchanged-set (isNumbered token) free (σ .tokens .slots)
         ∙ ap (λ (k : ℕ). set (σ .tokens .slots) k free) (sym (found ds ∙ ap (foundIndex (isNumbered token)) (tokens-back σ f ts ds (p .tokens))))
 
     pub token-freed : {ts′ ds′ : List ℕ} → i < tokenSlots → ts′ ≡ put-record tokenWords i (slotRow free) ts → ds′ ≡ put-record maxDacl i (slotDacl free) ds
-        → TokenFreed token hs ss ts ds ts′ ds′
+        → TokenFreed token ts ds hs cs ts′ ds′
     unfolding freedOne withTokens withSlots
     token-freed h ew ed = record {
       tokens = λ σ f p.
@@ -76,7 +77,7 @@ module _ {token : ℕ} {hs : List Handle} {ss ts ds : List ℕ} {a b : Bool} (by
           }));
     }
 
-    pub token-missing : tokenSlots ≤ i → TokenFreed token hs ss ts ds ts ds
+    pub token-missing : tokenSlots ≤ i → TokenFreed token ts ds hs cs ts ds
     unfolding freedOne withTokens withSlots
     token-missing h = record {
       tokens = λ σ f p.
@@ -87,38 +88,38 @@ module _ {token : ℕ} {hs : List Handle} {ss ts ds : List ℕ} {a b : Bool} (by
 -- ---- the two changes that take a reference away
 
 -- what is freed in the middle state is what the sweep frees
-swept : {token : ℕ} {hs : List Handle} {ss ts ds ts′ ds′ : List ℕ} (σ : State) → Loose σ → released σ ≡ freedOne token σ
-    → TokenFreed token hs ss ts ds ts′ ds′ → PartsIn σ hs ss ts ds → PartsIn (released σ) hs ss ts′ ds′
-unfolding released withTokens withSlots
+swept : {token : ℕ} {hs : List Handle} {cs ts ds ts′ ds′ : List ℕ} (σ : State) → Loose σ → released σ ≡ freedOne token σ
+    → TokenFreed token ts ds hs cs ts′ ds′ → PartsIn σ ts ds hs cs → PartsIn (released σ) ts′ ds′ hs cs
+unfolding released withTokens withSlots sections
 swept {ts′ = ts′} {ds′ = ds′} σ l e f p = record {
   handles = handles-same refl (p .handles);
-  stations = stations-same refl refl refl (p .stations);
+  control = control-same refl (p .control);
   tokens = subst (λ (τ : State). TokensIn τ ts′ ds′) (sym e) (f .tokens σ (loose-formed σ l) p);
 }
 
-pub closed : (s n : ℕ) (hs : List Handle) {ss ts ds ts′ ds′ : List ℕ} {i : ℕ} {h : Handle}
-    → i ≡ findIndex s n hs → h ≡ getD hs i none → TokenFreed (h .token) (set hs i none) ss ts ds ts′ ds′
-    → Closed s n hs ss ts ds ts′ ds′ (record { slot = i; handle = none })
-unfolding state.handleOf dropHandle withHandles withSlots handleToken
+pub closed : (s n : ℕ) (hs : List Handle) {cs ts ds ts′ ds′ : List ℕ} {i : ℕ} {h : Handle}
+    → i ≡ findIndex s n hs → h ≡ getD hs i none → TokenFreed (h .token) ts ds (set hs i none) cs ts′ ds′
+    → Closed s n ts ds hs cs ts′ ds′ (record { slot = i; handle = none })
+unfolding state.handleOf dropHandle withHandles withSlots sections handleToken
 closed s n hs {i = i} {h = h} e q f = record {
   parts = λ σ v p known.
       let facts = valid-facts σ v in
       let one = close-frees σ s n (state.handleOf σ s n) facts (live-slot rules.noHandle (findHandle σ s n) known) in
       let same : state.handleOf σ s n .token ≡ h .token = ap handleToken (sym (handle-given s n hs e q .handle σ v (p .handles))) in
       swept (dropHandle s n σ) (drop-loose σ s n (facts .loose)) (rw same at one) f
-      (record { handles = handle-dropped s n hs e σ v (p .handles); stations = stations-same refl refl refl (p .stations); tokens = tokens-same refl (p .tokens) });
+      (record { handles = handle-dropped s n hs e σ v (p .handles); control = control-same refl (p .control); tokens = tokens-same refl (p .tokens) });
 }
 
 -- no slot is freed
-pub installed : (s n : ℕ) (ws : List ℕ) {ss ts ds ss′ ts′ ds′ : List ℕ} {before : ℕ}
-    → CallerNumber s ss before → TokenSet s n ss ss′ → TokenFreed before (set (recordsIn ws) handleSlots none) ss′ ts ds ts′ ds′
-    → Installed s n (recordsIn ws) ss ts ds ss′ ts′ ds′
+pub installed : (s n : ℕ) (ws : List ℕ) {cs ts ds cs′ ts′ ds′ : List ℕ} {before : ℕ}
+    → CallerNumber s cs before → TokenSet s n cs cs′ → TokenFreed before ts ds (set (recordsIn ws) handleSlots none) cs′ ts′ ds′
+    → Installed s n ts ds (recordsIn ws) cs ts′ ds′ cs′
 unfolding setToken changeStation withStations
 installed s n ws g k f = record {
   parts = λ σ v p t m number type.
       let facts = valid-facts σ v in
       let loose : Loose (setToken s n σ) = subst (λ (i : ℕ). Loose (setToken s i σ)) number (token-loose σ s t m type (facts .loose)) in
       let one = token-frees σ s n facts loose in
-      swept (setToken s n σ) loose (rw (sym (g .number σ (p .stations))) at one) (rw (sym (kept {hs = recordsIn ws} {i = handleSlots} none (records-long handleSlots ws) (omega arith))) at f)
-      (record { handles = handles-same refl (p .handles); stations = k .stations σ (p .stations); tokens = tokens-same refl (p .tokens) });
+      swept (setToken s n σ) loose (rw (sym (g .number σ (p .control))) at one) (rw (sym (kept {hs = recordsIn ws} {i = handleSlots} none (records-long handleSlots ws) (omega arith))) at f)
+      (record { handles = handles-same refl (p .handles); control = k .control σ (p .control); tokens = tokens-same refl (p .tokens) });
 }

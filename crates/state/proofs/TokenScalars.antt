@@ -16,8 +16,8 @@ use Rattle.privilege.specs.declared.privileges.Privileges.{Privileges}
 use Rattle.token.specs.Meaning.{identityOf}
 use Rattle.token.specs.Row.{identityIn, privilegesIn, Becomes}
 use Rattle.token.specs.declared.Identity.{Identity}
+use Rattle.control.specs.Stations.{CallerNumber}
 use Rattle.state.specs.Parts.{TokensIn}
-use Rattle.state.specs.StationFacts.{CallerNumber}
 use Rattle.state.specs.TokenCalls.{FoundAt, IdentityGiven, IdentityAt, PrivilegesAt, Held, Marked, WordsChanged, Used}
 use Rattle.state.proofs.InPlace.{lent, back, in-slot, lent-row, no-token, words-changed, words-unchanged}
 
@@ -54,8 +54,8 @@ pub no-privileges : {i : ℕ} {ts : List ℕ} → tokenSlots ≤ i → Privilege
 unfolding noToken newToken granted
 no-privileges l = record { given = λ n at σ v h. sym (ap (λ (t : Token). t .privileges) (no-token n at v h l)) }
 
-module _ {s m i : ℕ} {ts ss : List ℕ} (c : CallerNumber s ss m) (at : FoundAt m ts i) where
-  pub held-given : {n : ℕ} {p : Privileges} {r : Bool} → PrivilegesAt i ts p → r ≡ isEnabled n (privilegesOf p) → Held n s ts ss r
+module _ {s m i : ℕ} {ts cs : List ℕ} (c : CallerNumber s cs m) (at : FoundAt m ts i) where
+  pub held-given : {n : ℕ} {p : Privileges} {r : Bool} → PrivilegesAt i ts p → r ≡ isEnabled n (privilegesOf p) → Held n s ts cs r
   unfolding held caller
   held-given {n} g e = record {
     held = λ σ v h j. e ∙ ap (isEnabled n) (g .given m at σ v h) ∙ ap (λ (k : ℕ). isEnabled n (State.tokenOf σ k .privileges)) (c .number σ j);
@@ -63,18 +63,18 @@ module _ {s m i : ℕ} {ts ss : List ℕ} (c : CallerNumber s ss m) (at : FoundA
 
   -- ---- the used mark
 
-  used-by : {n : ℕ} {ts′ : List ℕ} → WordsChanged m (usedOn n) ts ts′ → Used n s ts ss ts′
+  used-by : {n : ℕ} {ts′ : List ℕ} → WordsChanged m (usedOn n) ts ts′ → Used n s ts cs ts′
   unfolding used
   used-by {n} {ts′} w = record {
     tokens = λ σ v {ds} h j. subst (λ (k : ℕ). TokensIn (changeToken k (usedOn n) σ) ts′ ds) (c .number σ j) (w .tokens σ v h);
   }
 
-  pub used-in-place : {n w : ℕ} {ws : List ℕ} → i < tokenSlots → n < 64 → w ≡ 2 ^ n % 2 ^ 64 → Marked w (lent i ts) ws → Used n s ts ss (back i ws ts)
+  pub used-in-place : {n w : ℕ} {ws : List ℕ} → i < tokenSlots → n < 64 → w ≡ 2 ^ n % 2 ^ 64 → Marked w (lent i ts) ws → Used n s ts cs (back i ws ts)
   unfolding usedOn withPrivileges
   used-in-place {n} {w} l in64 e k = used-by (words-changed at (usedOn n) (λ t. refl) (λ t. refl) l
       (λ t v q. k .row t q ∙ ap (λ (b : ℕ). tokenRow (withPrivileges (markUsed b (t .privileges)) t)) (e ∙ power-inside 64 n in64)))
 
-  pub used-nowhere : {n : ℕ} → tokenSlots ≤ i → Used n s ts ss ts
+  pub used-nowhere : {n : ℕ} → tokenSlots ≤ i → Used n s ts cs ts
   unfolding usedOn withPrivileges
   used-nowhere {n} l = used-by (words-unchanged at (usedOn n) (λ t. refl) l)
 

@@ -1,6 +1,5 @@
 pub mod Parts
 pub mod Formed
-pub mod StationFacts
 pub mod HandleFacts
 pub mod ReleaseFacts
 pub mod TokenCalls

@@ -3,7 +3,7 @@ use Prim.Native.Nat.{ℕ, _<_}
 use mathlib.Core.Path.{_≡_}
 use mathlib.Core.Bool.{Bool, true}
 use mathlib.Core.List.{List}
-use lib.ListN.{length, getD, set}
+use lib.ListN.{length, set}
 use Rattle.table.specs.Table.{flat}
 use Rattle.rules.specs.Number.{max64}
 use Rattle.rules.specs.Token as Rules
@@ -13,13 +13,13 @@ use Rattle.rules.specs.State.{State, tokenSlots, isNumbered, held, changeToken,
 use Rattle.rules.specs.Index.{foundIndex}
 use Rattle.rules.specs.Valid.{valid}
 use Rattle.rules.specs.Privileges.{markUsed}
-use Rattle.rules.specs.Memory.{tokenRow, daclRow, slotRow, slotDacl}
+use Rattle.rules.specs.Memory.{nextToken, nextHandle, tokenRow, daclRow, slotRow, slotDacl}
 use Rattle.privilege.specs.Meaning.{privilegesOf}
 use Rattle.privilege.specs.declared.privileges.Privileges.{Privileges}
 use Rattle.token.specs.Meaning.{identityOf, slotsOf}
 use Rattle.token.specs.declared.Identity.{Identity}
-use Rattle.state.specs.Parts.{TokensIn, StationsIn}
-use Rattle.state.specs.StationFacts.{nextHandle}
+use Rattle.control.specs.Control.{ControlIn}
+use Rattle.state.specs.Parts.{TokensIn}
 
 -- ---- looking
 
@@ -37,20 +37,12 @@ pub record IdentityAt (slot : ℕ) (ts : List ℕ) (r : Identity) : Type 0 where
 pub record PrivilegesAt (slot : ℕ) (ts : List ℕ) (r : Privileges) : Type 0 where
   pub given : (n : ℕ) → FoundAt n ts slot → (σ : State) → valid σ ≡ true → {ds : List ℕ} → TokensIn σ ts ds → privilegesOf r ≡ State.tokenOf σ n .privileges
 
-pub record Held (n s : ℕ) (ts ss : List ℕ) (r : Bool) : Type 0 where
-  pub held : (σ : State) → valid σ ≡ true → {ds : List ℕ} → TokensIn σ ts ds → StationsIn σ ss → r ≡ held σ s n
+pub record Held (n s : ℕ) (ts cs : List ℕ) (r : Bool) : Type 0 where
+  pub held : (σ : State) → valid σ ≡ true → {ds : List ℕ} → TokensIn σ ts ds → ControlIn σ cs → r ≡ held σ s n
 
--- the word that has the next number
-abbrev pub nextIn : List ℕ → ℕ
-nextIn ss = getD ss 0 0
-
-pub record NextToken (ss : List ℕ) (r : ℕ) : Type 0 where
-  pub word : r ≡ nextIn ss
-  pub next : (σ : State) → StationsIn σ ss → r ≡ σ .tokens .next
-
-pub record CanAdd (ts ss : List ℕ) (r : Bool) : Type 0 where
-  pub below : r ≡ true → nextIn ss < max64
-  pub canAdd : (σ : State) → valid σ ≡ true → {ds : List ℕ} → TokensIn σ ts ds → StationsIn σ ss → r ≡ canAddToken σ
+pub record CanAdd (ts cs : List ℕ) (r : Bool) : Type 0 where
+  pub below : r ≡ true → nextToken cs < max64
+  pub canAdd : (σ : State) → valid σ ≡ true → {ds : List ℕ} → TokensIn σ ts ds → ControlIn σ cs → r ≡ canAddToken σ
 
 -- ---- changes
 
@@ -60,11 +52,11 @@ pub record RowsPut (ws bs : List ℕ) (i : ℕ) (ts ds ts′ ds′ : List ℕ) :
   pub bytes : (u : Rules.Token) → bs ≡ daclRow u → (ps : List (Slot Rules.Token)) → length ps ≡ tokenSlots → ds ≡ flat slotDacl ps → ds′ ≡ flat slotDacl (set ps i (live u))
 
 -- a new token by its rows, whatever token they are of
-pub record RowAdded (ws bs ts ds ss ts′ ds′ ss′ : List ℕ) : Type 0 where
+pub record RowAdded (ws bs ts ds cs ts′ ds′ cs′ : List ℕ) : Type 0 where
   pub tokens : (u : Rules.Token) → ws ≡ tokenRow u → bs ≡ daclRow u → (σ : State) → valid σ ≡ true → TokensIn σ ts ds → TokensIn (addToken u σ) ts′ ds′
-  pub stations : (u : Rules.Token) (σ : State) → StationsIn σ ss → StationsIn (addToken u σ) ss′
+  pub control : (u : Rules.Token) (σ : State) → ControlIn σ cs → ControlIn (addToken u σ) cs′
   -- what add_handle asks stays
-  pub handle-next : nextHandle ss′ ≡ nextHandle ss
+  pub handle-next : nextHandle cs′ ≡ nextHandle cs
 
 -- the token of number n becomes f of it, and its DACL's row stays
 pub record WordsChanged (n : ℕ) (f : Rules.Token → Rules.Token) (ts ts′ : List ℕ) : Type 0 where
@@ -74,5 +66,5 @@ pub record WordsChanged (n : ℕ) (f : Rules.Token → Rules.Token) (ts ts′ : 
 pub record Marked (bits : ℕ) (ws ws′ : List ℕ) : Type 0 where
   pub row : (t : Rules.Token) → ws ≡ tokenRow t → ws′ ≡ tokenRow (Rules.withPrivileges (markUsed bits (t .privileges)) t)
 
-pub record Used (n s : ℕ) (ts ss ts′ : List ℕ) : Type 0 where
-  pub tokens : (σ : State) → valid σ ≡ true → {ds : List ℕ} → TokensIn σ ts ds → StationsIn σ ss → TokensIn (used n s σ) ts′ ds
+pub record Used (n s : ℕ) (ts cs ts′ : List ℕ) : Type 0 where
+  pub tokens : (σ : State) → valid σ ≡ true → {ds : List ℕ} → TokensIn σ ts ds → ControlIn σ cs → TokensIn (used n s σ) ts′ ds

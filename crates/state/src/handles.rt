@@ -4,17 +4,15 @@ ghost use Prim.Native.Nat.{_<_};
 ghost use lib.ListN.{length};
 ghost use Rattle.rules.specs.Number.{max32};
 ghost use Rattle.rules.specs.State.{stationCount};
+ghost use Rattle.rules.specs.Memory.{controlWords, nextHandle};
 ghost use Rattle.handle.specs.Words.{recordsIn};
-ghost use Rattle.state.specs.StationFacts.{stationsSize, nextHandle};
 ghost use Rattle.state.specs.HandleFacts.{HandleGiven, HandleRoom, HandleAdded};
-use crate::stations::NEXT_HANDLE;
-use crate::stations::next_handle;
+use control::counters;
+use control::layout::MAX_HANDLE;
+use control::layout::NEXT_HANDLE;
 use handle::HANDLE_WORDS;
 use handle::Handle;
 use handle::SLOTS;
-
-// The largest number of a handle's type, which is given to none.
-const MAX_NEXT: u64 = 4294967295;
 
 // What a request leaves in one slot. A slot past the last: nothing is changed.
 pub struct Change {
@@ -31,13 +29,13 @@ pub fn find_handle(station: u32, number: u32, handles: &[u64; HANDLE_WORDS]) -> 
 }
 
 // A slot is free, and a number is left.
-pub fn can_add_handle(handles: &[u64; HANDLE_WORDS], stations: &[u64]) -> bool
-    requires { ⌜ length (now stations) ≡ stationsSize ⌝ }
-    ensures { λ r. ⌜ HandleRoom (recordsIn (now (handles .entry))) (now (stations .entry)) r ⌝ }
+pub fn can_add_handle(handles: &[u64; HANDLE_WORDS], control: &[u64]) -> bool
+    requires { ⌜ length (now control) ≡ controlWords ⌝ }
+    ensures { λ r. ⌜ HandleRoom (recordsIn (now (handles .entry))) (now (control .entry)) r ⌝ }
 {
     let slot = handle::free_slot(handles);
-    let next = next_handle(stations);
-    (slot < SLOTS) & (next < MAX_NEXT)
+    let next = counters::next(NEXT_HANDLE, control);
+    (slot < SLOTS) & (next < MAX_HANDLE)
 }
 
 // A new handle in the lowest free slot, with the next number.
@@ -46,14 +44,14 @@ pub fn add_handle(
     token: u64,
     mask: u16,
     handles: &[u64; HANDLE_WORDS],
-    stations: &mut [u64],
+    control: &mut [u64],
 ) -> Change
-    requires { ⌜ (length (now stations) ≡ stationsSize) × (nextHandle (now stations) < max32) × (station < stationCount) ⌝ }
-    ensures { λ r. ⌜ HandleAdded station token mask (recordsIn (now (handles .entry))) (now (stations .entry)) (now (stations .exit)) r ⌝ }
+    requires { ⌜ (length (now control) ≡ controlWords) × (nextHandle (now control) < max32) × (station < stationCount) ⌝ }
+    ensures { λ r. ⌜ HandleAdded station token mask (recordsIn (now (handles .entry))) (now (control .entry)) (now (control .exit)) r ⌝ }
 {
     let slot = handle::free_slot(handles);
-    let next = stations[NEXT_HANDLE];
-    stations[NEXT_HANDLE] = next + 1;
+    let next = counters::next(NEXT_HANDLE, control);
+    counters::step(NEXT_HANDLE, control);
     Change {
         slot: slot,
         handle: Handle {

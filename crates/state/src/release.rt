@@ -7,7 +7,7 @@ ghost use Rattle.handle.specs.Words.{recordsIn};
 ghost use Rattle.state.specs.Parts.{Lent};
 ghost use Rattle.state.specs.ReleaseFacts.{TokenFreed, Closed, Installed};
 use crate::handles::Change;
-use crate::stations;
+use control::stations;
 use handle::HANDLE_WORDS;
 use handle::NONE;
 use handle::SLOTS;
@@ -21,13 +21,13 @@ pub fn free_unreferenced(
     handles: &[u64; HANDLE_WORDS],
     tokens: &mut [u64],
     dacls: &mut [u8],
-    stations: &[u64],
+    control: &[u64],
 )
-    requires { ⌜ Lent (now tokens) (now dacls) (now stations) ⌝ }
-    ensures { λ _. ⌜ TokenFreed token (set (recordsIn (now (handles .entry))) freed none) (now (stations .entry)) (now (tokens .entry)) (now (dacls .entry)) (now (tokens .exit)) (now (dacls .exit)) ⌝ }
+    requires { ⌜ Lent (now tokens) (now dacls) (now control) ⌝ }
+    ensures { λ _. ⌜ TokenFreed token (now (tokens .entry)) (now (dacls .entry)) (set (recordsIn (now (handles .entry))) freed none) (now (control .entry)) (now (tokens .exit)) (now (dacls .exit)) ⌝ }
 {
     let by_handle = handle::refers(handles, freed, token);
-    let by_station = stations::refers(token, stations);
+    let by_station = stations::refers(token, control);
     if by_handle | by_station {
         return;
     }
@@ -44,14 +44,14 @@ pub fn close(
     handles: &[u64; HANDLE_WORDS],
     tokens: &mut [u64],
     dacls: &mut [u8],
-    stations: &[u64],
+    control: &[u64],
 ) -> Change
-    requires { ⌜ Lent (now tokens) (now dacls) (now stations) ⌝ }
-    ensures { λ r. ⌜ Closed station number (recordsIn (now (handles .entry))) (now (stations .entry)) (now (tokens .entry)) (now (dacls .entry)) (now (tokens .exit)) (now (dacls .exit)) r ⌝ }
+    requires { ⌜ Lent (now tokens) (now dacls) (now control) ⌝ }
+    ensures { λ r. ⌜ Closed station number (now (tokens .entry)) (now (dacls .entry)) (recordsIn (now (handles .entry))) (now (control .entry)) (now (tokens .exit)) (now (dacls .exit)) r ⌝ }
 {
     let slot = handle::find(handles, station, number);
     let closed = handle::at(handles, slot);
-    free_unreferenced(closed.token, slot, handles, tokens, dacls, stations);
+    free_unreferenced(closed.token, slot, handles, tokens, dacls, control);
     Change {
         slot: slot,
         handle: NONE,
@@ -65,12 +65,12 @@ pub fn install(
     handles: &[u64; HANDLE_WORDS],
     tokens: &mut [u64],
     dacls: &mut [u8],
-    stations: &mut [u64],
+    control: &mut [u64],
 )
-    requires { ⌜ (station < stationCount) × Lent (now tokens) (now dacls) (now stations) ⌝ }
-    ensures { λ _. ⌜ Installed station number (recordsIn (now (handles .entry))) (now (stations .entry)) (now (tokens .entry)) (now (dacls .entry)) (now (stations .exit)) (now (tokens .exit)) (now (dacls .exit)) ⌝ }
+    requires { ⌜ (station < stationCount) × Lent (now tokens) (now dacls) (now control) ⌝ }
+    ensures { λ _. ⌜ Installed station number (now (tokens .entry)) (now (dacls .entry)) (recordsIn (now (handles .entry))) (now (control .entry)) (now (tokens .exit)) (now (dacls .exit)) (now (control .exit)) ⌝ }
 {
-    let before = stations::caller_number(station, stations);
-    stations::set_token(station, number, stations);
-    free_unreferenced(before, SLOTS, handles, tokens, dacls, stations);
+    let before = stations::caller_number(station, control);
+    stations::set_token(station, number, control);
+    free_unreferenced(before, SLOTS, handles, tokens, dacls, control);
 }

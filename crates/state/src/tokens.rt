@@ -1,16 +1,17 @@
 // The state's tokens, in the parts that hold it.
 ghost use mathlib.Core.Path.{_≡_};
-ghost use Prim.Native.Nat.{_+_, _*_, _<_};
+ghost use Prim.Native.Nat.{_*_, _<_};
 ghost use lib.ListN.{length};
 ghost use Rattle.rules.specs.Number.{max64};
 ghost use Rattle.rules.specs.Token.{maxDacl};
 ghost use Rattle.rules.specs.State.{tokenSlots, stationCount};
-ghost use Rattle.rules.specs.Memory.{tokenWords, counterWords, stationWords};
+ghost use Rattle.rules.specs.Memory.{tokenWords, controlWords, nextToken};
 ghost use Rattle.state.specs.Parts.{Lent};
-ghost use Rattle.state.specs.StationFacts.{stationsSize};
-ghost use Rattle.state.specs.TokenCalls.{IdentityGiven, IdentityAt, PrivilegesAt, Held, Marked, nextIn, NextToken, CanAdd, RowsPut, RowAdded, Used};
-use crate::stations::NEXT_TOKEN;
-use crate::stations::caller_number;
+ghost use Rattle.state.specs.TokenCalls.{IdentityGiven, IdentityAt, PrivilegesAt, Held, Marked, CanAdd, RowsPut, RowAdded, Used};
+use control::counters;
+use control::layout::MAX_TOKEN;
+use control::layout::NEXT_TOKEN;
+use control::stations::caller_number;
 use privilege::privileges::Privileges;
 use privilege::words;
 use token::Identity;
@@ -19,12 +20,9 @@ use token::layout::TOKEN_WORDS;
 use token::row;
 use token::slots;
 
-// A number that is never given.
-const MAX_NEXT: u64 = 0xFFFF_FFFF_FFFF_FFFF;
-
 // ---- looking
 
-// Who the token in a slot is; nobody, past the last slot.
+// Who the token in a slot is; past the last slot, who the empty token is.
 pub fn identity_at(slot: usize, tokens: &[u64]) -> Identity
     requires { ⌜ length (now tokens) ≡ tokenSlots * tokenWords ⌝ }
     ensures { λ r. ⌜ IdentityAt slot (now (tokens .entry)) r ⌝ }
@@ -37,7 +35,7 @@ pub fn identity_at(slot: usize, tokens: &[u64]) -> Identity
     Identity {
         user: 0,
         session: 0,
-        kind: 1,
+        kind: Identity::PRIMARY,
         level: 0,
         integrity: 0,
     }
@@ -71,30 +69,23 @@ fn privileges_at(slot: usize, tokens: &[u64]) -> Privileges
 }
 
 // The privilege is enabled on the caller's token.
-pub fn held(privilege: u64, station: u32, tokens: &[u64], stations: &[u64]) -> bool
-    requires { ⌜ (length (now tokens) ≡ tokenSlots * tokenWords) × (length (now stations) ≡ stationsSize) × (station < stationCount) ⌝ }
-    ensures { λ r. ⌜ Held privilege station (now (tokens .entry)) (now (stations .entry)) r ⌝ }
+pub fn held(privilege: u64, station: u32, tokens: &[u64], control: &[u64]) -> bool
+    requires { ⌜ (length (now tokens) ≡ tokenSlots * tokenWords) × (length (now control) ≡ controlWords) × (station < stationCount) ⌝ }
+    ensures { λ r. ⌜ Held privilege station (now (tokens .entry)) (now (control .entry)) r ⌝ }
 {
-    let number = caller_number(station, stations);
+    let number = caller_number(station, control);
     let slot = slots::find(tokens, number);
     let p = privileges_at(slot, tokens);
     p.holds(privilege)
 }
 
-pub fn next_token(stations: &[u64]) -> u64
-    requires { ⌜ length (now stations) ≡ counterWords + stationCount * stationWords ⌝ }
-    ensures { λ r. ⌜ NextToken (now (stations .entry)) r ⌝ }
-{
-    stations[NEXT_TOKEN]
-}
-
-pub fn can_add_token(tokens: &[u64], stations: &[u64]) -> bool
-    requires { ⌜ (length (now tokens) ≡ tokenSlots * tokenWords) × (length (now stations) ≡ counterWords + stationCount * stationWords) ⌝ }
-    ensures { λ r. ⌜ CanAdd (now (tokens .entry)) (now (stations .entry)) r ⌝ }
+pub fn can_add_token(tokens: &[u64], control: &[u64]) -> bool
+    requires { ⌜ (length (now tokens) ≡ tokenSlots * tokenWords) × (length (now control) ≡ controlWords) ⌝ }
+    ensures { λ r. ⌜ CanAdd (now (tokens .entry)) (now (control .entry)) r ⌝ }
 {
     let slot = slots::free_slot(tokens);
-    let next = next_token(stations);
-    (slot < TOKEN_SLOTS) & (next < MAX_NEXT)
+    let next = counters::next(NEXT_TOKEN, control);
+    (slot < TOKEN_SLOTS) & (next < MAX_TOKEN)
 }
 
 // ---- changes
@@ -115,14 +106,14 @@ pub fn add_row(
     bytes: &[u8],
     tokens: &mut [u64],
     dacls: &mut [u8],
-    stations: &mut [u64],
+    control: &mut [u64],
 )
-    requires { ⌜ Lent (now tokens) (now dacls) (now stations) × (length (now words) ≡ tokenWords) × (length (now bytes) ≡ maxDacl) × (nextIn (now stations) < max64) ⌝ }
-    ensures { λ r. ⌜ RowAdded (now (words .entry)) (now (bytes .entry)) (now (tokens .entry)) (now (dacls .entry)) (now (stations .entry)) (now (tokens .exit)) (now (dacls .exit)) (now (stations .exit)) ⌝ }
+    requires { ⌜ Lent (now tokens) (now dacls) (now control) × (length (now words) ≡ tokenWords) × (length (now bytes) ≡ maxDacl) × (nextToken (now control) < max64) ⌝ }
+    ensures { λ r. ⌜ RowAdded (now (words .entry)) (now (bytes .entry)) (now (tokens .entry)) (now (dacls .entry)) (now (control .entry)) (now (tokens .exit)) (now (dacls .exit)) (now (control .exit)) ⌝ }
 {
     let slot = slots::free_slot(tokens);
     put_rows(words, bytes, tokens, dacls, slot);
-    stations[NEXT_TOKEN] = stations[NEXT_TOKEN] + 1;
+    counters::step(NEXT_TOKEN, control);
 }
 
 fn mark_used(bits: u64, words: &mut [u64])
@@ -134,11 +125,11 @@ fn mark_used(bits: u64, words: &mut [u64])
 }
 
 // A success needed the privilege: its used bit is set on the caller's token.
-pub fn used(privilege: u64, station: u32, tokens: &mut [u64], stations: &[u64])
-    requires { ⌜ (length (now tokens) ≡ tokenSlots * tokenWords) × (length (now stations) ≡ stationsSize) × (station < stationCount) × (privilege < 64) ⌝ }
-    ensures { λ r. ⌜ Used privilege station (now (tokens .entry)) (now (stations .entry)) (now (tokens .exit)) ⌝ }
+pub fn used(privilege: u64, station: u32, tokens: &mut [u64], control: &[u64])
+    requires { ⌜ (length (now tokens) ≡ tokenSlots * tokenWords) × (length (now control) ≡ controlWords) × (station < stationCount) × (privilege < 64) ⌝ }
+    ensures { λ r. ⌜ Used privilege station (now (tokens .entry)) (now (control .entry)) (now (tokens .exit)) ⌝ }
 {
-    let number = caller_number(station, stations);
+    let number = caller_number(station, control);
     let slot = slots::find(tokens, number);
     if slot < TOKEN_SLOTS {
         let at = slot * TOKEN_WORDS;

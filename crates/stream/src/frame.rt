@@ -10,7 +10,7 @@ ghost use Rattle.stream.specs.Meaning.{Announced, FramedAs};
 use crate::Framed;
 
 // The largest body.
-const MAX_BODY: usize = 2048;
+pub const MAX_BODY: usize = 2048;
 
 // What the first bytes say of the body's length: nothing yet, that no length is valid, or the length, and where the body begins.
 enum Length {

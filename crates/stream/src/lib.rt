@@ -8,9 +8,13 @@ ghost use Rattle.stream.specs.Meaning.{JoinedAtOnce, Joined};
 
 pub mod frame;
 
+use frame::MAX_BODY;
 use frame::framed;
 use frame::sure;
 use table::slices;
+
+// A row of pending bytes: a frame's two length bytes and its body.
+pub const PENDING_BYTES: usize = MAX_BODY + 2;
 
 // What the first bytes of a stream come to: a part of a frame, a break, or a whole frame, whose body begins at start.
 pub enum Framed {

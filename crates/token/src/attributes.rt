@@ -16,14 +16,13 @@ pub fn is_mandatory(g: Group) -> bool
     words::has(g.attributes as u64, 0)
 }
 
-pub fn is_on_by_default(g: Group) -> bool
+pub fn is_enabled_by_default(g: Group) -> bool
     ensures { λ r. ⌜ r ≡ isEnabledByDefault (groupOf g) ⌝ }
 {
     words::has(g.attributes as u64, 1)
 }
 
-// ENABLED.
-pub fn is_on(g: Group) -> bool
+pub fn is_enabled(g: Group) -> bool
     ensures { λ r. ⌜ r ≡ isEnabled (groupOf g) ⌝ }
 {
     words::has(g.attributes as u64, 2)
@@ -56,7 +55,7 @@ fn disabled(attributes: u32) -> u32
 }
 
 // ENABLED set to a value.
-pub fn switched(g: Group, on: bool) -> Group
+pub fn with_enabled(g: Group, on: bool) -> Group
     ensures { λ r. ⌜ groupOf r ≡ withEnabled on (groupOf g) ⌝ }
 {
     let attributes = if on {

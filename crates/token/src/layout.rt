@@ -54,6 +54,3 @@ pub const GROUP_COUNT: usize = 17;
 pub const RESTRICTING_COUNT: usize = 18;
 
 pub const DACL_COUNT: usize = 19;
-
-// A group's word is SID + attributes * 2^32.
-pub const WORD_32: u64 = 0x100000000;

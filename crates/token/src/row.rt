@@ -12,6 +12,7 @@ ghost use Rattle.token.specs.NewRow.{Headed};
 use crate::Identity;
 use crate::layout::*;
 use privilege::privileges::Privileges;
+use table::WORD_32;
 use table::slices;
 
 // ---- reading

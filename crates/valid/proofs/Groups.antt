@@ -4,6 +4,7 @@ use mathlib.Core.Bool.{Bool, true, false, not, _&&_, _||_}
 use mathlib.Core.List.{List, map}
 use Prim.Native.Nat.{ℕ, zero, suc, _+_, _-_, _*_, _/_, _%_, _^_, _≤_, _<_}
 use native.Mathlib.Nat.{mod-lt, div-add-mod', div-div-eq-div-mul}
+use native.Mathlib.Numerals.{sub-one}
 use native.Mathlib.Omega.{arith}
 use borrow.Author.Tests.{lt-ltb, le-ltb}
 use lib.Bits.{bitAnd, bitOr, or-comm, or-shr, and-block, and-high, and-mask, and-zero-r}
@@ -157,11 +158,10 @@ unfolding validOwner
 owner-past xs zero h = absurd (omega arith)
 owner-past xs (suc k) h = sym (rw (le-ltb k (length (map unpack xs)) (omega (arith, length-map xs unpack))))
 
-pub owner-group : (xs : List ℕ) (o : ℕ) → (o ≡ 0 → ⊥) → o ≤ length xs → eqb (getD xs (o - 1) 0 / 0x800000000 % 2) 1 ≡ validOwner (map unpack xs) o
-unfolding validOwner isOwner has unpack noGroup
-owner-group xs zero e h = absurd (e refl)
-owner-group xs (suc k) e h = sym
-    (ap₂ (λ a b. a && b) (lt-ltb k (length (map unpack xs)) (omega (arith, length-map xs unpack)))
-    (ap (λ (g : Group). eqb (g .attributes / 8 % 2) 1) (List·getD-map unpack xs k 0)
-    ∙ ap (λ (x : ℕ). eqb x 1) {x = getD xs k 0 / word32 / 8 % 2} {y = getD xs (suc k - 1) 0 / 0x800000000 % 2}
-    (ap (λ (j : ℕ). getD xs j 0 / word32 / 8 % 2) {x = k} {y = suc k - 1} (omega arith) ∙ omega arith)))
+pub owner-group : (xs : List ℕ) (o : ℕ) {b : Bool} → (o ≡ 0 → ⊥) → o ≤ length xs → b ≡ isOwner (unpack (getD xs (o - 1) 0)) → b ≡ validOwner (map unpack xs) o
+unfolding validOwner unpack noGroup
+owner-group xs zero e h eb = absurd (e refl)
+owner-group xs (suc k) e h eb =
+    eb
+    ∙ ap (λ (j : ℕ). isOwner (unpack (getD xs j 0))) (sub-one (suc k))
+    ∙ sym (ap₂ (λ a b. a && b) (lt-ltb k (length (map unpack xs)) (omega (arith, length-map xs unpack))) (ap isOwner (List·getD-map unpack xs k 0)))

@@ -7,3 +7,4 @@ pub mod TokenRow
 pub mod StationRow
 pub mod Lists
 pub mod Whole
+pub mod Sizes

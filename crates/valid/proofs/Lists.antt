@@ -8,14 +8,11 @@ use native.Mathlib.Nat.{zero-mul, suc-mul, add-comm, add-sub-cancel-left, not-su
 use native.Mathlib.Numerals.{add-one}
 use native.Mathlib.Omega.{arith}
 use borrow.Author.Tests.{eqb-false, leb-true, le-leb, ltb-true, lt-ltb}
-use lib.Bits.{bitAnd}
 use lib.Dec.{eqb, leb, ltb}
 use lib.ListN.{length, take, drop, getD, set, length-set, length-drop}
 use lib.Seq.{drop-drop, take-all, take-suc, take-set-le, take-suc-set, drop-set-add}
 use Rattle.table.specs.Rows.{readRows}
 use Rattle.rules.specs.Basic.{if_then_else_, all, member, distinct, implies}
-use Rattle.rules.specs.Bits.{within}
-use Rattle.rules.specs.Mask.{validMask}
 use Rattle.rules.specs.Token.{Token, maxDacl, primary}
 use Rattle.rules.specs.Table.{Slot, free, live, lives}
 use Rattle.rules.specs.Handle.{Handle, noHandle}
@@ -23,7 +20,7 @@ use Rattle.rules.specs.State.{handleSlots, stationCount, numberOf, handleNumber
 use Rattle.rules.specs.Valid.{between, handleValid}
 use Rattle.rules.specs.Memory.{slotAt, tokenAt, identityAt, handleAt, slotHandle, sameHandle, sameHandles, stationAt, tokenWords, stationWords, pendingBytes}
 use Rattle.rules.proofs.Logic.{and-r, and-i, or-e, or-l, or-r, either}
-use Rattle.valid.specs.Tests.{slotTest, columnBy, firstWord, otherWord, kept, nonzero, isKept, referenceSlots, Referred, count, isGiven, isApart, fieldsTest}
+use Rattle.valid.specs.Tests.{slotTest, columnBy, firstWord, otherWord, tokenIn, kept, nonzero, isKept, referenceSlots, Referred, count, isGiven, isApart, fieldsTest}
 use Rattle.valid.proofs.Truth.{same-truth, all-cong, all-and, all-map, eqb-same, eqb-flip}
 use Rattle.valid.proofs.Loops.{Keeping, keeping-none, keeping-more}
 use Rattle.valid.proofs.Counts.{count-none, distinct-count}
@@ -60,7 +57,7 @@ module _ (f : List ℕ → ℕ) (w : ℕ) where
 -- the stations' tokens are written behind the first n elements of an array
 module _ (n : ℕ) (ws before : List ℕ) where
   abbrev added : List ℕ
-  added = columnBy firstWord stationWords stationCount ws
+  added = columnBy tokenIn stationWords stationCount ws
 
   -- after i of them
   pub record Adding (items : List ℕ) (i : ℕ) : Type 0 where
@@ -73,7 +70,7 @@ module _ (n : ℕ) (ws before : List ℕ) where
   pub adding-none : n ≤ handleSlots → length before ≡ referenceSlots → Adding before 0
   adding-none f l = record { within = omega arith; fits = f; long = l; held = refl; behind = refl }
 
-  pub adding-more : {items : List ℕ} {i v : ℕ} → Adding items i → i < stationCount → v ≡ firstWord (take (i * stationWords + stationWords - i * stationWords) (drop (i * stationWords) ws))
+  pub adding-more : {items : List ℕ} {i v : ℕ} → Adding items i → i < stationCount → v ≡ tokenIn (take (i * stationWords + stationWords - i * stationWords) (drop (i * stationWords) ws))
       → Adding (set items (n + i) v) (i + 1)
   adding-more {items} {i} {v} t h e = record {
     within = omega arith;
@@ -83,8 +80,8 @@ module _ (n : ℕ) (ws before : List ℕ) where
     behind =
         ap₂ take (add-one i) (drop-set-add n items i v)
         ∙ take-suc-set (drop n items) i v (simp length-drop (omega (arith, t .fits, t .long)))
-        ∙ ap₂ (λ l x. l ++ (x ∷ [])) (t .behind) (column-lent firstWord stationWords stationCount i ws h e)
-        ∙ sym (take-suc added i 0 (omega (arith, length-column firstWord stationWords stationCount ws)))
+        ∙ ap₂ (λ l x. l ++ (x ∷ [])) (t .behind) (column-lent tokenIn stationWords stationCount i ws h e)
+        ∙ sym (take-suc added i 0 (omega (arith, length-column tokenIn stationWords stationCount ws)))
         ∙ ap (λ (k : ℕ). take k added) (sym (add-one i));
   }
 
@@ -94,7 +91,7 @@ module _ (n : ℕ) (ws before : List ℕ) where
       record {
         room = record { fits = omega (arith, t .fits); long = t .long };
         held = t .held;
-        behind = ap (λ (k : ℕ). take k (drop n items)) (sym e) ∙ t .behind ∙ take-all i added (omega (arith, length-column firstWord stationWords stationCount ws));
+        behind = ap (λ (k : ℕ). take k (drop n items)) (sym e) ∙ t .behind ∙ take-all i added (omega (arith, length-column tokenIn stationWords stationCount ws));
       }
 
 -- ---- what is kept of a list
@@ -202,10 +199,10 @@ other-numbers ss n ws bs =
 
 -- ---- the stations' tokens
 
-pub station-tokens : (n : ℕ) (ws bs : List ℕ) → map stationToken (readRows stationAt stationWords pendingBytes n ws bs) ≡ columnBy firstWord stationWords n ws
+pub station-tokens : (n : ℕ) (ws bs : List ℕ) → map stationToken (readRows stationAt stationWords pendingBytes n ws bs) ≡ columnBy tokenIn stationWords n ws
 unfolding readRows columnBy stationAt stationToken
 station-tokens zero ws bs = refl
-station-tokens (suc n) ws bs = ap (λ l. getD (take stationWords ws) 0 0 ∷ l) (station-tokens n (drop stationWords ws) (drop pendingBytes bs))
+station-tokens (suc n) ws bs = ap (λ l. tokenIn (take stationWords ws) ∷ l) (station-tokens n (drop stationWords ws) (drop pendingBytes bs))
 
 -- ---- the handles
 
@@ -232,7 +229,7 @@ same-handles [] = refl
 same-handles (h ∷ hs) = ap (λ b. sameHandle (slotHandle (handleAt h)) h && b) (same-handles hs)
 
 fields-test : (h : Handle) → (sameHandle (slotHandle (handleAt h)) h && slotTest handleValid (handleAt h)) ≡ fieldsTest h
-unfolding sameHandle slotHandle handleAt noHandle slotTest handleValid validMask within
+unfolding sameHandle slotHandle handleAt noHandle slotTest
 fields-test h = by (eqb (h .number) 0) refl
   where
     at : Bool → Slot Handle
@@ -240,8 +237,7 @@ fields-test h = by (eqb (h .number) 0) refl
 
     by : (b : Bool) → eqb (h .number) 0 ≡ b
         → (sameHandle (slotHandle (at b)) h && slotTest handleValid (at b))
-        ≡ (if_then_else_ b (eqb (h .station) 0 && eqb (h .token) 0 && eqb (h .mask) 0)
-        (ltb (h .station) 8 && (not (eqb (h .mask) 0) && eqb (bitAnd (h .mask) 0x1EF) (h .mask))))
+        ≡ (if_then_else_ b (eqb (h .station) 0 && eqb (h .token) 0 && eqb (h .mask) 0) (handleValid h))
     by true e = rw (eqb-flip 0 (h .station), eqb-flip 0 (h .number), e, eqb-flip 0 (h .token), eqb-flip 0 (h .mask), and-true, and-true)
     by false e = rw (eqb-same (h .station), eqb-same (h .number), eqb-same (h .token), eqb-same (h .mask))
 

@@ -12,6 +12,7 @@ use lib.Seq.{length-take-le, take-all}
 use Rattle.table.specs.Lists.{pad, pad-fits}
 use Rattle.table.specs.Table.{flat}
 use Rattle.table.specs.Rows.{readRows, testRows}
+use Rattle.table.specs.Sections.{total, joined}
 use Rattle.rules.specs.Basic.{all}
 use Rattle.rules.specs.Memory.{same, mark, low32, low8, word32}
 use Rattle.rules.proofs.Same.{same-refl}
@@ -26,6 +27,19 @@ same-append n xs ys zs e = by xs zs ∙ ap₂ (λ (j k : ℕ). same xs (take j z
     by [] zs = refl
     by (x ∷ xs) [] = refl
     by (x ∷ xs) (z ∷ zs) = ap (λ b. eqb x z && b) (by xs zs) ∙ sym (and-assoc (eqb x z) _ _)
+
+-- sections one after the other, each against the elements where it stands
+unfoldable pub allSame : List (List ℕ) → List ℕ → Bool
+allSame [] ws = true
+allSame (xs ∷ xss) ws = same xs (take (length xs) ws) && allSame xss (drop (length xs) ws)
+
+pub same-joined : (xss : List (List ℕ)) (ws : List ℕ) → length ws ≡ total (map length xss) → same (joined xss) ws ≡ allSame xss ws
+unfolding flat same allSame
+same-joined [] [] e = refl
+same-joined [] (w ∷ ws) e = absurd (omega arith)
+same-joined (xs ∷ xss) ws e =
+    same-append (length xs) xs (joined xss) ws refl
+    ∙ ap (λ b. same xs (take (length xs) ws) && b) (same-joined xss (drop (length xs) ws) (length-drop (length xs) ws ∙ omega (arith, e)))
 
 pub same-zeros : (n : ℕ) (zs : List ℕ) → length zs ≡ n → same (replicate n 0) zs ≡ all isZero zs
 unfolding same all

@@ -13,7 +13,7 @@ use Rattle.table.specs.Lists.{pad, named-take}
 use Rattle.table.specs.Rows.{testRows}
 use Rattle.rules.specs.Basic.{all, member, isEmpty}
 use Rattle.rules.specs.Frame.{lengthOf, framedBy, framed}
-use Rattle.rules.specs.Memory.{same, stationRow, pendingRow, stationAt, stationWords, pendingBytes}
+use Rattle.rules.specs.Memory.{same, stationRow, pendingRow, stationAt, stationWords, countWord, brokenWord, pendingBytes}
 use Rattle.rules.specs.State.{stationCount}
 use Rattle.rules.specs.Valid.{isByte, isPart, streamValid}
 use Rattle.rules.proofs.Logic.{and-l, and-r}
@@ -51,19 +51,19 @@ empty-length (x ∷ xs) = ne-eqb (suc (length xs)) 0 (λ h. omega arith)
 
 module _ (ws bs : List ℕ) (lw : length ws ≡ stationWords) (lb : length bs ≡ pendingBytes) where
   station-same : stationTest ws bs
-      ≡ (leb (getD ws 1 0) pendingBytes && ltb (getD ws 2 0) 2 && same (pad pendingBytes (take (getD ws 1 0) bs)) bs && streamValid (stationAt ws bs))
+      ≡ (leb (getD ws countWord 0) pendingBytes && ltb (getD ws brokenWord 0) 2 && same (pad pendingBytes (take (getD ws countWord 0) bs)) bs && streamValid (stationAt ws bs))
   unfolding stationTest stationAt stationRow pendingRow same
   station-same =
-      let e : same (stationRow (stationAt ws bs)) ws ≡ (leb (getD ws 1 0) pendingBytes && ltb (getD ws 2 0) 2) =
+      let e : same (stationRow (stationAt ws bs)) ws ≡ (leb (getD ws countWord 0) pendingBytes && ltb (getD ws brokenWord 0) 2) =
       ap (same (stationRow (stationAt ws bs))) (sym (named-take stationWords 0 ws (omega arith) ∙ take-all stationWords ws (omega arith)))
-      ∙ simp (eqb-same, cut-mark, cut-count pendingBytes (getD ws 1 0) bs lb, and-true) in
-      ap (λ b. b && same (pad pendingBytes (take (getD ws 1 0) bs)) bs && streamValid (stationAt ws bs)) e
+      ∙ simp (eqb-same, cut-mark, cut-count pendingBytes (getD ws countWord 0) bs lb, and-true) in
+      ap (λ b. b && same (pad pendingBytes (take (getD ws countWord 0) bs)) bs && streamValid (stationAt ws bs)) e
 
-  pub too-long : pendingBytes < getD ws 1 0 → false ≡ stationTest ws bs
-  too-long h = sym (station-same ∙ rw (lt-leb (getD ws 1 0) pendingBytes h))
+  pub too-long : pendingBytes < getD ws countWord 0 → false ≡ stationTest ws bs
+  too-long h = sym (station-same ∙ rw (lt-leb (getD ws countWord 0) pendingBytes h))
 
   -- nothing pending
-  pub station-idle : {z : Bool} → getD ws 1 0 ≡ 0 → z ≡ all isZero bs → (ltb (getD ws 2 0) 2 && z) ≡ stationTest ws bs
+  pub station-idle : {z : Bool} → getD ws countWord 0 ≡ 0 → z ≡ all isZero bs → (ltb (getD ws brokenWord 0) 2 && z) ≡ stationTest ws bs
   unfolding streamValid stationAt all isPart framed framedBy lengthOf isEmpty
   station-idle {z} e ez =
       let zeros : same (pad pendingBytes []) bs ≡ all isZero bs = same-pad-take pendingBytes 0 bs lb (omega arith) ∙ ap (all isZero) (take-all pendingBytes bs (omega arith)) in
@@ -81,19 +81,19 @@ swapped a z p b = simp and-assoc (simp and-true at (same-tests (a ∷ z ∷ p �
 
 -- bytes pending
 pub station-part : (ws bs : List ℕ) → ((i : ℕ) → getD bs i 0 < 256) → {p z : Bool} → length ws ≡ stationWords → length bs ≡ pendingBytes
-    → (getD ws 1 0 ≡ 0 → ⊥) → getD ws 1 0 ≤ pendingBytes
-    → p ≡ isPart (framed (take (getD ws 1 0 - 0) bs)) → z ≡ all isZero (take (pendingBytes - getD ws 1 0) (drop (getD ws 1 0) bs))
-    → (eqb (getD ws 2 0) 0 && p && z) ≡ stationTest ws bs
+    → (getD ws countWord 0 ≡ 0 → ⊥) → getD ws countWord 0 ≤ pendingBytes
+    → p ≡ isPart (framed (take (getD ws countWord 0 - 0) bs)) → z ≡ all isZero (take (pendingBytes - getD ws countWord 0) (drop (getD ws countWord 0) bs))
+    → (eqb (getD ws brokenWord 0) 0 && p && z) ≡ stationTest ws bs
 unfolding streamValid stationAt isByte
 station-part ws bs kb {p} {z} lw lb nz h ep ez =
-    let n : ℕ = getD ws 1 0 in
+    let n : ℕ = getD ws countWord 0 in
     let a : p ≡ isPart (framed (take n bs)) = ep ∙ ap (λ (k : ℕ). isPart (framed (take k bs))) {x = n - 0} {y = n} (omega arith) in
     let e : isEmpty (take n bs) ≡ false = sym (empty-length (take n bs)) ∙ ap (λ (k : ℕ). eqb k 0) (length-take-le n bs (omega arith)) ∙ ne-eqb n 0 nz in
     sym
     (station-same ws bs lw lb
     ∙ rw (le-leb n pendingBytes h, same-pad-take pendingBytes n bs lb h, ← ez, all-below 256 bs kb n, ← a, e, ← implies-or, or-false)
-    (swapped (ltb (getD ws 2 0) 2) z p (not (eqb (getD ws 2 0) 1)))
-    ∙ ap (λ b. b && p && z) (not-broken (getD ws 2 0)))
+    (swapped (ltb (getD ws brokenWord 0) 2) z p (not (eqb (getD ws brokenWord 0) 1)))
+    ∙ ap (λ b. b && p && z) (not-broken (getD ws brokenWord 0)))
 
 -- ---- rows that are all idle
 
@@ -107,7 +107,7 @@ idle-rows (suc n) xs bs lx lb h =
     let ps : List ℕ = take pendingBytes bs in
     let idle : idleTest ws ≡ true = and-l (idleTest ws) _ h in
     let row : stationTest ws ps ≡ all isZero ps =
-    sym (sym (rw (and-r (eqb (getD ws 1 0) 0) _ idle)) ∙ station-idle ws ps (length-take-le stationWords xs (omega (arith, suc-mul n stationWords))) (length-take-le pendingBytes bs (omega (arith, suc-mul n pendingBytes))) (eqb-true (getD ws 1 0) 0 (and-l (eqb (getD ws 1 0) 0) _ idle)) refl) in
+    sym (sym (rw (and-r (eqb (getD ws countWord 0) 0) _ idle)) ∙ station-idle ws ps (length-take-le stationWords xs (omega (arith, suc-mul n stationWords))) (length-take-le pendingBytes bs (omega (arith, suc-mul n pendingBytes))) (eqb-true (getD ws countWord 0) 0 (and-l (eqb (getD ws countWord 0) 0) _ idle)) refl) in
     ap₂ (λ a b. a && b) row
     (idle-rows n (drop stationWords xs) (drop pendingBytes bs) (length-drop stationWords xs ∙ omega (arith, lx, suc-mul n stationWords)) (length-drop pendingBytes bs ∙ omega (arith, lb, suc-mul n pendingBytes)) (and-r (idleTest ws) _ h))
     ∙ sym (all-append isZero ps (drop pendingBytes bs))

@@ -1,6 +1,6 @@
 -- A token's row: the tests of its parts come to `tokenTest`. Assumes nothing.
 use mathlib.Core.Path.{_≡_, refl, sym, ap, ap₂, _∙_}
-use mathlib.Core.Bool.{Bool, true, false, not, _&&_, _||_, and-true, and-false, and-assoc, or-false}
+use mathlib.Core.Bool.{Bool, true, false, not, _&&_, _||_, and-true, and-false, and-assoc}
 use mathlib.Core.List.{List, [], _∷_, _++_, map}
 use Prim.Native.Nat.{ℕ, zero, suc, _+_, _-_, _*_, _/_, _%_, _^_, _≤_, _<_}
 use native.Mathlib.Nat.{div-add-mod', add-comm}
@@ -18,7 +18,9 @@ use Rattle.rules.specs.Create.{validIntegrity}
 use Rattle.rules.specs.AdjustDefaults.{validOwner, validGroup}
 use Rattle.rules.specs.Valid.{isByte, is32, is64, between, identityValid, privilegesValid, groupValid, groupsValid, limitsValid, defaultsValid, tokenValid}
 use Rattle.rules.specs.Memory.{same, pack, unpack, low32, low8, word32, head, headWords, tokenRow, daclRow, slotRow, slotDacl, slotAt, tokenAt, identityAt, privilegesAt, groupsAt, limitsAt, defaultsAt, tokenWords}
-use Rattle.rules.proofs.Logic.{and-l, and-r, all-mem, member-mem}
+use Rattle.rules.proofs.Logic.{and-l, and-r}
+use Rattle.rules.proofs.Facts.{between-high}
+use Rattle.rules.proofs.Rows.{integrity32}
 use Rattle.valid.specs.Tests.{isZero, isNarrow, slotTest, groupTest, headTest, groupsEnd, groupsPart, groupsRest, sidsPart, sidsRest, daclRest, listsTest, Counted, liveTest, tokenTest}
 use Rattle.valid.proofs.Truth.{same-tests, eqb-same, implies-or, uncut, all-holds, all-map, all-below}
 use Rattle.valid.proofs.Same.{same-append, same-zeros, same-pad, same-pad-take, same-map, cut32, cut8, cut-mark, cut-count}
@@ -42,17 +44,9 @@ length-head t = refl
 
 -- ---- a field's width and its range are one test
 
-between-below : (low high w : ℕ) → between low high w ≡ true → w ≤ high
-unfolding between
-between-below low high w h = leb-true w high (and-r (leb low w) (leb w high) h)
-
 integrity-below : (w : ℕ) → validIntegrity w ≡ true → w < word32
-unfolding validIntegrity all
-integrity-below w h = ltb-true w word32 (all-mem isNarrow (0 ∷ 4096 ∷ 8192 ∷ 12288 ∷ 16384 ∷ []) refl (member-mem w (0 ∷ 4096 ∷ 8192 ∷ 12288 ∷ 16384 ∷ []) h))
-
-integrity-or : (w : ℕ) → (eqb w 0 || (eqb w 4096 || (eqb w 8192 || (eqb w 12288 || eqb w 16384)))) ≡ validIntegrity w
-unfolding validIntegrity member
-integrity-or w = simp or-false
+unfolding is32
+integrity-below w h = ltb-true w word32 (integrity32 w h)
 
 owner-below : (gs : List Group) (o : ℕ) → validOwner gs o ≡ true → o ≤ length gs
 unfolding validOwner
@@ -79,7 +73,7 @@ kind-level t l =
 shuffle : (u t l e m n o p s i E I K L M P G O R Z N Y D : Bool) {KLM E′ I′ O′ R′ : Bool}
     → KLM ≡ (t && (K && (l && (L && M)))) → E′ ≡ (e && E) → I′ ≡ (i && I) → O′ ≡ (o && O) → R′ ≡ (p && R)
     → ((u && (t && (l && (e && (m && (n && (o && (p && (s && i))))))))) && (Z && (N && Y)) && D && (E && (I && K && L && M) && P && G && (O && R)))
-    ≡ (u && KLM && E′ && m && n && s && I′ && P && G && O′ && R′ && Z && N && Y && D)
+    ≡ (u && KLM && E′ && m && n && s && P && I′ && G && O′ && R′ && Z && N && Y && D)
 unfolding all member
 shuffle u t l e m n o p s i E I K L M P G O R Z N Y D hk he hi ho hr =
     simp (hk, he, hi, ho, hr, and-assoc)
@@ -87,7 +81,7 @@ shuffle u t l e m n o p s i E I K L M P G O R Z N Y D hk he hi ho hr =
     (same-tests
     (u ∷ t ∷ l ∷ e ∷ m ∷ n ∷ o ∷ p ∷ s ∷ i ∷ Z ∷ N ∷ Y ∷ D ∷ E ∷ I ∷ K ∷ L ∷ M ∷ P ∷ G ∷ O ∷ R ∷ [])
     (0 ∷ 1 ∷ 2 ∷ 3 ∷ 4 ∷ 5 ∷ 6 ∷ 7 ∷ 8 ∷ 9 ∷ 10 ∷ 11 ∷ 12 ∷ 13 ∷ 14 ∷ 15 ∷ 16 ∷ 17 ∷ 18 ∷ 19 ∷ 20 ∷ 21 ∷ 22 ∷ [])
-    (0 ∷ 1 ∷ 16 ∷ 2 ∷ 17 ∷ 18 ∷ 3 ∷ 14 ∷ 4 ∷ 5 ∷ 8 ∷ 9 ∷ 15 ∷ 19 ∷ 20 ∷ 6 ∷ 21 ∷ 7 ∷ 22 ∷ 10 ∷ 11 ∷ 12 ∷ 13 ∷ [])
+    (0 ∷ 1 ∷ 16 ∷ 2 ∷ 17 ∷ 18 ∷ 3 ∷ 14 ∷ 4 ∷ 5 ∷ 8 ∷ 19 ∷ 9 ∷ 15 ∷ 20 ∷ 6 ∷ 21 ∷ 7 ∷ 22 ∷ 10 ∷ 11 ∷ 12 ∷ 13 ∷ [])
     refl refl))
 
 -- the groups' words, as the rules take them
@@ -226,6 +220,7 @@ module _ (ws bs : List ℕ) (kw : (i : ℕ) → getD ws i 0 < 2 ^ 64) (kb : (i :
   long = length-map (groupWords ws) unpack ∙ length-take-le (getD ws 17 0) (take maxGroups (drop headWords ws)) (simp (length-take, length-drop) (omega arith))
 
   row-tests : (headTest ws
+      && validIntegrity (getD ws 12 0)
       && all groupValid (map unpack (groupWords ws))
       && validOwner (map unpack (groupWords ws)) (getD ws 9 0)
       && validGroup (map unpack (groupWords ws)) (getD ws 10 0)
@@ -251,21 +246,22 @@ module _ (ws bs : List ℕ) (kw : (i : ℕ) → getD ws i 0 < 2 ^ 64) (kb : (i :
       (between primary impersonation (low8 (w 4))) (leb (low8 (w 5)) 3) (implies (eqb (low8 (w 4)) primary) (eqb (low8 (w 5)) 0))
       (privilegesValid (privilegesAt ws)) (all groupValid gs) (validOwner gs (low32 (w 9))) (validGroup gs (low32 (w 10))) z n y d
       (kind-level (w 4) (w 5))
-      (sym (uncut 256 (between 1 3) (λ v h. omega (arith, between-below 1 3 v h)) (w 6)))
-      (integrity-or (w 12) ∙ sym (uncut word32 validIntegrity integrity-below (w 12)))
+      (sym (uncut 256 (between 1 3) (λ v h. omega (arith, between-high 1 3 v h)) (w 6)))
+      (sym (uncut word32 validIntegrity integrity-below (w 12)))
       (sym (uncut word32 (validOwner gs) (λ v h. omega (arith, owner-below gs v h, long)) (w 9)))
       (sym (uncut word32 (validGroup gs) (λ v h. omega (arith, group-below gs v h, long)) (w 10)))
       ∙ simp and-assoc)
 
   -- with what the code has at its end
-  pub at-end : {h g o l : Bool}
+  pub at-end : {h i g o l : Bool}
       → h ≡ headTest ws
+      → i ≡ validIntegrity (getD ws 12 0)
       → g ≡ all groupTest (groupsPart ws)
       → o ≡ validOwner (map unpack (groupsPart ws)) (getD ws 9 0)
       → l ≡ listsTest ws bs
-      → (h && g && o && leb (getD ws 10 0) (getD ws 17 0) && l) ≡ liveTest ws bs
+      → (h && i && g && o && leb (getD ws 10 0) (getD ws 17 0) && l) ≡ liveTest ws bs
   unfolding groupTest validGroup
-  at-end {h} {g} {o} eh eg eo el =
+  at-end {h} {i} {g} {o} eh ei eg eo el =
       let a : g ≡ all groupValid (map unpack (groupWords ws)) = eg ∙ ap (all groupTest) lent-groups ∙ sym (all-map unpack groupValid (groupWords ws)) in
       let b : o ≡ validOwner (map unpack (groupWords ws)) (getD ws 9 0) = eo ∙ ap (λ xs. validOwner (map unpack xs) (getD ws 9 0)) lent-groups in
       let c : leb (getD ws 10 0) (getD ws 17 0) ≡ leb (getD ws 10 0) (length (map unpack (groupWords ws))) = ap (λ (k : ℕ). leb (getD ws 10 0) k) (sym long) in

@@ -4,11 +4,12 @@ use mathlib.Core.Bool.{Bool, true, false, _&&_, and-true, and-false, and-assoc}
 use mathlib.Core.List.{List, [], _∷_, _++_, map}
 use Prim.Native.Nat.{ℕ, _+_, _-_, _*_, _^_, _<_}
 use native.Mathlib.Omega.{arith}
-use borrow.Author.Tests.{eq-eqb, ne-eqb, le-leb}
+use borrow.Author.Tests.{eq-eqb, le-leb}
 use lib.Dec.{eqb, leb}
-use lib.ListN.{length, take, drop, getD, length-drop, length-map, take-append-drop}
-use lib.Seq.{drop-cons, take-all, take-take}
-use Rattle.table.specs.Table.{flat}
+use lib.ListN.{length, take, drop, length-drop, length-map, take-append-drop}
+use lib.Seq.{length-take-le, take-all, take-take}
+use Rattle.table.specs.Lists.{named-take}
+use Rattle.table.specs.Table.{flat, length-flat}
 use Rattle.table.specs.Rows.{readRows, testRows, length-rows}
 use Rattle.handle.specs.declared.Handle as code
 use Rattle.handle.specs.Meaning.{handleOf}
@@ -22,14 +23,15 @@ use Rattle.rules.specs.State as State
 use Rattle.rules.specs.State.{tokenSlots, handleSlots, stationCount, numberOf, handleNumber, handleToken, stationToken, references}
 use Rattle.rules.specs.Valid as Valid
 use Rattle.rules.specs.Valid.{between, tableValid, tokenValid, handleValid, streamValid, isToken, primaryAtStation}
-use Rattle.rules.specs.Memory.{Memory, same, sameHandles, sameMemory, sized, isImage, valid, encode, decode, slotAt, slotRow, slotDacl, slotHandle, handleAt, stationAt, stationRow, pendingRow, tokenWords, stationWords, counterWords, pendingBytes}
+use Rattle.rules.specs.Memory.{Memory, same, sameHandles, sameMemory, sized, isImage, valid, encode, decode, slotAt, slotRow, slotDacl, slotHandle, handleAt, stationAt, stationRow, counters, sections, control, pendingRow, tokenWords, counterWords, stationWords, controlWords, nextToken, nextHandle, stationsIn, pendingBytes}
+use Rattle.rules.proofs.Same.{same-refl}
 use Rattle.rules.proofs.Rows.{length-slotRow, length-slotDacl, length-stationRow, length-pendingRow}
-use Rattle.valid.specs.Tests.{slotTest, tokenTest, stationTest, columnBy, firstWord, otherWord, kept, nonzero, Front, Referred, tally, isGiven, isApart, isReferred, refsTest, fieldsTest, numbersTest, linksTest, partsTest}
+use Rattle.valid.specs.Tests.{slotTest, tokenTest, stationTest, columnBy, firstWord, otherWord, tokenIn, kept, nonzero, Front, Referred, tally, isGiven, isApart, isReferred, refsTest, fieldsTest, numbersTest, linksTest, partsTest}
 use Rattle.valid.specs.Meaning as Meaning
 use Rattle.valid.specs.Meaning.{memoryOf, Lent, tokenOf, fieldsOf}
-use Rattle.valid.proofs.Truth.{same-tests, eqb-same, all-cong, all-map}
+use Rattle.valid.proofs.Truth.{same-tests, all-cong, all-map}
 use Rattle.valid.proofs.Counts.{listed, referred}
-use Rattle.valid.proofs.Same.{same-rows}
+use Rattle.valid.proofs.Same.{allSame, same-joined, same-rows}
 use Rattle.valid.proofs.TokenRow.{drop-take}
 use Rattle.valid.proofs.Lists.{given, kept-map, kept-lives, token-numbers, primaryIn, other-numbers, station-tokens, all-lives, fields}
 
@@ -53,8 +55,8 @@ shuffle T D H S P a true A₂ b B₁ B₂ c E F G L R Q l =
 
 module _ (m : Memory)
     (lt : length (m .tokens) ≡ tokenSlots * tokenWords) (ld : length (m .dacls) ≡ tokenSlots * maxDacl) (lh : length (m .handles) ≡ handleSlots)
-    (ls : length (m .stations) ≡ counterWords + stationCount * stationWords) (lp : length (m .pending) ≡ stationCount * pendingBytes)
-    (kn : getD (m .stations) 0 0 < 2 ^ 64) where
+    (ls : length (m .control) ≡ controlWords) (lp : length (m .pending) ≡ stationCount * pendingBytes)
+    (kn : nextToken (m .control) < 2 ^ 64) where
   tokens-tested : let rows : List (Slot Token) = readRows slotAt tokenWords maxDacl tokenSlots (m .tokens) (m .dacls) in
       (same (flat slotRow rows) (m .tokens) && same (flat slotDacl rows) (m .dacls) && all tokenValid (lives rows))
       ≡ testRows tokenTest tokenWords maxDacl tokenSlots (m .tokens) (m .dacls)
@@ -64,37 +66,47 @@ module _ (m : Memory)
       ap (λ b. same (flat slotRow rows) (m .tokens) && same (flat slotDacl rows) (m .dacls) && b) (all-lives tokenValid rows)
       ∙ same-rows slotAt tokenWords maxDacl (slotTest tokenValid) slotRow slotDacl length-slotRow length-slotDacl tokenSlots (m .tokens) (m .dacls) lt ld
 
-  stations-apart : m .stations ≡ getD (m .stations) 0 0 ∷ getD (m .stations) 1 0 ∷ drop counterWords (m .stations)
-  stations-apart = drop-cons (m .stations) 0 0 (omega arith) ∙ ap (λ l. getD (m .stations) 0 0 ∷ l) (drop-cons (m .stations) 1 0 (omega arith))
+  -- the counters are what they are read as, whatever they are
+  control-tested : let xs : List Station = readRows stationAt stationWords pendingBytes stationCount (stationsIn (m .control)) (m .pending) in
+      same (control (decode m)) (m .control) ≡ same (flat stationRow xs) (stationsIn (m .control))
+  unfolding decode control sections allSame
+  control-tested =
+      let xs : List Station = readRows stationAt stationWords pendingBytes stationCount (stationsIn (m .control)) (m .pending) in
+      let rows : List ℕ = flat stationRow xs in
+      let count : length xs ≡ stationCount = length-rows stationAt stationWords pendingBytes stationCount (stationsIn (m .control)) (m .pending) in
+      let long : length rows ≡ stationCount * stationWords = length-flat stationRow stationWords length-stationRow xs ∙ ap (λ (n : ℕ). n * stationWords) count in
+      let counted : same (counters (decode m)) (take counterWords (m .control)) ≡ true =
+      ap (same (counters (decode m))) (sym (named-take counterWords 0 (m .control) (omega arith))) ∙ same-refl (counters (decode m)) in
+      same-joined (sections (decode m)) (m .control) (omega arith)
+      ∙ rw (counted, long, and-true)
 
-  stations-tested : let xs : List Station = readRows stationAt stationWords pendingBytes stationCount (drop counterWords (m .stations)) (m .pending) in
-      (same (getD (m .stations) 0 0 ∷ getD (m .stations) 1 0 ∷ flat stationRow xs) (m .stations) && same (flat pendingRow xs) (m .pending) && all streamValid xs)
-      ≡ testRows stationTest stationWords pendingBytes stationCount (drop counterWords (m .stations)) (m .pending)
-  unfolding stationTest same
+  stations-tested : let xs : List Station = readRows stationAt stationWords pendingBytes stationCount (stationsIn (m .control)) (m .pending) in
+      (same (control (decode m)) (m .control) && same (flat pendingRow xs) (m .pending) && all streamValid xs)
+      ≡ testRows stationTest stationWords pendingBytes stationCount (stationsIn (m .control)) (m .pending)
+  unfolding stationTest
   stations-tested =
-      let xs : List Station = readRows stationAt stationWords pendingBytes stationCount (drop counterWords (m .stations)) (m .pending) in
-      ap (λ l. same (getD (m .stations) 0 0 ∷ getD (m .stations) 1 0 ∷ flat stationRow xs) l && same (flat pendingRow xs) (m .pending) && all streamValid xs) stations-apart
-      ∙ rw (eqb-same (getD (m .stations) 0 0), eqb-same (getD (m .stations) 1 0))
-      (same-rows stationAt stationWords pendingBytes streamValid stationRow pendingRow length-stationRow length-pendingRow stationCount
-      (drop counterWords (m .stations)) (m .pending) (simp length-drop (omega arith)) lp)
+      let xs : List Station = readRows stationAt stationWords pendingBytes stationCount (stationsIn (m .control)) (m .pending) in
+      ap (λ b. b && same (flat pendingRow xs) (m .pending) && all streamValid xs) control-tested
+      ∙ same-rows stationAt stationWords pendingBytes streamValid stationRow pendingRow length-stationRow length-pendingRow stationCount
+      (stationsIn (m .control)) (m .pending) (length-take-le (stationCount * stationWords) (drop counterWords (m .control)) (simp length-drop (omega arith))) lp
 
   pub parts : partsTest m ≡ (isImage m && Valid.valid (decode m))
   unfolding partsTest linksTest numbersTest refsTest isImage sameMemory encode decode Valid.valid tableValid between references isToken State.isReferred primaryAtStation primaryIn numberOf
   parts =
       let rows : List (Slot Token) = readRows slotAt tokenWords maxDacl tokenSlots (m .tokens) (m .dacls) in
-      let xs : List Station = readRows stationAt stationWords pendingBytes stationCount (drop counterWords (m .stations)) (m .pending) in
+      let xs : List Station = readRows stationAt stationWords pendingBytes stationCount (stationsIn (m .control)) (m .pending) in
       let hs : List Handle = m .handles in
       let hl : List Handle = lives (map handleAt hs) in
       let col : List ℕ = columnBy firstWord tokenWords tokenSlots (m .tokens) in
       let ns : List ℕ = nonzero col in
-      let ss : List ℕ = columnBy firstWord stationWords stationCount (drop counterWords (m .stations)) in
+      let ss : List ℕ = columnBy tokenIn stationWords stationCount (stationsIn (m .control)) in
       let hn : List ℕ = kept handleNumber handleNumber hs in
       let ht : List ℕ = kept handleNumber handleToken hs in
       let tn : List ℕ = map numberOf (lives rows) in
-      let nt : ℕ = getD (m .stations) 0 0 in
-      let nh : ℕ = getD (m .stations) 1 0 in
+      let nt : ℕ = nextToken (m .control) in
+      let nh : ℕ = nextHandle (m .control) in
       let en : tn ≡ ns = token-numbers tokenSlots (m .tokens) (m .dacls) in
-      let es : map stationToken xs ≡ ss = station-tokens stationCount (drop counterWords (m .stations)) (m .pending) in
+      let es : map stationToken xs ≡ ss = station-tokens stationCount (stationsIn (m .control)) (m .pending) in
       let eh : map handleNumber hl ≡ hn = kept-lives handleNumber hs in
       let et : map handleToken hl ≡ ht = kept-lives handleToken hs in
       let g₁ : (leb 1 nt && all (isGiven nt ns) ns) ≡ (leb 1 nt && (distinct tn && all (between 1 (nt - 1)) tn)) = sym (rw en (given (λ x. x) nt col)) in
@@ -106,13 +118,13 @@ module _ (m : Memory)
       sym (ap (λ zs. all (primaryIn zs) (lives rows)) es ∙ other-numbers ss tokenSlots (m .tokens) (m .dacls)) in
       let c₁ : eqb (length rows) tokenSlots ≡ true = eq-eqb (length rows) tokenSlots (length-rows slotAt tokenWords maxDacl tokenSlots (m .tokens) (m .dacls)) in
       let c₂ : eqb (length (map handleAt hs)) handleSlots ≡ true = eq-eqb (length (map handleAt hs)) handleSlots (length-map hs handleAt ∙ lh) in
-      let c₃ : eqb (length xs) stationCount ≡ true = eq-eqb (length xs) stationCount (length-rows stationAt stationWords pendingBytes stationCount (drop counterWords (m .stations)) (m .pending)) in
+      let c₃ : eqb (length xs) stationCount ≡ true = eq-eqb (length xs) stationCount (length-rows stationAt stationWords pendingBytes stationCount (stationsIn (m .control)) (m .pending)) in
       let c₄ : leb nt max64 ≡ true = le-leb nt max64 (omega arith) in
       ap₂ _&&_ (ap₂ _&&_ (sym tokens-tested) (sym stations-tested))
       (ap₂ _&&_ (sym (fields hs)) (ap₂ _&&_ (ap₂ _&&_ (ap (λ b. b && leb nh max32) (ap₂ _&&_ g₁ g₂)) (ap (λ b. b && eqb (tally ns (ht ++ ss)) (length (ht ++ ss))) r)) q))
       ∙ shuffle
       (same (flat slotRow rows) (m .tokens)) (same (flat slotDacl rows) (m .dacls)) (sameHandles (map slotHandle (map handleAt hs)) hs)
-      (same (nt ∷ nh ∷ flat stationRow xs) (m .stations)) (same (flat pendingRow xs) (m .pending))
+      (same (control (decode m)) (m .control)) (same (flat pendingRow xs) (m .pending))
       (leb 1 nt) (distinct tn) (all (between 1 (nt - 1)) tn)
       (leb 1 nh) (distinct (map handleNumber hl)) (all (between 1 (nh - 1)) (map handleNumber hl)) (leb nh max32)
       (all tokenValid (lives rows)) (all handleValid hl) (all streamValid xs)
@@ -142,60 +154,31 @@ at-fronts ns os hs rs n o h nt nh e =
     drop-take h (h + stationCount - 0) rs ∙ ap (λ (k : ℕ). take k (drop h rs)) {x = h + stationCount - 0 - h} {y = stationCount} (omega arith) in
     cc (c n, c o, c h)
 
--- the stations' rows, as the code lends them
-abbrev pub rowsPart : List ℕ → List ℕ
-rowsPart ss = take (counterWords + stationCount * stationWords - counterWords) (drop counterWords ss)
-
-rows-apart : (ss : List ℕ) → length ss ≡ counterWords + stationCount * stationWords → rowsPart ss ≡ drop counterWords ss
-rows-apart ss l = take-all (stationCount * stationWords) (drop counterWords ss) (simp length-drop (omega arith))
-
-pub at-links : (ts : List ℕ) (hs : List code.Handle) (ss : List ℕ) {ns os hn rs : List ℕ} {n o h : ℕ} {f r : Bool}
-    → r ≡ numbersTest (take n ns) (take o os) (take h hn) (take h rs) (take stationCount (drop h rs)) (getD ss 0 0) (getD ss 1 0)
-    → length ss ≡ counterWords + stationCount * stationWords
+pub at-links : (ts : List ℕ) (hs : List code.Handle) (cs : List ℕ) {ns os hn rs : List ℕ} {n o h : ℕ} {f r : Bool}
+    → r ≡ numbersTest (take n ns) (take o os) (take h hn) (take h rs) (take stationCount (drop h rs)) (nextToken cs) (nextHandle cs)
     → Front tokenSlots (nonzero (columnBy firstWord tokenWords tokenSlots ts)) n ns → Front tokenSlots (nonzero (columnBy otherWord tokenWords tokenSlots ts)) o os
     → Front handleSlots (kept Meaning.numberOf Meaning.numberOf hs) h hn
-    → Referred (kept Meaning.numberOf tokenOf hs) (columnBy firstWord stationWords stationCount (rowsPart ss)) h rs
-    → f ≡ all fieldsOf hs → (f && r) ≡ linksTest ts (map handleOf hs) ss
+    → Referred (kept Meaning.numberOf tokenOf hs) (columnBy tokenIn stationWords stationCount (stationsIn cs)) h rs
+    → f ≡ all fieldsOf hs → (f && r) ≡ linksTest ts (map handleOf hs) cs
 unfolding linksTest handleNumber handleToken
-at-links ts hs ss {hn = hn} {rs = rs} {h = h} er ls en eo eh ek ef =
-    let x : take stationCount (drop h rs) ≡ columnBy firstWord stationWords stationCount (drop counterWords ss) =
-    ek .behind ∙ ap (columnBy firstWord stationWords stationCount) (rows-apart ss ls) in
+at-links ts hs cs {hn = hn} {rs = rs} {h = h} er en eo eh ek ef =
     let z : all fieldsOf hs ≡ all fieldsTest (map handleOf hs) = sym (all-map handleOf fieldsTest hs) in
     let u : take h hn ≡ kept handleNumber handleNumber (map handleOf hs) = eh .front ∙ sym (kept-map handleNumber handleNumber handleOf hs) in
     let v : take h rs ≡ kept handleNumber handleToken (map handleOf hs) = ek .held ∙ sym (kept-map handleNumber handleToken handleOf hs) in
-    cc (en .front, eo .front)
+    cc (en .front, eo .front, ek .behind)
 
-module _ (ts ds : List ℕ) (hs : List code.Handle) (ss ps : List ℕ) where
-  pub at-parts : Lent ts ds ss ps → {t s l : Bool}
-      → t ≡ testRows tokenTest tokenWords maxDacl tokenSlots ts ds
-      → s ≡ testRows stationTest stationWords pendingBytes stationCount (rowsPart ss) ps
-      → l ≡ linksTest ts (map handleOf hs) ss
-      → (t && s && l) ≡ partsTest (memoryOf ts ds hs ss ps)
-  unfolding partsTest
-  at-parts lent et eu el =
-      let y : testRows stationTest stationWords pendingBytes stationCount (rowsPart ss) ps ≡ testRows stationTest stationWords pendingBytes stationCount (drop counterWords ss) ps =
-      ap (λ l. testRows stationTest stationWords pendingBytes stationCount l ps) (rows-apart ss (lent .stations)) in
-      cc
+pub at-parts : (ts ds : List ℕ) (hs : List code.Handle) (cs ps : List ℕ) {t s l : Bool}
+    → t ≡ testRows tokenTest tokenWords maxDacl tokenSlots ts ds
+    → s ≡ testRows stationTest stationWords pendingBytes stationCount (stationsIn cs) ps
+    → l ≡ linksTest ts (map handleOf hs) cs
+    → (t && s && l) ≡ partsTest (memoryOf ts ds hs cs ps)
+unfolding partsTest
+at-parts ts ds hs cs ps et eu el = cc
 
-  pub wrong-tokens : (length ts ≡ tokenSlots * tokenWords → ⊥) → false ≡ valid (memoryOf ts ds hs ss ps)
-  unfolding valid sized
-  wrong-tokens h = sym (rw (ne-eqb (length ts) (tokenSlots * tokenWords) h))
-
-  pub wrong-dacls : (length ds ≡ tokenSlots * maxDacl → ⊥) → false ≡ valid (memoryOf ts ds hs ss ps)
-  unfolding valid sized
-  wrong-dacls h = sym (rw (ne-eqb (length ds) (tokenSlots * maxDacl) h, and-false))
-
-  pub wrong-stations : (length ss ≡ counterWords + stationCount * stationWords → ⊥) → false ≡ valid (memoryOf ts ds hs ss ps)
-  unfolding valid sized
-  wrong-stations h = sym (rw (ne-eqb (length ss) (counterWords + stationCount * stationWords) h, and-false))
-
-  pub wrong-pending : (length ps ≡ stationCount * pendingBytes → ⊥) → false ≡ valid (memoryOf ts ds hs ss ps)
-  unfolding valid sized
-  wrong-pending h = sym (rw (ne-eqb (length ps) (stationCount * pendingBytes) h, and-false))
-
-  pub right-sizes : getD ss 0 0 < 2 ^ 64 → {r : Bool} → length hs ≡ handleSlots → length ts ≡ tokenSlots * tokenWords → length ds ≡ tokenSlots * maxDacl → length ss ≡ counterWords + stationCount * stationWords → length ps ≡ stationCount * pendingBytes
-      → r ≡ partsTest (memoryOf ts ds hs ss ps) → r ≡ valid (memoryOf ts ds hs ss ps)
-  unfolding valid sized
-  right-sizes kn lh lt ld ls lp e =
-      e ∙ parts (memoryOf ts ds hs ss ps) lt ld (length-map hs handleOf ∙ lh) ls lp kn
-      ∙ sym (rw (eq-eqb (length ts) (tokenSlots * tokenWords) lt, eq-eqb (length ds) (tokenSlots * maxDacl) ld, eq-eqb (length (map handleOf hs)) handleSlots (length-map hs handleOf ∙ lh), eq-eqb (length ss) (counterWords + stationCount * stationWords) ls, eq-eqb (length ps) (stationCount * pendingBytes) lp))
+-- of memory whose sizes are right
+pub whole : (ts ds : List ℕ) (hs : List code.Handle) (cs ps : List ℕ) → Lent ts ds cs ps → length hs ≡ handleSlots → nextToken cs < 2 ^ 64
+    → partsTest (memoryOf ts ds hs cs ps) ≡ valid (memoryOf ts ds hs cs ps)
+unfolding valid sized
+whole ts ds hs cs ps lent lh kn =
+    parts (memoryOf ts ds hs cs ps) (lent .tokens) (lent .dacls) (length-map hs handleOf ∙ lh) (lent .control) (lent .pending) kn
+    ∙ sym (rw (eq-eqb (length ts) (tokenSlots * tokenWords) (lent .tokens), eq-eqb (length ds) (tokenSlots * maxDacl) (lent .dacls), eq-eqb (length (map handleOf hs)) handleSlots (length-map hs handleOf ∙ lh), eq-eqb (length cs) controlWords (lent .control), eq-eqb (length ps) (stationCount * pendingBytes) (lent .pending)))

@@ -11,13 +11,12 @@ use Rattle.table.specs.Rows.{testRows}
 use Rattle.rules.specs.Basic.{if_then_else_, all}
 use Rattle.rules.specs.Number.{max32}
 use Rattle.rules.specs.Privileges.{existing}
-use Rattle.rules.specs.Mask.{allRights}
 use Rattle.rules.specs.Token.{maxGroups, maxRestricting, maxDacl, primary}
 use Rattle.rules.specs.Table.{Slot, free, live}
 use Rattle.rules.specs.Handle.{Handle}
 use Rattle.rules.specs.State.{handleNumber, handleToken, tokenSlots, handleSlots, stationCount}
-use Rattle.rules.specs.Valid.{groupValid, tokenValid, streamValid}
-use Rattle.rules.specs.Memory.{Memory, same, slotRow, slotDacl, slotAt, tokenRow, daclRow, tokenAt, stationRow, pendingRow, stationAt, unpack, word32, headWords, tokenWords, stationWords, pendingBytes, counterWords}
+use Rattle.rules.specs.Valid.{groupValid, tokenValid, handleValid, streamValid}
+use Rattle.rules.specs.Memory.{Memory, same, slotRow, slotDacl, slotAt, tokenRow, daclRow, tokenAt, stationRow, pendingRow, stationAt, unpack, word32, headWords, tokenWords, stationWords, primaryWord, countWord, brokenWord, nextToken, nextHandle, stationsIn, pendingBytes}
 
 abbrev pub isZero : ℕ → Bool
 isZero w = eqb w 0
@@ -90,7 +89,6 @@ headTest ws =
     && ltb (getD ws 7 0) 2
     && ltb (getD ws 8 0) 2
     && isNarrow (getD ws 11 0)
-    && (eqb (getD ws 12 0) 0 || (eqb (getD ws 12 0) 4096 || (eqb (getD ws 12 0) 8192 || (eqb (getD ws 12 0) 12288 || eqb (getD ws 12 0) 16384))))
     && (eqb (bitAnd (getD ws 15 0) (getD ws 13 0)) (getD ws 15 0)
     && eqb (bitAnd (getD ws 14 0) (getD ws 13 0)) (getD ws 14 0)
     && eqb (bitAnd (getD ws 13 0) existing) (getD ws 13 0)
@@ -103,7 +101,7 @@ stationTest ws bs = same (stationRow (stationAt ws bs)) ws && same (pendingRow (
 
 -- nothing pending
 abbrev pub idleTest : List ℕ → Bool
-idleTest ws = eqb (getD ws 1 0) 0 && ltb (getD ws 2 0) 2
+idleTest ws = eqb (getD ws countWord 0) 0 && ltb (getD ws brokenWord 0) 2
 
 -- of each row; the bytes beside it are not looked at
 abbrev pub allIdle : List ℕ → Bool
@@ -117,6 +115,10 @@ columnBy f w (suc n) ws = f (take w ws) ∷ columnBy f w n (drop w ws)
 
 abbrev pub firstWord : List ℕ → ℕ
 firstWord row = getD row 0 0
+
+-- a station's primary token
+abbrev pub tokenIn : List ℕ → ℕ
+tokenIn row = getD row primaryWord 0
 
 -- the number of a token that is not primary, else 0
 abbrev pub otherWord : List ℕ → ℕ
@@ -185,9 +187,7 @@ refsTest ns rs = all (isReferred rs) ns && eqb (tally ns rs) (length rs)
 
 -- a free slot is zero, and a live handle's fields are within their ranges
 abbrev pub fieldsTest : Handle → Bool
-fieldsTest h =
-    if eqb h.number 0 then eqb h.station 0 && eqb h.token 0 && eqb h.mask 0
-    else ltb h.station stationCount && (not (eqb h.mask 0) && eqb (bitAnd h.mask allRights) h.mask)
+fieldsTest h = if eqb h.number 0 then eqb h.station 0 && eqb h.token 0 && eqb h.mask 0 else handleValid h
 
 -- ---- all of it
 
@@ -200,15 +200,15 @@ numbersTest ns os hs ts ss nextToken nextHandle =
     && refsTest ns (ts ++ ss)
     && all (isApart ss) os
 
--- the parts of the lent memory: tokens, handles, counters and stations
+-- the parts of the lent memory: tokens, handles, control words
 unfoldable pub linksTest : List ℕ → List Handle → List ℕ → Bool
-linksTest ts hs ss =
+linksTest ts hs cs =
     all fieldsTest hs
     && numbersTest (nonzero (columnBy firstWord tokenWords tokenSlots ts)) (nonzero (columnBy otherWord tokenWords tokenSlots ts))
-    (kept handleNumber handleNumber hs) (kept handleNumber handleToken hs) (columnBy firstWord stationWords stationCount (drop counterWords ss)) (getD ss 0 0) (getD ss 1 0)
+    (kept handleNumber handleNumber hs) (kept handleNumber handleToken hs) (columnBy tokenIn stationWords stationCount (stationsIn cs)) (nextToken cs) (nextHandle cs)
 
 unfoldable pub partsTest : Memory → Bool
 partsTest m =
     testRows tokenTest tokenWords maxDacl tokenSlots m.tokens m.dacls
-    && testRows stationTest stationWords pendingBytes stationCount (drop counterWords m.stations) m.pending
-    && linksTest m.tokens m.handles m.stations
+    && testRows stationTest stationWords pendingBytes stationCount (stationsIn m.control) m.pending
+    && linksTest m.tokens m.handles m.control

@@ -1,13 +1,14 @@
 // The numbers of tokens, in the order of their slots, and of stations' tokens. Those of free slots are left out, so that loops over the list are short.
 ghost use mathlib.Core.Path.{_≡_};
-ghost use Prim.Native.Nat.{_*_, _≤_, _<_};
+ghost use Prim.Native.Nat.{_*_, _≤_};
 ghost use lib.ListN.{length, take};
 ghost use Rattle.rules.specs.State.{tokenSlots, handleSlots, stationCount};
 ghost use Rattle.rules.specs.Memory.{tokenWords, stationWords};
-ghost use Rattle.valid.specs.Tests.{columnBy, firstWord, otherWord, nonzero, isKept, Front, referenceSlots, Referred};
+ghost use Rattle.valid.specs.Tests.{columnBy, firstWord, otherWord, tokenIn, nonzero, isKept, Front, referenceSlots, Referred};
 use crate::layout::REFERENCES;
-use crate::layout::STATION_WORDS;
-use crate::layout::STATIONS;
+use control::layout::PRIMARY_WORD;
+use control::layout::STATION_WORDS;
+use control::layout::STATIONS;
 use token::layout::KIND;
 use token::layout::NUMBER;
 use token::layout::TOKEN_SLOTS;
@@ -27,10 +28,10 @@ fn is_kept(x: u64) -> usize
 }
 
 fn first_word(row: &[u64]) -> u64
-    requires { ⌜ 0 < length (now row) ⌝ }
+    requires { ⌜ length (now row) ≡ tokenWords ⌝ }
     ensures { λ r. ⌜ r ≡ firstWord (now (row .entry)) ⌝ }
 {
-    row[0]
+    row[NUMBER]
 }
 
 // The number of a token that is not primary, else 0.
@@ -39,6 +40,14 @@ fn other_word(row: &[u64]) -> u64
     ensures { λ r. ⌜ r ≡ otherWord (now (row .entry)) ⌝ }
 {
     if row[KIND] % 256 == 1 { 0 } else { row[NUMBER] }
+}
+
+// A station's primary token.
+fn token_in(row: &[u64]) -> u64
+    requires { ⌜ length (now row) ≡ stationWords ⌝ }
+    ensures { λ r. ⌜ r ≡ tokenIn (now (row .entry)) ⌝ }
+{
+    row[PRIMARY_WORD]
 }
 
 pub fn token_numbers(tokens: &[u64]) -> Given
@@ -87,14 +96,14 @@ pub fn other_numbers(tokens: &[u64]) -> Given
 // The stations' tokens, behind the first n of `referred`.
 pub fn add_stations(referred: &mut [u64; REFERENCES], n: usize, rows: &[u64])
     requires { ⌜ (length (now referred) ≡ referenceSlots) × (n ≤ handleSlots) × (length (now rows) ≡ stationCount * stationWords) ⌝ }
-    ensures { λ _. ⌜ Referred (take n (now (referred .entry))) (columnBy firstWord stationWords stationCount (now (rows .entry))) n (now (referred .exit)) ⌝ }
+    ensures { λ _. ⌜ Referred (take n (now (referred .entry))) (columnBy tokenIn stationWords stationCount (now (rows .entry))) n (now (referred .exit)) ⌝ }
 {
     let mut i: usize = 0;
     while i < STATIONS {
         let at = i * STATION_WORDS;
         let end = at + STATION_WORDS;
         let behind = n + i;
-        referred[behind] = first_word(&rows[at..end]);
+        referred[behind] = token_in(&rows[at..end]);
         i += 1;
     }
 }

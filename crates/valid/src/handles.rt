@@ -6,16 +6,15 @@ ghost use Rattle.rules.specs.Basic.{all};
 ghost use Rattle.rules.specs.State.{handleSlots, stationCount};
 ghost use Rattle.rules.specs.Memory.{stationWords};
 ghost use Rattle.handle.specs.Words.{recordsIn};
-ghost use Rattle.valid.specs.Tests.{columnBy, firstWord, isKept, kept, Front, Referred};
+ghost use Rattle.valid.specs.Tests.{columnBy, tokenIn, isKept, kept, Front, Referred};
 ghost use Rattle.valid.specs.Meaning.{numberOf, tokenOf, fieldsOf};
 use crate::columns::add_stations;
 use crate::layout::REFERENCES;
-use crate::layout::STATIONS;
+use control::layout::STATIONS;
 use handle::HANDLE_WORDS;
 use handle::Handle;
 use handle::SLOTS;
-
-const ALL_RIGHTS: u16 = 0x1EF;
+use privilege::mask::Mask;
 
 // Whether the fields of all are valid; of the live ones, the first `count` of each list, their numbers and their tokens'. Behind these in
 // `referred` stand the stations' tokens, so that all references are counted in one list.
@@ -33,7 +32,7 @@ fn fields_valid(h: Handle) -> bool
     if h.number == 0 {
         return (h.station == 0) & (token == 0) & (h.mask == 0);
     }
-    (h.station < STATIONS as u16) & ((h.mask != 0) & ((h.mask & ALL_RIGHTS) == h.mask))
+    (h.station < STATIONS as u16) & Mask(h.mask as u32).valid()
 }
 
 fn number_of(h: Handle) -> u32
@@ -59,7 +58,7 @@ pub fn live(handles: &[u64; HANDLE_WORDS], rows: &[u64]) -> Held
     requires { ⌜ length (now rows) ≡ stationCount * stationWords ⌝ }
     ensures fields { λ r. ⌜ r .ok ≡ all fieldsOf (recordsIn (now (handles .entry))) ⌝ }
     ensures called { λ r. ⌜ Front handleSlots (kept numberOf numberOf (recordsIn (now (handles .entry)))) (r .count) (r .numbers) ⌝ }
-    ensures refers { λ r. ⌜ Referred (kept numberOf tokenOf (recordsIn (now (handles .entry)))) (columnBy firstWord stationWords stationCount (now (rows .entry))) (r .count) (r .referred) ⌝ }
+    ensures refers { λ r. ⌜ Referred (kept numberOf tokenOf (recordsIn (now (handles .entry)))) (columnBy tokenIn stationWords stationCount (now (rows .entry))) (r .count) (r .referred) ⌝ }
 {
     let mut ok = true;
     let mut numbers = [0u32; SLOTS];

@@ -4,16 +4,24 @@ ghost use mathlib.Core.List.{map};
 ghost use Prim.Native.Nat.{_+_, _*_, _≤_};
 ghost use lib.ListN.{length, take, drop};
 ghost use Rattle.rules.specs.State.{tokenSlots, handleSlots, stationCount};
-ghost use Rattle.rules.specs.Memory as Memory;
-ghost use Rattle.rules.specs.Memory.{tokenWords, stationWords, counterWords};
+ghost use Rattle.rules.specs.Memory.{tokenWords, controlWords};
 ghost use Rattle.handle.specs.Meaning.{handleOf};
 ghost use Rattle.handle.specs.Words.{recordsIn};
 ghost use Rattle.valid.specs.Tests.{Room, referenceSlots, numbersTest, linksTest, partsTest};
 ghost use Rattle.valid.specs.Meaning.{memoryOf, Lent};
+ghost use Rattle.valid.specs.Tested.{SizesTested, ValidTested};
 use columns::Given;
 use columns::other_numbers;
 use columns::token_numbers;
+use control::layout::CONTROL_WORDS;
+use control::layout::MAX_HANDLE;
+use control::layout::NEXT_HANDLE;
+use control::layout::NEXT_TOKEN;
+use control::layout::STATIONS;
+use control::layout::STATIONS_AT;
+use control::layout::STATIONS_END;
 use handle::HANDLE_WORDS;
+use handle::SLOTS;
 use handles::Held;
 use handles::live;
 use layout::*;
@@ -49,7 +57,7 @@ fn numbers_valid(
 {
     ((1 <= next_token) & all_given(tokens, next_token))
         & ((1 <= next_handle) & all_given_32(handles, next_handle))
-        & (next_handle <= MAX_32)
+        & (next_handle <= MAX_HANDLE)
         & refs_valid(tokens, referred)
         & all_apart(others, &referred[held..])
 }
@@ -79,14 +87,16 @@ fn fronts_valid(given: Given, others: Given, held: Held, next_token: u64, next_h
 }
 
 // The handles' fields, and all numbers.
-fn links_valid(tokens: &[u64], handles: &[u64; HANDLE_WORDS], stations: &[u64]) -> bool
-    requires { ⌜ (length (now tokens) ≡ tokenSlots * tokenWords) × (length (now stations) ≡ counterWords + stationCount * stationWords) ⌝ }
-    ensures { λ r. ⌜ r ≡ linksTest (now (tokens .entry)) (map handleOf (recordsIn (now (handles .entry)))) (now (stations .entry)) ⌝ }
+fn links_valid(tokens: &[u64], handles: &[u64; HANDLE_WORDS], control: &[u64]) -> bool
+    requires { ⌜ (length (now tokens) ≡ tokenSlots * tokenWords) × (length (now control) ≡ controlWords) ⌝ }
+    ensures { λ r. ⌜ r ≡ linksTest (now (tokens .entry)) (map handleOf (recordsIn (now (handles .entry)))) (now (control .entry)) ⌝ }
 {
     let given = token_numbers(tokens);
     let others = other_numbers(tokens);
-    let held = live(handles, &stations[COUNTER_WORDS..COUNTERS_AND_ROWS]);
-    held.ok & fronts_valid(given, others, held, stations[0], stations[1])
+    let held = live(handles, &control[STATIONS_AT..STATIONS_END]);
+    let next_token = control[NEXT_TOKEN];
+    let next_handle = control[NEXT_HANDLE];
+    held.ok & fronts_valid(given, others, held, next_token, next_handle)
 }
 
 // All parts, of the right sizes.
@@ -94,41 +104,45 @@ fn parts_valid(
     tokens: &[u64],
     dacls: &[u8],
     handles: &[u64; HANDLE_WORDS],
-    stations: &[u64],
+    control: &[u64],
     pending: &[u8],
 ) -> bool
-    requires { ⌜ Lent (now tokens) (now dacls) (now stations) (now pending) ⌝ }
-    ensures { λ r. ⌜ r ≡ partsTest (memoryOf (now (tokens .entry)) (now (dacls .entry)) (recordsIn (now (handles .entry))) (now (stations .entry)) (now (pending .entry))) ⌝ }
+    requires { ⌜ Lent (now tokens) (now dacls) (now control) (now pending) ⌝ }
+    ensures { λ r. ⌜ r ≡ partsTest (memoryOf (now (tokens .entry)) (now (dacls .entry)) (recordsIn (now (handles .entry))) (now (control .entry)) (now (pending .entry))) ⌝ }
 {
     tokens_valid(tokens, dacls)
-        & stations_valid(&stations[COUNTER_WORDS..COUNTERS_AND_ROWS], pending)
-        & links_valid(tokens, handles, stations)
+        & stations_valid(&control[STATIONS_AT..STATIONS_END], pending)
+        & links_valid(tokens, handles, control)
 }
 
+// The lengths are those that document 01 fixes; `count` is the lent handle list's.
+pub fn is_sized(tokens: usize, dacls: usize, count: usize, control: usize, pending: usize) -> bool
+    ensures { λ r. ⌜ SizesTested tokens dacls count control pending r ⌝ }
+{
+    (tokens == TOKENS)
+        & (dacls == DACLS)
+        & (count == SLOTS)
+        & (control == CONTROL_WORDS)
+        & (pending == PENDING)
+}
+
+// The handle list comes as words, beside its length.
 pub fn valid(
     tokens: &[u64],
     dacls: &[u8],
+    count: usize,
     handles: &[u64; HANDLE_WORDS],
-    stations: &[u64],
+    control: &[u64],
     pending: &[u8],
 ) -> bool
-    ensures { λ r. ⌜ r ≡ Memory.valid (memoryOf (now (tokens .entry)) (now (dacls .entry)) (recordsIn (now (handles .entry))) (now (stations .entry)) (now (pending .entry))) ⌝ }
+    ensures { λ r. ⌜ ValidTested count (recordsIn (now (handles .entry))) (now (tokens .entry)) (now (dacls .entry)) (now (control .entry)) (now (pending .entry)) r ⌝ }
 {
     let t = tokens.len();
     let d = dacls.len();
-    let s = stations.len();
+    let c = control.len();
     let p = pending.len();
-    if t != TOKENS {
+    if !is_sized(t, d, count, c, p) {
         return false;
     }
-    if d != DACLS {
-        return false;
-    }
-    if s != COUNTERS_AND_ROWS {
-        return false;
-    }
-    if p != PENDING {
-        return false;
-    }
-    parts_valid(tokens, dacls, handles, stations, pending)
+    parts_valid(tokens, dacls, handles, control, pending)
 }

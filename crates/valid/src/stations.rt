@@ -8,9 +8,10 @@ ghost use Rattle.rules.specs.State.{stationCount};
 ghost use Rattle.rules.specs.Memory.{stationWords, pendingBytes};
 ghost use Rattle.rules.specs.Valid.{isPart};
 ghost use Rattle.valid.specs.Tests.{stationTest, idleTest, allIdle};
-use crate::layout::*;
 use crate::words::zero_bytes;
+use control::layout::*;
 use stream::Framed;
+use stream::PENDING_BYTES;
 use stream::frame;
 
 // A proper part of a frame.
@@ -29,8 +30,8 @@ fn station_valid(words: &[u64], bytes: &[u8]) -> bool
     requires { ⌜ (length (now words) ≡ stationWords) × (length (now bytes) ≡ pendingBytes) ⌝ }
     ensures { λ r. ⌜ r ≡ stationTest (now (words .entry)) (now (bytes .entry)) ⌝ }
 {
-    let count = words[1];
-    let broken = words[2];
+    let count = words[COUNT_WORD];
+    let broken = words[BROKEN_WORD];
     if count == 0 {
         return (broken < 2) & zero_bytes(bytes);
     }
@@ -46,7 +47,7 @@ fn is_idle(words: &[u64]) -> bool
     requires { ⌜ length (now words) ≡ stationWords ⌝ }
     ensures { λ r. ⌜ r ≡ idleTest (now (words .entry)) ⌝ }
 {
-    (words[1] == 0) & (words[2] < 2)
+    (words[COUNT_WORD] == 0) & (words[BROKEN_WORD] < 2)
 }
 
 fn all_idle(rows: &[u64]) -> bool

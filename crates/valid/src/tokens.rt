@@ -15,12 +15,12 @@ use crate::words::narrow_words;
 use crate::words::zero_bytes;
 use crate::words::zero_words;
 use privilege::privileges::Privileges;
+use table::WORD_32;
 use token::layout::*;
+use token::words::is_owner;
 
-// A group's word is SID + attributes * 2^32. Its attributes; OWNER's bit of the word.
+// The attributes that a group may have; they stand above the SID in its word.
 const ATTRIBUTES: u64 = 0xC000001F;
-
-const OWNER_BIT: u64 = 0x800000000;
 
 // LOGON_ID's two bits, ENABLED and DENY_ONLY; and what, added to them, carries: to LOGON_ID's upper bit where LOGON_ID is there by half, and
 // to the bit above DENY_ONLY where ENABLED is there too.
@@ -66,15 +66,14 @@ fn owner_valid(groups: &[u64], owner: u64) -> bool
         return false;
     }
     let k = (owner - 1) as usize;
-    groups[k] / OWNER_BIT % 2 == 1
+    is_owner(groups[k])
 }
 
-// The fields but the owner, the primary group and the counts.
+// The fields but the integrity, the owner, the primary group and the counts.
 fn head_valid(w: &[u64]) -> bool
     requires { ⌜ length (now w) ≡ tokenWords ⌝ }
     ensures { λ r. ⌜ r ≡ headTest (now (w .entry)) ⌝ }
 {
-    let integrity = w[INTEGRITY];
     let present = w[PRESENT];
     (w[USER] < WORD_32)
         & ((1 <= w[KIND]) & (w[KIND] <= 2))
@@ -84,9 +83,6 @@ fn head_valid(w: &[u64]) -> bool
         & (w[WRITE_RESTRICTED] < 2)
         & (w[USER_DENY_ONLY] < 2)
         & (w[SCOPE] < WORD_32)
-        & ((integrity == 0)
-            | ((integrity == 4096)
-                | ((integrity == 8192) | ((integrity == 12288) | (integrity == 16384)))))
         & (((w[BY_DEFAULT] & present) == w[BY_DEFAULT])
             & ((w[ENABLED] & present) == w[ENABLED])
             & ((present & Privileges::EXISTING) == present)
@@ -117,6 +113,7 @@ fn live_valid(words: &[u64], dacl: &[u8]) -> bool
     let groups = words[GROUP_COUNT];
     let groups_end = HEAD_WORDS + groups as usize;
     head_valid(words)
+        & token::valid_integrity(words[INTEGRITY])
         & groups_valid(&words[HEAD_WORDS..groups_end])
         & owner_valid(&words[HEAD_WORDS..groups_end], owner)
         & (primary_group <= groups)

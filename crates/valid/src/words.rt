@@ -2,7 +2,7 @@
 ghost use mathlib.Core.Path.{_≡_};
 ghost use Rattle.rules.specs.Basic.{all};
 ghost use Rattle.valid.specs.Tests.{isZero, isNarrow};
-use token::layout::WORD_32;
+use table::WORD_32;
 
 pub fn zero_words(s: &[u64]) -> bool
     ensures { λ r. ⌜ r ≡ all isZero (now (s .entry)) ⌝ }

@@ -27,7 +27,7 @@ pub enum Refusal {
     Privilege = 4,
     /// A bad field or entry, an unknown class, or installing a token that is not primary.
     Field = 5,
-    /// A protected group.
+    /// An entry names a mandatory, deny-only or logon group, or disables one with the user's SID.
     Protected = 6,
     /// Installing a token of another user or session.
     Mismatch = 7,
@@ -81,7 +81,9 @@ impl Refusal {
             Refusal::Right => "the handle lacks the right",
             Refusal::Privilege => "a privilege is not enabled on the own token",
             Refusal::Field => "a field or entry is bad",
-            Refusal::Protected => "the group is protected",
+            Refusal::Protected => {
+                "a mandatory, deny-only or logon group, or disabling one with the user's SID"
+            }
             Refusal::Mismatch => "the token is of another user or session",
             Refusal::Full => "no slot or number left, or too many restricting SIDs",
             Refusal::Capacity => "the report is larger than the capacity",

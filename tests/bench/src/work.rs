@@ -146,12 +146,13 @@ fn operator(rng: &mut Rng, desk: &mut Recorder, station: u32) {
     }
 }
 
-/// Every slot taken, every list as long as it may be, bytes pending at every other station.
+/// Every slot taken, every list as long as it may be, bytes pending at every other station; groups
+/// that request 6 may switch.
 pub fn full() -> Model {
     let mut model = Model::start();
+    let attributes = Group::ENABLED_BY_DEFAULT | Group::ENABLED | Group::OWNER;
     for (slot, number) in (0..TOKENS).zip(1..) {
-        let groups = (0..MAX_GROUPS as u32)
-            .map(|sid| Group { sid: u32::MAX - sid, attributes: Group::ALL & !Group::DENY_ONLY });
+        let groups = (0..MAX_GROUPS as u32).map(|sid| Group { sid: u32::MAX - sid, attributes });
         model.tokens[slot] = Some(Token {
             groups: groups.collect(),
             restricting: (0..MAX_RESTRICTING as u32).map(|sid| u32::MAX - sid).collect(),

@@ -11,6 +11,7 @@ fn lists_of_calls() {
     lists::compare::<Rival>(0..200, &mut counts);
     if one_seed().is_none() {
         counts.check_statuses(5);
+        counts.check_groups(5);
         counts.check_refusals(5);
     }
 }

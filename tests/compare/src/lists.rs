@@ -4,24 +4,26 @@ use std::fmt::Debug;
 use std::ops::Range;
 
 use gen::{
-    each_seed, garbage, near_the_last_numbers, run, state, Broker, Call, Calls, Counts, Rng, Step,
-    DAMAGES,
+    each_seed, garbage, near_the_last_numbers, run, state, with_groups, Broker, Call, Calls,
+    Counts, Rng, Step, DAMAGES,
 };
 use model::{Bytes, Fed, Memory, Model, MIN_BUFFER, PARTS};
 
 /// How many calls each seed makes.
 pub const CALLS: usize = 300;
 
-/// A list of calls for each seed: from the start, from a random state, or near the last numbers.
+/// A list of calls for each seed: from the start, from a random state, near the last numbers, or
+/// with groups of all kinds.
 pub fn compare<B: Broker>(seeds: Range<u64>, counts: &mut Counts) {
     each_seed(seeds, |seed, rng| {
-        let first = match seed % 4 {
+        let first = match seed % 5 {
             0 | 1 => Model::start(),
             2 => state(rng),
-            _ => near_the_last_numbers(rng),
+            3 => near_the_last_numbers(rng),
+            _ => with_groups(),
         };
         let mut broker = B::lend(&first.memory());
-        if seed % 4 < 2 {
+        if seed % 5 < 2 {
             broker = B::lend(&garbage(rng));
             assert_eq!(broker.start(), 0);
         }

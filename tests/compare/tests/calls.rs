@@ -22,6 +22,7 @@ fn lists_of_calls() {
     ));
     if one_seed().is_none() {
         counts.check_statuses(20);
+        counts.check_groups(10);
         counts.check_refusals(20);
     }
 }

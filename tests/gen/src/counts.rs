@@ -1,11 +1,13 @@
-//! How often each refusal came, and each status of each request.
+//! How often each refusal came, each status of each request, and what request 6 did to each kind of
+//! group.
 
 use std::collections::BTreeMap;
 use std::fmt;
 
-use model::{Fed, Reader, Refusal, LAST_REQUEST};
+use model::{Fed, Model, Reader, Refusal, LAST_REQUEST};
 
 use crate::broker::{status, Step};
+use crate::groups::GroupCounts;
 
 /// The statuses that each request can get; 0 stands for unknown requests.
 const POSSIBLE: [(u32, &[u8]); LAST_REQUEST as usize + 1] = [
@@ -29,21 +31,22 @@ pub struct Counts {
     calls: usize,
     statuses: BTreeMap<(u32, u8), usize>,
     refusals: BTreeMap<u32, usize>,
+    groups: GroupCounts,
 }
 
 impl Counts {
     /// Counts a call of a script.
     pub fn step(&mut self, step: &Step) {
         self.call(step.fed);
-        if let Some((_, body)) = step.ended() {
-            self.status(&body, step.fed);
+        if let Some((station, body)) = step.ended() {
+            self.status(step.before, station, &body, step.fed);
         }
     }
 
-    /// Counts a whole request, fed by itself.
-    pub fn request(&mut self, body: &[u8], fed: &Fed) {
+    /// Counts a whole request, fed by itself in this state.
+    pub fn request(&mut self, before: &Model, station: usize, body: &[u8], fed: &Fed) {
         self.call(fed);
-        self.status(body, fed);
+        self.status(before, station, body, fed);
     }
 
     /// Counts what a call returned.
@@ -54,9 +57,10 @@ impl Counts {
         *self.refusals.entry(refusal).or_default() += 1;
     }
 
-    fn status(&mut self, body: &[u8], fed: &Fed) {
+    fn status(&mut self, before: &Model, station: usize, body: &[u8], fed: &Fed) {
         if let Some(status) = status(&fed.answer) {
             *self.statuses.entry((request_number(body), status)).or_default() += 1;
+            self.groups.request(before, station, body, status);
         }
     }
 
@@ -75,6 +79,11 @@ impl Counts {
                 assert!(expected || count == 0, "request {request} got status {status}");
             }
         }
+    }
+
+    /// Request 6 met each kind of group in each way so often at least, and did as the rule says.
+    pub fn check_groups(&self, least: usize) {
+        self.groups.check(least);
     }
 
     /// Each refusal came so often at least.
@@ -109,6 +118,7 @@ impl fmt::Display for Counts {
         for (refusal, count) in self.refusals() {
             write!(f, "  {refusal}: {count}")?;
         }
-        write!(f, "  in {} calls", self.calls)
+        writeln!(f, "  in {} calls", self.calls)?;
+        self.groups.fmt(f)
     }
 }

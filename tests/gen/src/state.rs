@@ -1,11 +1,13 @@
-//! Random valid states, also such as no list of requests leads to.
+//! Random valid states, also such as no list of requests leads to; and starts to go on from.
 
 use model::{
-    framed, Elevation, Group, Handle, Level, Mask, Model, Privileges, Station, Token, TokenType,
-    ALL_PRIVILEGES, HANDLES, INTEGRITY_LEVELS, MAX_BODY, MAX_DACL, MAX_GROUPS, MAX_RESTRICTING,
-    STATIONS, TOKENS,
+    framed, Elevation, Group, Handle, Level, Mask, Model, Privileges, Request, Station, Token,
+    TokenType, ALL_PRIVILEGES, HANDLES, INTEGRITY_LEVELS, MAX_BODY, MAX_DACL, MAX_GROUPS,
+    MAX_RESTRICTING, MIN_BUFFER, STATIONS, TOKENS,
 };
 
+use crate::broker::status;
+use crate::fields::{fields, flat};
 use crate::rng::Rng;
 use crate::wishes::NEEDED;
 
@@ -33,6 +35,35 @@ pub fn near_the_last_numbers(rng: &mut Rng) -> Model {
         next_handle: u32::MAX - rng.below(20) as u32,
         ..Model::start()
     }
+}
+
+/// A start at which every other station has made a token with groups of all kinds, and a copy of it
+/// with an ordinary and a mandatory one made deny-only.
+pub fn with_groups() -> Model {
+    let mut model = Model::start();
+    let (user, session, integrity, present, default) = (50, 9, 0, 0, 0);
+    let logon = Group::LOGON_ID | 2;
+    let of_others = [0, 2, 3, 0x10, logon, logon | 3].map(|attributes| (60, attributes));
+    let groups = [of_others.as_slice(), &[(user, 2), (user, 3)]].concat();
+    for station in (0..STATIONS).step_by(2) {
+        let groups = groups.clone();
+        let made = Request::Create { user, session, integrity, present, default, groups };
+        let handle = ask(&mut model, station, &made);
+        let (write_restricted, remove, deny, sids) = (0, 0, vec![1, 2], vec![]);
+        ask(
+            &mut model,
+            station,
+            &Request::Restrict { handle, write_restricted, remove, deny, sids },
+        );
+    }
+    model
+}
+
+/// Makes a request; gives the handle that it answers.
+fn ask(model: &mut Model, station: usize, request: &Request) -> u32 {
+    let fed = model.feed(station as u32, &framed(&flat(&fields(request))), MIN_BUFFER);
+    assert_eq!(status(&fed.answer), Some(0), "{request:?}");
+    model.next_handle - 1
 }
 
 fn live(model: &Model) -> impl Iterator<Item = &Token> {

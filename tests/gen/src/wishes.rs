@@ -1,13 +1,14 @@
 //! Requests that make sense in a state, with a bad value now and then.
 
 use model::{
-    number_length, Group, Handle, Level, Mask, Model, Reader, Refusal, Request, Token, TokenType,
+    number_length, Handle, Level, Mask, Model, Reader, Refusal, Request, Token, TokenType,
     ALL_PRIVILEGES, ASSIGN_PRIMARY, CREATE_TOKEN, FIRST_PRIVILEGE, HANDLES, INTEGRITY_LEVELS,
     LAST_CLASS, LAST_PRIVILEGE, LAST_REQUEST, MAX_DACL, MAX_GROUPS, MAX_RESTRICTING, NO_CHANGE,
     RESET_GROUPS, RESET_PRIVILEGES, TCB, TOKENS,
 };
 
 use crate::fields::{fields, flat};
+use crate::groups::{kind, Kind};
 use crate::rng::Rng;
 
 /// What a request is drawn from.
@@ -78,11 +79,15 @@ impl Wish<'_> {
         }
     }
 
-    /// A request's number: open without handles, close when slots run out.
+    /// A request's number: open without handles, close when slots run out, groups if there are any.
     fn kind(&mut self) -> usize {
-        let mut weights: [_; RIGHTS.len()] = [0, 16, 6, 10, 14, 14, 16, 8, 12, 14, 14, 10];
-        if self.own_handles().len() < 2 {
+        let mut weights: [_; RIGHTS.len()] = [0, 16, 6, 10, 14, 14, 14, 8, 12, 14, 14, 20];
+        let own = self.own_handles();
+        if own.len() < 2 {
             weights[1] = 60;
+        }
+        if own.iter().any(|&handle| self.token(handle).is_some_and(|token| suits(6, token))) {
+            weights[6] += 20;
         }
         if self.model.handles.iter().flatten().count() > HANDLES - 3 {
             weights[2] += 8;
@@ -255,41 +260,42 @@ impl Wish<'_> {
     }
 
     fn group_entries(&mut self, handle: Handle) -> Vec<(u32, u32)> {
-        let groups = self.token(handle).map_or(Vec::new(), |token| token.groups.clone());
-        if self.rng.percent(15) || (groups.is_empty() && self.rng.percent(80)) {
+        let kinds: Vec<Kind> = self.token(handle).map_or(vec![], |token| {
+            token.groups.iter().map(|&group| kind(group, token.user)).collect()
+        });
+        if self.rng.percent(15) || (kinds.is_empty() && self.rng.percent(80)) {
             return vec![RESET_GROUPS];
         }
-        let user = self.token(handle).map_or(0, |token| token.user);
-        let indexes: Vec<usize> = (0..groups.len()).collect();
-        let most = if self.rng.percent(10) { MAX_GROUPS } else { 4 };
-        let mut entries: Vec<_> = self
-            .rng
-            .some(&indexes, most)
-            .into_iter()
-            .map(|index| (index as u32, self.group_action(groups[index], user)))
-            .collect();
-        match self.rng.below(30) {
-            0 => entries.clear(),
-            1 => entries.push((groups.len() as u32, 0)),
-            2 => entries.push((0, 2)),
-            3 => entries.push(RESET_GROUPS),
-            4 => entries.extend(entries.clone().first()),
-            _ => {}
+        let named = self.groups_to_name(&kinds);
+        let mut entries: Vec<_> =
+            named.into_iter().map(|index| (index as u32, self.rng.below(2) as u32)).collect();
+        let (past, again) = (kinds.len() as u32, entries.first().copied().unwrap_or(RESET_GROUPS));
+        if self.rng.percent(5) {
+            entries.clear();
+        } else if self.rng.percent(35) {
+            let bad = self.rng.pick(&[(past, 0), (past, 1), (0, 2), RESET_GROUPS, again]);
+            entries.insert(self.rng.below(entries.len() + 1), bad);
         }
         entries
     }
 
-    /// Mostly what the group allows.
-    fn group_action(&mut self, group: Group, user: u32) -> u32 {
-        let any = self.rng.below(2) as u32;
-        if self.rng.percent(25) {
-            any
-        } else if group.has(Group::DENY_ONLY) {
-            0
-        } else if group.is_fixed(user) {
-            1
-        } else {
-            any
+    /// Indexes of one group, of each kind as likely; of some that may be switched; or of any.
+    fn groups_to_name(&mut self, kinds: &[Kind]) -> Vec<usize> {
+        let all: Vec<usize> = (0..kinds.len()).collect();
+        let of = |wanted: &[Kind]| -> Vec<usize> {
+            all.iter().copied().filter(|&index| wanted.contains(&kinds[index])).collect()
+        };
+        let most = if self.rng.percent(10) { MAX_GROUPS } else { 4 };
+        match self.rng.below(20) {
+            0..=12 => {
+                let mut present = kinds.to_vec();
+                present.sort_unstable();
+                present.dedup();
+                let kind = self.rng.pick_any(&present);
+                kind.and_then(|kind| self.rng.pick_any(&of(&[kind]))).into_iter().collect()
+            }
+            13..=16 => self.rng.some(&of(&[Kind::User, Kind::Other]), most),
+            _ => self.rng.some(&all, most),
         }
     }
 

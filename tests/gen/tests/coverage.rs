@@ -1,6 +1,7 @@
-//! Every request gets every status that it can get, and the memory always holds the state.
+//! Every request gets every status that it can get, request 6 meets every kind of group, and the
+//! memory always holds the state.
 
-use gen::{body, fields, flat, near_the_last_numbers, state, Counts, Rng};
+use gen::{body, fields, flat, near_the_last_numbers, state, with_groups, Counts, Rng};
 use model::{framed, Mask, Model, Request, HANDLES, MIN_BUFFER, STATIONS};
 
 /// Feeds so many requests as whole frames and counts their statuses.
@@ -17,7 +18,7 @@ fn run(seed: u64, mut model: Model, requests: usize, counts: &mut Counts) {
         let is_success = gen::status(&fed.answer) == Some(0);
         assert!(is_success || model == before, "refused but changed: {place}");
         assert_eq!(model.memory().model().as_ref(), Some(&model), "{place}");
-        counts.request(&body, &fed);
+        counts.request(&before, station, &body, &fed);
     }
 }
 
@@ -50,6 +51,16 @@ fn every_status_from_random_states() {
     }
     println!("from random states:\n{counts}");
     counts.check_statuses(20);
+}
+
+#[test]
+fn every_kind_of_group() {
+    let mut counts = Counts::default();
+    for seed in 3000..3400 {
+        run(seed, with_groups(), 100, &mut counts);
+    }
+    println!("with groups:\n{counts}");
+    counts.check_groups(10);
 }
 
 #[test]

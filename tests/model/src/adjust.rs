@@ -150,18 +150,16 @@ fn check_group_entries(token: &Token, entries: &[(u32, u32)]) -> Result<(), Refu
         |&(index, enable): &(u32, u32)| (index as usize) < token.groups.len() && enable <= 1;
     Refusal::Field
         .unless(!entries.is_empty() && all_distinct(&indexes) && entries.iter().all(in_range))?;
-    let is_allowed = |&(index, enable): &(u32, u32)| {
-        may_set_enabled(token.groups[index as usize], enable == 1, token.user)
+    let is_free = |&(index, enable): &(u32, u32)| {
+        !is_protected(token.groups[index as usize], enable == 1, token.user)
     };
-    Refusal::Protected.unless(entries.iter().all(is_allowed))
+    Refusal::Protected.unless(entries.iter().all(is_free))
 }
 
-fn may_set_enabled(group: Group, enable: bool, user: u32) -> bool {
-    match (enable, group.has(Group::DENY_ONLY)) {
-        (true, deny_only) => !deny_only,
-        (false, true) => true,
-        (false, false) => !group.is_fixed(user),
-    }
+/// Whether no entry may name the group, or, of a token of this user, none that disables it.
+fn is_protected(group: Group, enable: bool, user: u32) -> bool {
+    let kinds = [Group::MANDATORY, Group::DENY_ONLY, Group::LOGON_ID];
+    kinds.into_iter().any(|kind| group.has(kind)) || (!enable && group.sid == user)
 }
 
 /// Group i at bit i % 64 of word i / 64.

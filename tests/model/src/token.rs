@@ -87,7 +87,7 @@ pub struct Group {
 }
 
 impl Group {
-    /// May not be disabled.
+    /// No entry may switch it.
     pub const MANDATORY: u32 = 1;
     /// Enabled at creation and by a reset; the papers' "value 2".
     pub const ENABLED_BY_DEFAULT: u32 = 2;
@@ -115,8 +115,8 @@ impl Group {
         self.has(Self::LOGON_ID) || self.attributes & Self::LOGON_ID == 0
     }
 
-    /// Whether the group may never be disabled on a token of this user.
-    pub fn is_fixed(self, user: u32) -> bool {
+    /// Whether a new token of this user must have the group enabled by default.
+    pub fn needs_default(self, user: u32) -> bool {
         self.has(Self::MANDATORY) || self.has(Self::LOGON_ID) || self.sid == user
     }
 

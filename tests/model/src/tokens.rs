@@ -135,7 +135,7 @@ fn new_group(given: Group, user: u32) -> Result<Group, Refusal> {
     Refusal::Field.unless(
         given.attributes & !Group::GIVEN == 0
             && given.logon_is_whole()
-            && (by_default || !given.is_fixed(user))
+            && (by_default || !given.needs_default(user))
             && !(by_default && given.has(Group::DENY_ONLY)),
     )?;
     Ok(given.with_enabled(by_default))

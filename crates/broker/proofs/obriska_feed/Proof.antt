@@ -148,7 +148,7 @@ module _ {M : Type 1} (𝓤 : URA M) (H : Heap 𝓤) (A : Atoms 𝓤) (W : Given
 
   -- what says the last values of its slices
   abbrev Lasts : List ℕ → List ℕ → List ℕ → List ℕ → List ℕ → List Fml
-  Lasts az ts ds ss ps = finally u8 (a .name) az ∷ finally u64 (t .name) ts ∷ finally u8 (d .name) ds ∷ finally u64 (s .name) ss ∷ finally u8 (p .name) ps ∷ []
+  Lasts az ts ds cs ps = finally u8 (a .name) az ∷ finally u64 (t .name) ts ∷ finally u8 (d .name) ds ∷ finally u64 (s .name) cs ∷ finally u8 (p .name) ps ∷ []
 
   -- ---- what each callee's triple binds outside, and what it is handed
   abbrev to-load : ℕ → GName → Load 𝓤 H A at-mem run .Ghost
@@ -176,17 +176,17 @@ module _ {M : Type 1} (𝓤 : URA M) (H : Heap 𝓤) (A : Atoms 𝓤) (W : Given
   to-place i y = (((κ₄, tt), (q₄, tt), tt, (x γ, (i, (y, tt))), (h ∷ [], (vint w64 i ∷ [], (one y ∷ [], tt)))), tt)
 
   -- ---- the exit
-  exits : (az ts ds ss ps : List ℕ) (zs : List Handle) (r : Fed)
-      → length az ≡ length (a .now) → length ts ≡ length (t .now) → length ds ≡ length (d .now) → length ss ≡ length (s .now) → length ps ≡ length (p .now) → length zs ≡ length ys
-      → Feeds (feedOn (memoryOf (t .now) (d .now) ys (s .now) (p .now)) st (c .now) (length (a .now))) (memoryOf ts ds zs ss ps) (a .now) az r → Good F.the-type F′.the-laws r
-      → ent 𝓤 (⋆ 𝓤 H A (‵ (finally R γ zs) ∷ ‵ (chain (flft κ₄ q₄ ∷ [])) ∷ ‵ (chain Theirs) ∷ ‵ OwnC ∷ items (Lasts az ts ds ss ps) [])) (Post (fed r))
-  exits az ts ds ss ps zs r la lt ld ls lp lh e g =
-      qed W (‵ (finally R γ zs) ∷ ‵ (chain (flft κ₄ q₄ ∷ [])) ∷ ‵ (chain Theirs) ∷ ‵ OwnC ∷ items (Lasts az ts ds ss ps) []) ∵
-      suffices ! _ (ends-at 𝓤 H A feed.ended stayed (feed.clauses 𝓤 H A at-mem run) W bound (fed r) r (tt, (tt, (az, (ts, (ds, (zs, (ss, (ps, tt)))))))) (tt, (tt, (la, (lt, (ld, (lh, (ls, (lp, tt))))))))) $ says ! e $
+  exits : (az ts ds cs ps : List ℕ) (zs : List Handle) (r : Fed)
+      → length az ≡ length (a .now) → length ts ≡ length (t .now) → length ds ≡ length (d .now) → length cs ≡ length (s .now) → length ps ≡ length (p .now) → length zs ≡ length ys
+      → Feeds (feedOn (memoryOf (t .now) (d .now) ys (s .now) (p .now)) st (c .now) (length (a .now))) (memoryOf ts ds zs cs ps) (a .now) az r → Good F.the-type F′.the-laws r
+      → ent 𝓤 (⋆ 𝓤 H A (‵ (finally R γ zs) ∷ ‵ (chain (flft κ₄ q₄ ∷ [])) ∷ ‵ (chain Theirs) ∷ ‵ OwnC ∷ items (Lasts az ts ds cs ps) [])) (Post (fed r))
+  exits az ts ds cs ps zs r la lt ld ls lp lh e g =
+      qed W (‵ (finally R γ zs) ∷ ‵ (chain (flft κ₄ q₄ ∷ [])) ∷ ‵ (chain Theirs) ∷ ‵ OwnC ∷ items (Lasts az ts ds cs ps) []) ∵
+      suffices ! _ (ends-at 𝓤 H A feed.ended stayed (feed.clauses 𝓤 H A at-mem run) W bound (fed r) r (tt, (tt, (az, (ts, (ds, (zs, (cs, (ps, tt)))))))) (tt, (tt, (la, (lt, (ld, (lh, (ls, (lp, tt))))))))) $ says ! e $
       number-had W ! w32 st gst $ move ! (2 ∷ []) $ unchain W (flft κ₄ q₄ ∷ []) $ move ! (3 ∷ []) $ unchain W Theirs $
-      -- [κ₀; κ₁; κ₂; κ₃; κ₅; κ₆; κ₄; station's; handles'; chunk's; answer's; tokens'; dacls'; stations'; pending's]
+      -- [κ₀; κ₁; κ₂; κ₃; κ₅; κ₆; κ₄; station's; handles'; chunk's; answer's; tokens'; dacls'; control's; pending's]
       move ! (0 ∷ 1 ∷ 2 ∷ 3 ∷ 6 ∷ 4 ∷ 5 ∷ 7 ∷ 9 ∷ 10 ∷ 11 ∷ 12 ∷ 8 ∷ []) $ rechain W Toks $ frame ! $
-      rechain W (Own ∷ OwnC ∷ finally u8 (a .name) az ∷ finally u64 (t .name) ts ∷ finally u8 (d .name) ds ∷ finally R γ zs ∷ finally u64 (s .name) ss ∷ finally u8 (p .name) ps ∷ []) $ frame ! $
+      rechain W (Own ∷ OwnC ∷ finally u8 (a .name) az ∷ finally u64 (t .name) ts ∷ finally u8 (d .name) ds ∷ finally R γ zs ∷ finally u64 (s .name) cs ∷ finally u8 (p .name) ps ∷ []) $ frame ! $
       had W ! F.the-type F′.the-laws F′.the-plain r g $ done !
 
   module _ (𝓣 : Tables 𝓤 H) (known-load : Triple 𝓤 (𝓣 .C #load) (Load 𝓤 H A at-mem run)) (known-by-value : Triple 𝓤 (𝓣 .C #by-value) (ByValue 𝓤 H A at-mem run)) (known-clear : Triple 𝓤 (𝓣 .C #clear) (Clear 𝓤 H A at-mem run)) (known-place : Triple 𝓤 (𝓣 .C #place) (Place 𝓤 H A at-mem run)) where
@@ -204,21 +204,21 @@ module _ {M : Type 1} (𝓤 : URA M) (H : Heap 𝓤) (A : Atoms 𝓤) (W : Given
           (room (mut-to erased u64) l₂₀ (room (mut-slice erased u64) l₂₁ (room (mut-to erased u8) l₂₂ (room (mut-slice erased u8) l₂₃ (room tyBool l₂₄ (room tyUnit l₂₅ (room (mut-to erased R) l₂₆ (room (mut-slice erased R) l₂₇ (room tyUnit l₂₈ (room (mut-to erased R) l₂₉ (room (mut-slice erased R) l₃₀ Γ))))))))))))))))))))))))))))
 
       -- with the list at zs, and what by_value::feed returned in `_11`
-      leaves : (az ts ds ss ps : List ℕ) (zs : List Handle) (r : Turn) → Out r → length az ≡ length (a .now) → length ts ≡ length (t .now) → length ds ≡ length (d .now) → length ss ≡ length (s .now) → length ps ≡ length (p .now) → length zs ≡ length ys
-          → Feeds (feedOn (memoryOf (t .now) (d .now) ys (s .now) (p .now)) st (c .now) (length (a .now))) (memoryOf ts ds zs ss ps) (a .now) az (r .fed)
-          → Sq W (Locals (λ Γ. room word l₉ (room S′.mir l₁₀ (full B′.mir l₁₁ (out r) Γ))) (‵ (finally R γ zs) ∷ ‵ (chain (flft κ₄ q₄ ∷ [])) ∷ ‵ (chain Theirs) ∷ ‵ OwnC ∷ items (Lasts az ts ds ss ps) [])) (runs (𝓣 .C) (𝓣 .Λ) En mir.t-18 (atRet En Post))
-      leaves az ts ds ss ps zs r g la lt ld ls lp lh e =
+      leaves : (az ts ds cs ps : List ℕ) (zs : List Handle) (r : Turn) → Out r → length az ≡ length (a .now) → length ts ≡ length (t .now) → length ds ≡ length (d .now) → length cs ≡ length (s .now) → length ps ≡ length (p .now) → length zs ≡ length ys
+          → Feeds (feedOn (memoryOf (t .now) (d .now) ys (s .now) (p .now)) st (c .now) (length (a .now))) (memoryOf ts ds zs cs ps) (a .now) az (r .fed)
+          → Sq W (Locals (λ Γ. room word l₉ (room S′.mir l₁₀ (full B′.mir l₁₁ (out r) Γ))) (‵ (finally R γ zs) ∷ ‵ (chain (flft κ₄ q₄ ∷ [])) ∷ ‵ (chain Theirs) ∷ ‵ OwnC ∷ items (Lasts az ts ds cs ps) [])) (runs (𝓣 .C) (𝓣 .Λ) En mir.t-18 (atRet En Post))
+      leaves az ts ds cs ps zs r g la lt ld ls lp lh e =
           let parts = LL.owed B.the-type B′.the-laws r (out r ∷ []) g in
           sets ! (of-opd ! (load ! (from ! (fld ! refl (stop !))) (look-in ! 22 (sub ! 0 refl (whole !))))) (init ! 0 refl (typed F.the-type F′.the-laws W (r .fed) (parts .0))) $
           returns ! (look ! 0 refl) $ forget ! 0 refl $ forget ! 2 refl $ forget ! 4 refl $ forget ! 6 refl $ forget ! 8 refl $ forget ! 10 refl $ forget ! 12 refl $ forget ! 14 refl $ forget ! 16 refl $ forget ! 22 refl $
           free1 ! $ free1 ! $ free1 ! $ free1 ! $ free1 ! $ free1 ! $ free1 ! $ free1 ! $ free1 ! $ free1 ! $ free1 ! $ free1 ! $ free1 ! $ free1 ! $ free1 ! $ free1 ! $ free1 ! $ free1 ! $ free1 ! $ free1 ! $ free1 ! $ free1 ! $ free1 ! $ free1 ! $ free1 ! $ free1 ! $ free1 ! $ free1 ! $ free1 ! $ free1 ! $ free1 ! $ free0 ! $
-          by ! (exits az ts ds ss ps zs (r .fed) la lt ld ls lp lh e (parts .0))
+          by ! (exits az ts ds cs ps zs (r .fed) la lt ld ls lp lh e (parts .0))
 
       -- with what by_value::feed returned in `_11`
-      changes : (az ts ds ss ps : List ℕ) (hs : Handles) (r : Turn) → recordsIn (hs .words) ≡ loaded ys → Out r → length az ≡ length (a .now) → length ts ≡ length (t .now) → length ds ≡ length (d .now) → length ss ≡ length (s .now) → length ps ≡ length (p .now)
-          → FeedsWith st (c .now) (length ys) (recordsIn (hs .words)) (t .now) (d .now) (s .now) (p .now) (a .now) ts ds ss ps az r
-          → Sq W (Locals (λ Γ. room word l₉ (room S′.mir l₁₀ (full B′.mir l₁₁ (out r) Γ))) (‵ (flft κ₄ q₄) ∷ ‵ OwnH ∷ ‵ (chain Theirs) ∷ ‵ OwnC ∷ items (Lasts az ts ds ss ps) [])) (runs (𝓣 .C) (𝓣 .Λ) En mir.t-16 (atRet En Post))
-      changes az ts ds ss ps hs r is-loaded g la lt ld ls lp e =
+      changes : (az ts ds cs ps : List ℕ) (hs : Handles) (r : Turn) → recordsIn (hs .words) ≡ loaded ys → Out r → length az ≡ length (a .now) → length ts ≡ length (t .now) → length ds ≡ length (d .now) → length cs ≡ length (s .now) → length ps ≡ length (p .now)
+          → FeedsWith st (c .now) (length ys) (recordsIn (hs .words)) (t .now) (d .now) (s .now) (p .now) (a .now) ts ds cs ps az r
+          → Sq W (Locals (λ Γ. room word l₉ (room S′.mir l₁₀ (full B′.mir l₁₁ (out r) Γ))) (‵ (flft κ₄ q₄) ∷ ‵ OwnH ∷ ‵ (chain Theirs) ∷ ‵ OwnC ∷ items (Lasts az ts ds cs ps) [])) (runs (𝓣 .C) (𝓣 .Λ) En mir.t-16 (atRet En Post))
+      changes az ts ds cs ps hs r is-loaded g la lt ld ls lp e =
           let parts = LL.owed B.the-type B′.the-laws r (out r ∷ []) g in
           let change = LL.owed X.the-type X′.the-laws (r .change) (mach X.the-type X′.the-laws (r .change) ∷ []) (parts .1 .0) in
           sets ! (bin ! (load ! (from ! (fld ! refl (fld ! refl (fld ! refl (stop !))))) (look-in ! 22 (sub ! 2 refl (sub ! 1 refl (sub ! 1 refl (whole !)))))) (lit ! tt) tt) (init ! 48 refl (tt, tt)) $
@@ -234,7 +234,7 @@ module _ {M : Type 1} (𝓤 : URA M) (H : Heap 𝓤) (A : Atoms 𝓤) (W : Given
           land-last ! (from ! (stop !)) (init ! 52 refl (nothing-lawful 𝓤 H A W .typed v (u ∷ []) is .0)) $ exec ! (𝓣 .C) (𝓣 .Λ) En mir.t-18 (atRet En Post) $
           forget ! 50 refl $ forget ! 52 refl $ forget ! 54 refl $ forget ! 56 refl $
           move ! (2 ∷ 3 ∷ 4 ∷ 5 ∷ 6 ∷ 7 ∷ 8 ∷ 9 ∷ 10 ∷ 11 ∷ 12 ∷ 13 ∷ 14 ∷ 15 ∷ 16 ∷ 17 ∷ 18 ∷ 19 ∷ 20 ∷ 21 ∷ 22 ∷ 23 ∷ 24 ∷ 25 ∷ 26 ∷ 27 ∷ 28 ∷ 29 ∷ 30 ∷ 31 ∷ 32 ∷ 33 ∷ 34 ∷ 35 ∷ 36 ∷ 37 ∷ 38 ∷ 39 ∷ 40 ∷ 41 ∷ 42 ∷ 43 ∷ 44 ∷ 45 ∷ 46 ∷ 47 ∷ 48 ∷ 49 ∷ 50 ∷ 51 ∷ 52 ∷ 53 ∷ 54 ∷ 55 ∷ 56 ∷ 57 ∷ 58 ∷ 59 ∷ 60 ∷ 61 ∷ 62 ∷ 63 ∷ 0 ∷ 1 ∷ []) $
-          leaves az ts ds ss ps (ws .0) r g la lt ld ls lp lh (cleared-at ys e is-loaded (eqb→eq (r .change .handle .number) 0 frees) cleared)))))
+          leaves az ts ds cs ps (ws .0) r g la lt ld ls lp lh (cleared-at ys e is-loaded (eqb→eq (r .change .handle .number) 0 frees) cleared)))))
           (λ _.
           relends ! 12 58 60 refl refl refl (tt, tt) refl refl refl (tt, (tt, (record { fits = gh .0 }, tt))) $
           had W ! T.the-type T′.the-laws T′.the-plain (r .change .handle) (change .1 .0) $ number-had W ! w64 (r .change .slot) (change .0 .1) $
@@ -245,7 +245,7 @@ module _ {M : Type 1} (𝓤 : URA M) (H : Heap 𝓤) (A : Atoms 𝓤) (W : Given
           land-last ! (from ! (stop !)) (init ! 58 refl (nothing-lawful 𝓤 H A W .typed v (u ∷ []) is .0)) $ exec ! (𝓣 .C) (𝓣 .Λ) En mir.t-18 (atRet En Post) $
           forget ! 50 refl $ forget ! 58 refl $ forget ! 60 refl $ forget ! 62 refl $
           move ! (2 ∷ 3 ∷ 4 ∷ 5 ∷ 6 ∷ 7 ∷ 8 ∷ 9 ∷ 10 ∷ 11 ∷ 12 ∷ 13 ∷ 14 ∷ 15 ∷ 16 ∷ 17 ∷ 18 ∷ 19 ∷ 20 ∷ 21 ∷ 22 ∷ 23 ∷ 24 ∷ 25 ∷ 26 ∷ 27 ∷ 28 ∷ 29 ∷ 30 ∷ 31 ∷ 32 ∷ 33 ∷ 34 ∷ 35 ∷ 36 ∷ 37 ∷ 38 ∷ 39 ∷ 40 ∷ 41 ∷ 42 ∷ 43 ∷ 44 ∷ 45 ∷ 46 ∷ 47 ∷ 48 ∷ 49 ∷ 50 ∷ 51 ∷ 52 ∷ 53 ∷ 54 ∷ 55 ∷ 56 ∷ 57 ∷ 58 ∷ 59 ∷ 60 ∷ 61 ∷ 62 ∷ 63 ∷ 0 ∷ 1 ∷ []) $
-          leaves az ts ds ss ps (ws .0) r g la lt ld ls lp lh (fed-at ys e is-loaded placed)))))
+          leaves az ts ds cs ps (ws .0) r g la lt ld ls lp lh (fed-at ys e is-loaded placed)))))
 
       -- with the length in `_9` and the list in `_10`
       feeds : (hs : Handles) → All hs → recordsIn (hs .words) ≡ loaded ys
@@ -259,7 +259,7 @@ module _ {M : Type 1} (𝓤 : URA M) (H : Heap 𝓤) (A : Atoms 𝓤) (W : Given
           -- the chunk is Copy: one copy of what it owns is kept for the exit
           move ! (65 ∷ []) $ use1 W (‵ OwnC ⊛ ‵ OwnC) (shr-slice-copy 𝓤 H A W (named 0) κ₀ u8 .twice c (sv c ∷ [])) $ split ! $
           had W ! S.the-type S′.the-laws S′.the-plain hs g $ number-had W ! w64 (length ys) (gh .0) $
-          -- [the count's; the list's; chunk's twice; the locals; handles'; κ₄; station's; answer's; tokens'; dacls'; stations'; pending's; the tokens]
+          -- [the count's; the list's; chunk's twice; the locals; handles'; κ₄; station's; answer's; tokens'; dacls'; control's; pending's; the tokens]
           move ! (74 ∷ 75 ∷ 76 ∷ 77 ∷ 78 ∷ 79 ∷ 68 ∷ 2 ∷ 69 ∷ 70 ∷ 71 ∷ 0 ∷ 1 ∷ 72 ∷ 73 ∷ []) $ hands W Theirs (Handed hs) $
           -- [what by_value::feed asks; chunk's; the locals, local k at 2 k + 2; handles'; κ₄]
           calls-at ! (fmOf 𝓤 H (W .laws) 𝓣) (ByValue 𝓤 H A at-mem run) known-by-value (to-by-value hs)
@@ -267,7 +267,7 @@ module _ {M : Type 1} (𝓤 : URA M) (H : Heap 𝓤) (A : Atoms 𝓤) (W : Given
           returned ! tt B.the-row (‵ (chain Theirs)) _ (λ ws. lasts by-value.ended (κ₀, (κ₁, (κ₂, (κ₃, (κ₅, (κ₆, tt)))))) (st, (c, (a, (t, (d, (length ys, (hs, (s, (p, tt))))))))) ws)
           (λ r ws. FeedsWith st (c .now) (length ys) (recordsIn (hs .words)) (t .now) (d .now) (s .now) (p .now) (a .now) (ws .1 .1 .1 .0) (ws .1 .1 .1 .1 .0) (ws .1 .1 .1 .1 .1 .1 .1 .0) (ws .1 .1 .1 .1 .1 .1 .1 .1 .0) (ws .1 .1 .0) r) u (λ r ws is e.
           fsplit ! $ drop ! $ fsplit ! $ drop ! $ lasting ! (λ la. lasting ! (λ lt. lasting ! (λ ld. fsplit ! $ drop ! $ fsplit ! $ drop ! $ lasting ! (λ ls. lasting ! (λ lp. drop ! $
-          -- [pending's; stations'; dacls'; tokens'; answer's; the tokens; chunk's; the locals, local k at 2 k + 7; handles'; κ₄]
+          -- [pending's; control's; dacls'; tokens'; answer's; the tokens; chunk's; the locals, local k at 2 k + 7; handles'; κ₄]
           lands ! (init ! 29 refl (held B.the-type B′.the-laws W r u is)) $ rewrite ! 29 (λ (v : Val). ‵ (fat fullShare B′.mir l₁₁ 0 v)) (spelled B.the-type B′.the-laws r u is) refl $
           forget ! 25 refl $ forget ! 27 refl $ forget ! 35 refl $ forget ! 37 refl $ forget ! 39 refl $ forget ! 41 refl $ forget ! 43 refl $ forget ! 45 refl $ forget ! 47 refl $ forget ! 49 refl $ forget ! 51 refl $ forget ! 53 refl $
           move ! (7 ∷ 8 ∷ 9 ∷ 10 ∷ 11 ∷ 12 ∷ 13 ∷ 14 ∷ 15 ∷ 16 ∷ 17 ∷ 18 ∷ 19 ∷ 20 ∷ 21 ∷ 22 ∷ 23 ∷ 24 ∷ 25 ∷ 26 ∷ 27 ∷ 28 ∷ 29 ∷ 30 ∷ 31 ∷ 32 ∷ 33 ∷ 34 ∷ 35 ∷ 36 ∷ 37 ∷ 38 ∷ 39 ∷ 40 ∷ 41 ∷ 42 ∷ 43 ∷ 44 ∷ 45 ∷ 46 ∷ 47 ∷ 48 ∷ 49 ∷ 50 ∷ 51 ∷ 52 ∷ 53 ∷ 54 ∷ 55 ∷ 56 ∷ 57 ∷ 58 ∷ 59 ∷ 60 ∷ 61 ∷ 62 ∷ 63 ∷ 64 ∷ 65 ∷ 66 ∷ 67 ∷ 68 ∷ 70 ∷ 69 ∷ 5 ∷ 6 ∷ 4 ∷ 3 ∷ 2 ∷ 1 ∷ 0 ∷ []) $

@@ -112,15 +112,15 @@ module _ {M : Type 1} (𝓤 : URA M) (H : Heap 𝓤) (A : Atoms 𝓤) (W : Given
   Handed hs = Own ∷ OwnT ∷ OwnD ∷ usize .own (length (h .now)) (vint w64 (length (h .now)) ∷ []) ∷ S.the-row .own hs (all hs ∷ []) ∷ OwnS ∷ OwnP ∷ []
 
   -- ---- the exit
-  exits : (ss ps : List ℕ) (r : ℕ) (u : Val) → length ss ≡ length (s .now) → length ps ≡ length (p .now)
-      → Does (reconnectOn (memoryOf (t .now) (d .now) (h .now) (s .now) (p .now)) st) (memoryOf (t .now) (d .now) (h .now) ss ps) r → Is u32 r (u ∷ [])
-      → ent 𝓤 (⋆ 𝓤 H A (‵ (finally u8 (p .name) ps) ∷ ‵ (finally u64 (s .name) ss) ∷ ‵ (chain Theirs) ∷ ‵ OwnD ∷ ‵ OwnT ∷ ‵ (flft κ₂ q₂) ∷ ‵ OwnH ∷ [])) (Post u)
-  exits ss ps r u ls lp e is =
-      qed W (‵ (finally u8 (p .name) ps) ∷ ‵ (finally u64 (s .name) ss) ∷ ‵ (chain Theirs) ∷ ‵ OwnD ∷ ‵ OwnT ∷ ‵ (flft κ₂ q₂) ∷ ‵ OwnH ∷ []) ∵
-      suffices ! _ (ends-at 𝓤 H A reconnect.ended stayed (reconnect.clauses 𝓤 H A at-mem run) W bound u r (tt, (tt, (tt, (tt, (ss, (ps, tt)))))) (tt, (tt, (tt, (tt, (ls, (lp, tt))))))) $ says ! e $
+  exits : (cs ps : List ℕ) (r : ℕ) (u : Val) → length cs ≡ length (s .now) → length ps ≡ length (p .now)
+      → Does (reconnectOn (memoryOf (t .now) (d .now) (h .now) (s .now) (p .now)) st) (memoryOf (t .now) (d .now) (h .now) cs ps) r → Is u32 r (u ∷ [])
+      → ent 𝓤 (⋆ 𝓤 H A (‵ (finally u8 (p .name) ps) ∷ ‵ (finally u64 (s .name) cs) ∷ ‵ (chain Theirs) ∷ ‵ OwnD ∷ ‵ OwnT ∷ ‵ (flft κ₂ q₂) ∷ ‵ OwnH ∷ [])) (Post u)
+  exits cs ps r u ls lp e is =
+      qed W (‵ (finally u8 (p .name) ps) ∷ ‵ (finally u64 (s .name) cs) ∷ ‵ (chain Theirs) ∷ ‵ OwnD ∷ ‵ OwnT ∷ ‵ (flft κ₂ q₂) ∷ ‵ OwnH ∷ []) ∵
+      suffices ! _ (ends-at 𝓤 H A reconnect.ended stayed (reconnect.clauses 𝓤 H A at-mem run) W bound u r (tt, (tt, (tt, (tt, (cs, (ps, tt)))))) (tt, (tt, (tt, (tt, (ls, (lp, tt))))))) $ says ! e $
       number-had W ! w32 st gst $ move ! (3 ∷ []) $ unchain W Theirs $
-      -- [κ₀; κ₁; κ₃; κ₄; station's; pending's; stations'; dacls'; tokens'; κ₂; handles']
-      move ! (0 ∷ 1 ∷ 9 ∷ 2 ∷ 3 ∷ 4 ∷ 8 ∷ 7 ∷ 10 ∷ 6 ∷ 5 ∷ []) $ rechain W Toks $ frame ! $ rechain W (Own ∷ OwnT ∷ OwnD ∷ OwnH ∷ finally u64 (s .name) ss ∷ finally u8 (p .name) ps ∷ []) $ frame ! $
+      -- [κ₀; κ₁; κ₃; κ₄; station's; pending's; control's; dacls'; tokens'; κ₂; handles']
+      move ! (0 ∷ 1 ∷ 9 ∷ 2 ∷ 3 ∷ 4 ∷ 8 ∷ 7 ∷ 10 ∷ 6 ∷ 5 ∷ []) $ rechain W Toks $ frame ! $ rechain W (Own ∷ OwnT ∷ OwnD ∷ OwnH ∷ finally u64 (s .name) cs ∷ finally u8 (p .name) ps ∷ []) $ frame ! $
       owned ! u32 (Is u32) (uint-makes 𝓤 H A W w32) r (u ∷ []) is $ done !
 
   module _ (𝓣 : Tables 𝓤 H) (known-load : Triple 𝓤 (𝓣 .C #load) (Load 𝓤 H A at-mem run)) (known-by-value : Triple 𝓤 (𝓣 .C #by-value) (ByValue 𝓤 H A at-mem run)) where
@@ -144,7 +144,7 @@ module _ {M : Type 1} (𝓤 : URA M) (H : Heap 𝓤) (A : Atoms 𝓤) (W : Given
           move ! (29 ∷ []) $ use1 W (‵ OwnT ⊛ ‵ OwnT) (shr-slice-copy 𝓤 H A W (named 0) κ₀ u64 .twice t (sv t ∷ [])) $ split ! $
           move ! (31 ∷ []) $ use1 W (‵ OwnD ⊛ ‵ OwnD) (shr-slice-copy 𝓤 H A W (named 1) κ₁ u8 .twice d (sv d ∷ [])) $ split ! $
           had W ! S.the-type S′.the-laws S′.the-plain hs g $ number-had W ! w64 (length (h .now)) (gh .0) $
-          -- [the count's; the list's; dacls' twice; tokens' twice; the locals; κ₂; handles'; station's; stations'; pending's; κ₀; κ₁; κ₃; κ₄]
+          -- [the count's; the list's; dacls' twice; tokens' twice; the locals; κ₂; handles'; station's; control's; pending's; κ₀; κ₁; κ₃; κ₄]
           move ! (37 ∷ 38 ∷ 39 ∷ 40 ∷ 34 ∷ 4 ∷ 2 ∷ 0 ∷ 1 ∷ 35 ∷ 36 ∷ []) $ hands W Theirs (Handed hs) $
           -- [what by_value::reconnect asks; dacls'; tokens'; the locals, local k at 2 k + 3; κ₂; handles']
           calls-at ! (fmOf 𝓤 H (W .laws) 𝓣) (ByValue 𝓤 H A at-mem run) known-by-value (to-by-value hs)
@@ -152,7 +152,7 @@ module _ {M : Type 1} (𝓤 : URA M) (H : Heap 𝓤) (A : Atoms 𝓤) (W : Given
           returned ! tt u32 (‵ (chain Theirs)) _ (λ ws. lasts by-value.ended (κ₀, (κ₁, (κ₃, (κ₄, tt)))) (st, (t, (d, (length (h .now), (hs, (s, (p, tt))))))) ws)
           (λ r ws. ReconnectsWith st (length (h .now)) (recordsIn (hs .words)) (t .now) (d .now) (s .now) (p .now) (ws .1 .1 .1 .1 .1 .0) (ws .1 .1 .1 .1 .1 .1 .0) r) u (λ r ws is e.
           fsplit ! $ drop ! $ fsplit ! $ drop ! $ fsplit ! $ drop ! $ fsplit ! $ drop ! $ fsplit ! $ drop ! $ lasting ! (λ ls. lasting ! (λ lp. drop ! $
-          -- [pending's; stations'; the tokens; dacls'; tokens'; the locals, local k at 2 k + 5; κ₂; handles']
+          -- [pending's; control's; the tokens; dacls'; tokens'; the locals, local k at 2 k + 5; κ₂; handles']
           lands ! (init ! 5 refl (uint-lawful 𝓤 H A W w32 .typed r (u ∷ []) is .0)) $ returns ! (look ! 5 refl) $ forget ! 5 refl $ forget ! 7 refl $ forget ! 9 refl $ forget ! 11 refl $ forget ! 13 refl $ forget ! 15 refl $ forget ! 17 refl $ forget ! 19 refl $ forget ! 21 refl $ forget ! 23 refl $ forget ! 25 refl $ forget ! 27 refl $ forget ! 29 refl $
           move ! (5 ∷ 6 ∷ 7 ∷ 8 ∷ 9 ∷ 10 ∷ 11 ∷ 12 ∷ 13 ∷ 14 ∷ 15 ∷ 16 ∷ 17 ∷ 18 ∷ 19 ∷ 20 ∷ 21 ∷ 22 ∷ 23 ∷ 24 ∷ 25 ∷ 26 ∷ 27 ∷ 28 ∷ 29 ∷ 30 ∷ []) $ free1 ! $ free1 ! $ free1 ! $ free1 ! $ free1 ! $ free1 ! $ free1 ! $ free1 ! $ free1 ! $ free1 ! $ free1 ! $ free1 ! $ free1 ! $ free0 ! $
           by ! (exits (ws .1 .1 .1 .1 .1 .0) (ws .1 .1 .1 .1 .1 .1 .0) r u ls lp (e .reconnected (h .now) refl (sym is-loaded)) is)))))

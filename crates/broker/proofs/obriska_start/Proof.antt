@@ -98,7 +98,7 @@ module _ {M : Type 1} (𝓤 : URA M) (H : Heap 𝓤) (A : Atoms 𝓤) (W : Given
 
   -- what says the last values of its slices
   abbrev Lasts : List ℕ → List ℕ → List ℕ → List ℕ → List Fml
-  Lasts ts ds ss ps = finally u64 (t .name) ts ∷ finally u8 (d .name) ds ∷ finally u64 (s .name) ss ∷ finally u8 (p .name) ps ∷ []
+  Lasts ts ds cs ps = finally u64 (t .name) ts ∷ finally u8 (d .name) ds ∷ finally u64 (s .name) cs ∷ finally u8 (p .name) ps ∷ []
 
   -- ---- what each callee's triple binds outside, and what it is handed
   abbrev to-by-value : ByValue 𝓤 H A at-mem run .Ghost
@@ -111,15 +111,15 @@ module _ {M : Type 1} (𝓤 : URA M) (H : Heap 𝓤) (A : Atoms 𝓤) (W : Given
   to-clear k = (((κ₂, tt), (q₂, tt), tt, (h, (k, tt)), (sv h ∷ [], (vint w64 k ∷ [], tt))), tt)
 
   -- ---- the exit
-  exits : (ts ds ss ps : List ℕ) (zs : List Handle) (r : ℕ) → length ts ≡ length (t .now) → length ds ≡ length (d .now) → length ss ≡ length (s .now) → length ps ≡ length (p .now) → length zs ≡ length (h .now)
-      → Does (startOn (memoryOf (t .now) (d .now) (h .now) (s .now) (p .now))) (memoryOf ts ds zs ss ps) r → r < 2 ^ 32
-      → ent 𝓤 (⋆ 𝓤 H A (‵ (finally R (h .name) zs) ∷ ‵ (chain (flft κ₂ q₂ ∷ [])) ∷ ‵ (chain Theirs) ∷ items (Lasts ts ds ss ps) [])) (Post (vint w32 r))
-  exits ts ds ss ps zs r lt ld ls lp lh e gr =
-      qed W (‵ (finally R (h .name) zs) ∷ ‵ (chain (flft κ₂ q₂ ∷ [])) ∷ ‵ (chain Theirs) ∷ items (Lasts ts ds ss ps) []) ∵
-      suffices ! _ (ends-at 𝓤 H A start.ended stayed (start.clauses 𝓤 H A at-mem run) W bound (vint w32 r) r (ts, (ds, (zs, (ss, (ps, tt))))) (lt, (ld, (lh, (ls, (lp, tt)))))) $ says ! e $
+  exits : (ts ds cs ps : List ℕ) (zs : List Handle) (r : ℕ) → length ts ≡ length (t .now) → length ds ≡ length (d .now) → length cs ≡ length (s .now) → length ps ≡ length (p .now) → length zs ≡ length (h .now)
+      → Does (startOn (memoryOf (t .now) (d .now) (h .now) (s .now) (p .now))) (memoryOf ts ds zs cs ps) r → r < 2 ^ 32
+      → ent 𝓤 (⋆ 𝓤 H A (‵ (finally R (h .name) zs) ∷ ‵ (chain (flft κ₂ q₂ ∷ [])) ∷ ‵ (chain Theirs) ∷ items (Lasts ts ds cs ps) [])) (Post (vint w32 r))
+  exits ts ds cs ps zs r lt ld ls lp lh e gr =
+      qed W (‵ (finally R (h .name) zs) ∷ ‵ (chain (flft κ₂ q₂ ∷ [])) ∷ ‵ (chain Theirs) ∷ items (Lasts ts ds cs ps) []) ∵
+      suffices ! _ (ends-at 𝓤 H A start.ended stayed (start.clauses 𝓤 H A at-mem run) W bound (vint w32 r) r (ts, (ds, (zs, (cs, (ps, tt))))) (lt, (ld, (lh, (ls, (lp, tt)))))) $ says ! e $
       move ! (1 ∷ []) $ unchain W (flft κ₂ q₂ ∷ []) $ move ! (2 ∷ []) $ unchain W Theirs $
-      -- [κ₀; κ₁; κ₃; κ₄; κ₂; handles'; tokens'; dacls'; stations'; pending's]
-      move ! (0 ∷ 1 ∷ 4 ∷ 2 ∷ 3 ∷ 6 ∷ 7 ∷ 5 ∷ 8 ∷ 9 ∷ []) $ rechain W Toks $ frame ! $ rechain W (finally u64 (t .name) ts ∷ finally u8 (d .name) ds ∷ finally R (h .name) zs ∷ finally u64 (s .name) ss ∷ finally u8 (p .name) ps ∷ []) $ frame ! $
+      -- [κ₀; κ₁; κ₃; κ₄; κ₂; handles'; tokens'; dacls'; control's; pending's]
+      move ! (0 ∷ 1 ∷ 4 ∷ 2 ∷ 3 ∷ 6 ∷ 7 ∷ 5 ∷ 8 ∷ 9 ∷ []) $ rechain W Toks $ frame ! $ rechain W (finally u64 (t .name) ts ∷ finally u8 (d .name) ds ∷ finally R (h .name) zs ∷ finally u64 (s .name) cs ∷ finally u8 (p .name) ps ∷ []) $ frame ! $
       number-had W ! w32 r gr $ done !
 
   module _ (𝓣 : Tables 𝓤 H) (known-by-value : Triple 𝓤 (𝓣 .C #by-value) (ByValue 𝓤 H A at-mem run)) (known-clear : Triple 𝓤 (𝓣 .C #clear) (Clear 𝓤 H A at-mem run)) where
@@ -136,10 +136,10 @@ module _ {M : Type 1} (𝓤 : URA M) (H : Heap 𝓤) (A : Atoms 𝓤) (W : Given
           (room tyUnit l₁₆ (room (mut-to erased R) l₁₇ (room (mut-slice erased R) l₁₈ Γ))))))))))))))))))
 
       -- with what by_value::start returned in `_6`
-      clears : (ts ds ss ps : List ℕ) (r : Started) → Out r → length ts ≡ length (t .now) → length ds ≡ length (d .now) → length ss ≡ length (s .now) → length ps ≡ length (p .now)
-          → StartsWith (length (h .now)) (t .now) (d .now) (s .now) (p .now) ts ds ss ps r
-          → Sq W (Locals (full B′.mir l₆ (out r)) (‵ (flft κ₂ q₂) ∷ ‵ OwnH ∷ ‵ (chain Theirs) ∷ items (Lasts ts ds ss ps) [])) (runs (𝓣 .C) (𝓣 .Λ) En mir.t-11 (atRet En Post))
-      clears ts ds ss ps r g lt ld ls lp e = let parts = LL.owed B.the-type B′.the-laws r (out r ∷ []) g in
+      clears : (ts ds cs ps : List ℕ) (r : Started) → Out r → length ts ≡ length (t .now) → length ds ≡ length (d .now) → length cs ≡ length (s .now) → length ps ≡ length (p .now)
+          → StartsWith (length (h .now)) (t .now) (d .now) (s .now) (p .now) ts ds cs ps r
+          → Sq W (Locals (full B′.mir l₆ (out r)) (‵ (flft κ₂ q₂) ∷ ‵ OwnH ∷ ‵ (chain Theirs) ∷ items (Lasts ts ds cs ps) [])) (runs (𝓣 .C) (𝓣 .Λ) En mir.t-11 (atRet En Post))
+      clears ts ds cs ps r g lt ld ls lp e = let parts = LL.owed B.the-type B′.the-laws r (out r ∷ []) g in
           relends ! 6 34 36 refl refl refl (tt, tt) refl refl refl (tt, (tt, (record { fits = gh .0 }, tt))) $
           number-had W ! w64 (r .freed) (parts .1 .0 .1) $ move ! (39 ∷ 40 ∷ 0 ∷ []) $ hands-given W (e .inside) (flft κ₂ q₂ ∷ []) (OwnH ∷ usize .own (r .freed) (vint w64 (r .freed) ∷ []) ∷ []) $
           calls-at ! (fmOf 𝓤 H (W .laws) 𝓣) (Clear 𝓤 H A at-mem run) known-clear (to-clear (r .freed)) (and-then ! (var ! 37 refl) (and-then ! (load ! (from ! (fld ! refl (stop !))) (look-in ! 13 (sub ! 1 refl (whole !)))) (no-more !))) (λ u.
@@ -149,7 +149,7 @@ module _ {M : Type 1} (𝓤 : URA M) (H : Heap 𝓤) (A : Atoms 𝓤) (W : Given
           sets ! (of-opd ! (load ! (from ! (fld ! refl (stop !))) (look-in ! 14 (sub ! 0 refl (whole !))))) (init ! 2 refl (tt, record { fits = parts .0 .1 })) $
           returns ! (look ! 2 refl) $ forget ! 2 refl $ forget ! 4 refl $ forget ! 6 refl $ forget ! 8 refl $ forget ! 10 refl $ forget ! 12 refl $ forget ! 14 refl $ forget ! 34 refl $ forget ! 36 refl $ forget ! 38 refl $
           move ! (2 ∷ 3 ∷ 4 ∷ 5 ∷ 6 ∷ 7 ∷ 8 ∷ 9 ∷ 10 ∷ 11 ∷ 12 ∷ 13 ∷ 14 ∷ 15 ∷ 16 ∷ 17 ∷ 18 ∷ 19 ∷ 20 ∷ 21 ∷ 22 ∷ 23 ∷ 24 ∷ 25 ∷ 26 ∷ 27 ∷ 28 ∷ 29 ∷ 30 ∷ 31 ∷ 32 ∷ 33 ∷ 34 ∷ 35 ∷ 36 ∷ 37 ∷ 38 ∷ 39 ∷ []) $ free1 ! $ free1 ! $ free1 ! $ free1 ! $ free1 ! $ free1 ! $ free1 ! $ free1 ! $ free1 ! $ free1 ! $ free1 ! $ free1 ! $ free1 ! $ free1 ! $ free1 ! $ free1 ! $ free1 ! $ free1 ! $ free1 ! $ free0 ! $
-          by ! (exits ts ds ss ps (ws .0) (r .refusal) lt ld ls lp lh (started-at (h .now) e cleared) (parts .0 .1)))))
+          by ! (exits ts ds cs ps (ws .0) (r .refusal) lt ld ls lp lh (started-at (h .now) e cleared) (parts .0 .1)))))
 
       begins : Sq W (Locals (room B′.mir l₆) (items (OwnT ∷ OwnD ∷ OwnH ∷ OwnS ∷ OwnP ∷ []) (items Toks []))) (runs (𝓣 .C) (𝓣 .Λ) En mir.t-1 (atRet En Post))
       begins =
@@ -165,7 +165,7 @@ module _ {M : Type 1} (𝓤 : URA M) (H : Heap 𝓤) (A : Atoms 𝓤) (W : Given
           returned ! tt B.the-row (‵ (chain Theirs)) _ (λ ws. lasts by-value.ended (κ₀, (κ₁, (κ₃, (κ₄, tt)))) (t, (d, (length (h .now), (s, (p, tt))))) ws)
           (λ r ws. StartsWith (length (h .now)) (t .now) (d .now) (s .now) (p .now) (ws .0) (ws .1 .0) (ws .1 .1 .1 .0) (ws .1 .1 .1 .1 .0) r) u (λ r ws is e.
           lasting ! (λ lt. lasting ! (λ ld. fsplit ! $ drop ! $ lasting ! (λ ls. lasting ! (λ lp. drop ! $
-          -- [pending's; stations'; dacls'; tokens'; the tokens; the locals, local k at 2 k + 5; handles'; κ₂]
+          -- [pending's; control's; dacls'; tokens'; the tokens; the locals, local k at 2 k + 5; handles'; κ₂]
           lands ! (init ! 17 refl (held B.the-type B′.the-laws W r u is)) $ rewrite ! 17 (λ (v : Val). ‵ (fat fullShare B′.mir l₆ 0 v)) (spelled B.the-type B′.the-laws r u is) refl $
           forget ! 19 refl $ forget ! 21 refl $ forget ! 23 refl $ forget ! 25 refl $ forget ! 27 refl $ forget ! 29 refl $ forget ! 31 refl $ forget ! 33 refl $ forget ! 35 refl $
           move ! (5 ∷ 6 ∷ 7 ∷ 8 ∷ 9 ∷ 10 ∷ 11 ∷ 12 ∷ 13 ∷ 14 ∷ 15 ∷ 16 ∷ 17 ∷ 18 ∷ 19 ∷ 20 ∷ 21 ∷ 22 ∷ 23 ∷ 24 ∷ 25 ∷ 26 ∷ 27 ∷ 28 ∷ 29 ∷ 30 ∷ 31 ∷ 32 ∷ 33 ∷ 34 ∷ 35 ∷ 36 ∷ 37 ∷ 38 ∷ 39 ∷ 40 ∷ 41 ∷ 42 ∷ 44 ∷ 43 ∷ 4 ∷ 3 ∷ 2 ∷ 1 ∷ 0 ∷ []) $

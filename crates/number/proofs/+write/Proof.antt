@@ -55,9 +55,10 @@ module _ (x : ℕ) (zs o ys : List ℕ) (l : length o ≡ 0 → ⊥) (e : ys ≡
   as-long : length (putMid 1 (length (set o 0 x) - 1) (set o 0 x) ys) ≡ length o
   as-long = ap length stored ∙ over-length (x ∷ zs) o
 
-written : (n : ℕ) (o ys : List ℕ) → 128 ≤ n → (length o ≡ 0 → ⊥) → ys ≡ over (encode (n / 128)) (part (n % 128 + 128) o)
-    → putMid 1 (length (set o 0 (n % 128 + 128)) - 1) (set o 0 (n % 128 + 128)) ys ≡ over (encode n) o
-written n o ys h l e = stored (n % 128 + 128) (encode (n / 128)) o ys l e ∙ ap (λ (xs : List ℕ). over xs o) (sym (encode-more n h))
+-- where the first byte is the number's low seven bits with the top bit set
+written : (n x : ℕ) (o ys : List ℕ) → 128 ≤ n → (length o ≡ 0 → ⊥) → x ≡ n % 128 + 128 → ys ≡ over (encode (n / 128)) (part x o)
+    → putMid 1 (length (set o 0 x) - 1) (set o 0 x) ys ≡ over (encode n) o
+written n x o ys h l b e = stored x (encode (n / 128)) o ys l e ∙ ap (λ (xs : List ℕ). over xs o) (ap (λ (y : ℕ). y ∷ encode (n / 128)) b ∙ sym (encode-more n h))
 
 pub +write-spec : {M : Type 1} → statement M
 +write-spec =
@@ -76,4 +77,4 @@ pub +write-spec : {M : Type 1} → statement M
     (λ c. search needs)
     (λ c. search (needs, one-count, one-byte))
     (λ c. search (needs, as-long))
-    (λ c. search (needs, counted, written))
+    (λ c. (search (needs, counted), search written))

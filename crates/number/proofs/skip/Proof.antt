@@ -45,6 +45,9 @@ pub skip-spec : {M : Type 1} → statement M
 skip-spec =
     tie.close
     (tie.spec Inv μ
+    (λ c κs. search needs)
+    (λ c. omega (arith, c .before .short .ensures (c .if1 .taken) .bounds))
+    (λ c. c .before .short .ensures (c .if1 .taken))
     (λ c. (refl, omega arith, omega arith))
     (λ c κs. search needs)
     (λ c. search needs)

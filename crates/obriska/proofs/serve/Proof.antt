@@ -14,13 +14,13 @@ use Rattle.obriska.proofs.serve.Tie as tie
 
 -- the slices keep their lengths
 abbrev Inv : tie.InvT-loop
-Inv station chunk answer₀ tokens₀ dacls₀ stations₀ pending₀ held₀ used₀ answer tokens dacls stations pending held used =
+Inv station chunk answer₀ tokens₀ dacls₀ control₀ pending₀ held₀ used₀ answer tokens dacls control pending held used =
     (used ≤ length chunk) × (length chunk < 2 ^ 64) × (length answer ≡ length answer₀) × (length tokens ≡ length tokens₀) × (length dacls ≡ length dacls₀)
-    × (length stations ≡ length stations₀) × (length pending ≡ length pending₀)
-    × Onward station chunk (drop used chunk) (memoryOf tokens₀ dacls₀ (recordsIn (held₀ .words)) stations₀ pending₀) (memoryOf tokens dacls (recordsIn (held .words)) stations pending) (length answer₀) true
+    × (length control ≡ length control₀) × (length pending ≡ length pending₀)
+    × Onward station chunk (drop used chunk) (memoryOf tokens₀ dacls₀ (recordsIn (held₀ .words)) control₀ pending₀) (memoryOf tokens dacls (recordsIn (held .words)) control pending) (length answer₀) true
 
 abbrev μ : tie.MeasureT-loop
-μ station chunk answer₀ tokens₀ dacls₀ stations₀ pending₀ held₀ used₀ answer tokens dacls stations pending held used = length chunk - used
+μ station chunk answer₀ tokens₀ dacls₀ control₀ pending₀ held₀ used₀ answer tokens dacls control pending held used = length chunk - used
 
 pub serve-spec : {M : Type 1} → statement M
 serve-spec =

@@ -14,4 +14,4 @@ serve-spec =
     (λ c. search needs)
     (λ c. search needs)
     (λ c. search needs)
-    (λ c. search (needs, answered)))
+    (λ c. search answered))

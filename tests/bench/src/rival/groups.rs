@@ -16,10 +16,11 @@ pub const fn in_word(attributes: u32) -> u64 {
 /// Whether a group's word has any of the attributes.
 #[inline]
 pub fn attribute(group: u64, attributes: u32) -> bool {
-    group & in_word(attributes) != 0
+    (group >> ATTRIBUTES) as u32 & attributes != 0
 }
 
-/// Whether a group of a token of this user may not be disabled: mandatory, logon, the user's SID.
+/// Whether a new group of a token of this user must be enabled by default: mandatory, logon, the
+/// user's SID.
 pub fn is_fixed(group: u64, user: u64) -> bool {
     attribute(group, MANDATORY | LOGON_ID) || group as u32 == user as u32
 }

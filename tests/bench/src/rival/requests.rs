@@ -1,10 +1,10 @@
 //! The eleven requests on lent memory: reading, refusals in order, effect in place.
 
-use super::groups::{attribute, in_word, is_fixed, Set, SET_WORDS, WORD_GROUPS};
+use super::groups::{attribute, in_word, Set, SET_WORDS, WORD_GROUPS};
 use super::layout::{
     right, station_word, word, ALL_PRIVILEGES, ASSIGN_PRIMARY, DENY_ONLY, ENABLED,
-    ENABLED_BY_DEFAULT, ENABLED_WORDS, MAX_DACL, NO_CHANGE, OWNER, PRIMARY, RESET_GROUPS,
-    RESET_PRIVILEGES, TCB,
+    ENABLED_BY_DEFAULT, ENABLED_WORDS, LOGON_ID, MANDATORY, MAX_DACL, NO_CHANGE, OWNER, PRIMARY,
+    RESET_GROUPS, RESET_PRIVILEGES, TCB,
 };
 use super::memory::{Handle, Memory};
 use super::reader::{refuse, Body, Reader, Refused};
@@ -202,11 +202,12 @@ impl Memory<'_> {
     }
 }
 
-/// Whether a named group of one word of a set may not be switched: a deny-only one on, a fixed one off.
+/// Whether a named group of one word of a set may not be switched, or not off.
 fn any_protected(groups: &[u64], user: u64, named: u64, on: u64) -> bool {
-    let is_protected = |(at, &group): (usize, &u64)| match attribute(group, DENY_ONLY) {
-        true => on >> at & 1 == 1,
-        false => (named & !on) >> at & 1 == 1 && is_fixed(group, user),
+    let is_protected = |(at, &group): (usize, &u64)| {
+        let is_off = (named & !on) >> at & 1 == 1;
+        (named >> at & 1 == 1 && attribute(group, MANDATORY | DENY_ONLY | LOGON_ID))
+            || (is_off && group as u32 == user as u32)
     };
     groups.iter().enumerate().any(is_protected)
 }

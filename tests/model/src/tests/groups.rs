@@ -31,32 +31,60 @@ fn it_enables_and_disables() {
 }
 
 #[test]
-fn protected_groups() {
+fn mandatory_logon_and_deny_only_groups_are_protected_either_way() {
     let (mut model, made) = with_groups(&GROUPS);
-    for index in [0, 1, 2] {
-        assert_eq!(ask(&mut model, 0, &[6, made, 1, index, 0]), [6]);
-        assert_eq!(ask(&mut model, 0, &[6, made, 2, 3, 0, index, 0]), [6]);
-        assert_eq!(status(&mut model, 0, &[6, made, 1, index, 1]), 0);
+    for index in [0, 1, 5] {
+        for enable in [0, 1] {
+            assert_eq!(ask(&mut model, 0, &[6, made, 1, index, enable]), [6]);
+            assert_eq!(ask(&mut model, 0, &[6, made, 2, 3, 0, index, enable]), [6]);
+            assert_eq!(ask(&mut model, 0, &[6, made, 2, index, enable, 4, 1]), [6]);
+        }
     }
-    assert_eq!(ask(&mut model, 0, &[6, made, 1, 5, 1]), [6]);
-    assert_eq!(status(&mut model, 0, &[6, made, 1, 5, 0]), 0);
 }
 
 #[test]
-fn deny_only_lifts_the_protection_from_disabling() {
+fn a_group_with_the_users_sid_is_protected_on_disabling() {
     let (mut model, made) = with_groups(&GROUPS);
-    let copy = handle(&mut model, 0, &[10, made, 0, 0, 3, 0, 0, 1, 2]);
-    for index in 0..3 {
-        assert_eq!(status(&mut model, 0, &[6, copy, 1, index, 0]), 0);
-        assert_eq!(ask(&mut model, 0, &[6, copy, 1, index, 1]), [6]);
+    assert_eq!(ask(&mut model, 0, &[6, made, 1, 2, 0]), [6]);
+    assert_eq!(ask(&mut model, 0, &[6, made, 2, 3, 0, 2, 0]), [6]);
+    assert_eq!(ask(&mut model, 0, &[6, made, 2, 3, 0, 2, 1]), report(0b001111));
+    assert_eq!(enabled(&model, made), [true, true, true, false, false, false]);
+}
+
+#[test]
+fn other_groups_are_not_protected() {
+    let (mut model, made) = with_groups(&GROUPS);
+    for index in [3, 4] {
+        for enable in [0, 0, 1, 1] {
+            assert_eq!(status(&mut model, 0, &[6, made, 1, index, enable]), 0);
+        }
     }
-    assert_eq!(enabled(&model, copy), [false, false, false, true, false, false]);
+}
+
+#[test]
+fn a_group_is_protected_by_each_of_its_kinds() {
+    let (mut model, made) = with_groups(&[(50, 3), (50, LOGON | 2), (60, LOGON | 11), (61, 0x18)]);
+    for (index, enable) in [(0, 1), (1, 1), (2, 0), (2, 1), (3, 0), (3, 1)] {
+        assert_eq!(ask(&mut model, 0, &[6, made, 1, index, enable]), [6]);
+    }
+}
+
+#[test]
+fn groups_that_request_10_made_deny_only_are_protected() {
+    let (mut model, made) = with_groups(&GROUPS);
+    let copy = handle(&mut model, 0, &[10, made, 0, 0, 4, 0, 0, 1, 2, 3]);
+    for index in 0..4 {
+        for enable in [0, 1] {
+            assert_eq!(ask(&mut model, 0, &[6, copy, 1, index, enable]), [6]);
+        }
+    }
+    assert_eq!(status(&mut model, 0, &[6, made, 1, 3, 0]), 0);
 }
 
 #[test]
 fn entries_are_checked_before_protection() {
     let (mut model, made) = with_groups(&GROUPS);
-    let bad: [&[u64]; 8] = [
+    let bad: [&[u64]; 12] = [
         &[],
         &[6, 1],
         &[3, 2],
@@ -64,6 +92,10 @@ fn entries_are_checked_before_protection() {
         &[RESET, 1],
         &[RESET, 0, 3, 0],
         &[0, 0, 6, 0],
+        &[6, 0, 0, 0],
+        &[0, 1, 6, 1],
+        &[5, 2, 5, 0],
+        &[0, 0, 0, 0],
         &[3, 0, RESET, 0],
     ];
     for entries in bad {
@@ -80,6 +112,13 @@ fn reset_restores_the_defaults_but_not_of_deny_only() {
     assert_eq!(ask(&mut model, 0, &[6, copy, 1, RESET, 0]), report(0b010110));
     assert_eq!(enabled(&model, copy), [false, true, true, true, false, false]);
     assert_eq!(token_of(&model, copy).groups[0].attributes, 0x13);
+}
+
+#[test]
+fn reset_is_not_refused_for_protected_groups() {
+    let (mut model, made) = with_groups(&GROUPS);
+    assert_eq!(ask(&mut model, 0, &[6, made, 1, RESET, 0]), report(0b001111));
+    assert_eq!(enabled(&model, made), [true, true, true, true, false, false]);
 }
 
 #[test]

@@ -19,4 +19,4 @@ serve-frame-spec =
     (λ c. search needs)
     (λ c. search needs)
     (λ c. search needs)
-    (λ c. search (needs, frame-served)))
+    (λ c. search frame-served))

@@ -10,17 +10,17 @@ feed-spec =
     tie.close
     (tie.spec
     (λ c κs. search needs)
-    (λ c. search (needs, feed-no-station))
+    (λ c. search feed-no-station)
     (λ c κs. search needs)
-    (λ c. search (needs, feed-short))
+    (λ c. search feed-short)
     (λ c κs. search needs)
     (λ c κs. search needs)
     (λ c. search needs)
     (λ c. search needs)
     (λ c. search needs)
     (λ c. search needs)
-    (λ c. search (needs, feed-invalid))
-    (λ c κs. let e = c .before .before .before .before .before .before .before in (tested-lent (e .before .is-valid .ensures) (e .if3 .left), tested-valid (e .before .is-valid .ensures) (e .if3 .left), search needs, search needs))
+    (λ c. search feed-invalid)
+    (λ c κs. let e = c .before .before .before .before .before .before .before in (tested-lent (e .before .valid .ensures) (e .if3 .left), tested-valid (e .before .valid .ensures) (e .if3 .left), search needs, search needs))
     (λ c. search needs)
     (λ c. search needs)
     (λ c. search needs)
@@ -30,4 +30,4 @@ feed-spec =
     let done = c .before .before .before .before .before .before .before .before .before .before in
     let tested = done .before .before .before .before .before .before .before .before in
     let fits = tested .before .before .before .before .before .before .before .before in
-    feeds-with _ _ _ _ _ _ _ _ _ (search (needs, fits .before .if1 .left)) (search (needs, fits .if2 .left)) _ (tested .before .is-valid .ensures) (fits .before .before .before .before .before .before .before .shared-slice-known .given) (tested .if3 .left) (done .accept .ensures)))
+    feeds-with _ _ _ _ _ _ _ _ _ (search (needs, fits .before .if1 .left)) (search (needs, fits .if2 .left)) _ (tested .before .valid .ensures) (fits .before .before .before .before .before .before .before .shared-slice-known .given) (tested .if3 .left) (done .accept .ensures)))

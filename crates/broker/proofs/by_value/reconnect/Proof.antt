@@ -1,6 +1,6 @@
 -- By the tests of 11 and 13. Assumes nothing.
 use borrow.Author.Needs.{needs}
-use Rattle.broker.proofs.Parts.{stations-long, pending-long}
+use Rattle.broker.proofs.Parts.{control-long, pending-long}
 use Rattle.broker.proofs.Reconnecting.{reconnect-no-station, reconnect-invalid, reconnects-with}
 use Rattle.broker.proofs.by_value.reconnect.Statement.{statement}
 use Rattle.broker.proofs.by_value.reconnect.Tie as tie
@@ -9,12 +9,12 @@ pub reconnect-spec : {M : Type 1} → statement M
 reconnect-spec =
     tie.close
     (tie.spec
-    (λ c. search (needs, reconnect-no-station))
+    (λ c. search reconnect-no-station)
     (λ c κs. search needs)
     (λ c. search needs)
     (λ c. search needs)
-    (λ c. search (needs, reconnect-invalid))
-    (λ c κs. let e = c .before .before in (search needs, stations-long (e .before .is-valid .ensures) (e .if2 .left), pending-long (e .before .is-valid .ensures) (e .if2 .left)))
+    (λ c. search reconnect-invalid)
+    (λ c κs. let e = c .before .before in (search needs, control-long (e .before .valid .ensures) (e .if2 .left), pending-long (e .before .valid .ensures) (e .if2 .left)))
     (λ c. search needs)
     (λ c. search needs)
-    (λ c. search (needs, reconnects-with)))
+    (λ c. search reconnects-with))

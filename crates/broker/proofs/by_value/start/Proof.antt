@@ -1,6 +1,7 @@
 -- By the test of the sizes. Assumes nothing.
 use borrow.Author.Needs.{needs}
-use Rattle.broker.proofs.Starting.{start-refused, start-lent, starts}
+use Rattle.valid.proofs.Sizes.{right-lent}
+use Rattle.broker.proofs.Starting.{start-refused, starts}
 use Rattle.broker.proofs.by_value.start.Statement.{statement}
 use Rattle.broker.proofs.by_value.start.Tie as tie
 
@@ -9,10 +10,10 @@ start-spec =
     tie.close
     (tie.spec
     (λ c κs. search needs)
-    (λ c. search (needs, start-refused))
-    (λ c κs. search (needs, start-lent))
+    (λ c. search start-refused)
+    (λ c κs. search (needs, right-lent))
     (λ c. search needs)
     (λ c. search needs)
     (λ c. search needs)
     (λ c. search needs)
-    (λ c. search (needs, starts)))
+    (λ c. search starts))

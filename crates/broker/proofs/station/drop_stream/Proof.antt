@@ -1,6 +1,6 @@
 -- The words and the row are those of the station with nothing pending. Assumes nothing.
 use borrow.Author.Needs.{needs}
-use Rattle.broker.proofs.StreamWords.{stream-dropped}
+use Rattle.broker.proofs.Dropping.{stream-dropped}
 use Rattle.broker.proofs.station.drop_stream.Statement.{statement}
 use Rattle.broker.proofs.station.drop_stream.Tie as tie
 
@@ -17,4 +17,4 @@ drop-stream-spec =
     (λ c κs. search needs)
     (λ c. search needs)
     (λ c. search needs)
-    (λ c. search (needs, stream-dropped)))
+    (λ c. search stream-dropped))

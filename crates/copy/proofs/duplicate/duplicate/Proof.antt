@@ -3,7 +3,7 @@ use borrow.Author.Needs.{needs}
 use borrow.Author.Tests.{not-false}
 use Rattle.decide.proofs.Issuing.{numbers-left}
 use Rattle.decide.proofs.Locating.{located}
-use Rattle.copy.proofs.Copies.{duplicate-unknown, duplicate-bad, duplicate-full, duplicates}
+use Rattle.copy.proofs.DuplicateEnding.{duplicate-unknown, duplicate-bad, duplicate-full, duplicates}
 use Rattle.copy.proofs.duplicate.duplicate.Statement.{statement}
 use Rattle.copy.proofs.duplicate.duplicate.Tie as tie
 
@@ -26,7 +26,7 @@ duplicate-spec =
     let x = judged .before .before .before .before .before in
     duplicate-bad _ _ _ (located _ (x .before .before .before .before .find-handle .ensures) (x .before .before .before .mask-of .ensures) (x .before .before .may-duplicate .ensures) (x .locate .ensures)) (judged .before .before .before .if1 .left) _ (judged .before .identity-at .ensures)
     (x .before .before .before .mask-of .ensures) (judged .valid-duplicate .ensures) (c .before .if2 .taken) (c .refused2 .ensures))
-    (λ c κs. let given = c .before .before .before .before .before .before .before .before .before .before .before .before .before .before .before .before .pre .0 in (given .tokens, given .stations))
+    (λ c κs. let given = c .before .before .before .before .before .before .before .before .before .before .before .before .before .before .before .before .pre .0 in (given .tokens, given .control))
     (λ c κs. search needs)
     (λ c. search needs)
     (λ c. search needs)

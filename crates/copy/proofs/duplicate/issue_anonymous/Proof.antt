@@ -1,6 +1,6 @@
 -- A row of zeros but for a few words. Assumes nothing.
 use borrow.Author.Needs.{needs}
-use Rattle.copy.proofs.Copies.{issues-anonymous}
+use Rattle.copy.proofs.DuplicateEnding.{issues-anonymous}
 use Rattle.copy.proofs.duplicate.issue_anonymous.Statement.{statement}
 use Rattle.copy.proofs.duplicate.issue_anonymous.Tie as tie
 

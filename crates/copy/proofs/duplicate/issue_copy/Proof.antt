@@ -1,6 +1,6 @@
 -- The rows with another number, type and level. Assumes nothing.
 use borrow.Author.Needs.{needs}
-use Rattle.copy.proofs.Copies.{issues-copy}
+use Rattle.copy.proofs.DuplicateEnding.{issues-copy}
 use Rattle.copy.proofs.duplicate.issue_copy.Statement.{statement}
 use Rattle.copy.proofs.duplicate.issue_copy.Tie as tie
 

@@ -1,6 +1,7 @@
 -- By the type and level asked for. Assumes nothing.
 use borrow.Author.Needs.{needs}
-use Rattle.copy.proofs.Copies.{to-primary, to-anonymous, to-impersonation}
+use Rattle.rules.proofs.Logic.{and-l, and-r}
+use Rattle.copy.proofs.DuplicateEnding.{to-primary, to-anonymous, to-impersonation}
 use Rattle.copy.proofs.duplicate.issue_duplicate.Statement.{statement}
 use Rattle.copy.proofs.duplicate.issue_duplicate.Tie as tie
 
@@ -12,7 +13,7 @@ issue-duplicate-spec =
     (λ c. search needs)
     (λ c. search needs)
     (λ c. search needs)
-    (λ c. search (needs, to-anonymous))
+    (λ c. search (to-anonymous, and-l, and-r))
     (λ c κs. search needs)
     (λ c. search needs)
     (λ c. search needs)

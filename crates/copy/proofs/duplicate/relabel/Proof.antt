@@ -1,6 +1,6 @@
 -- Five words. Assumes nothing.
 use borrow.Author.Needs.{needs}
-use Rattle.copy.proofs.Copies.{relabelled}
+use Rattle.copy.proofs.DuplicateEnding.{relabelled}
 use Rattle.copy.proofs.duplicate.relabel.Statement.{statement}
 use Rattle.copy.proofs.duplicate.relabel.Tie as tie
 

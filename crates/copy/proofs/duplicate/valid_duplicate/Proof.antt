@@ -1,6 +1,6 @@
 -- Test by test. Assumes nothing.
 use borrow.Author.Needs.{needs}
-use Rattle.copy.proofs.Copies.{judges}
+use Rattle.copy.proofs.DuplicateEnding.{judges}
 use Rattle.copy.proofs.duplicate.valid_duplicate.Statement.{statement}
 use Rattle.copy.proofs.duplicate.valid_duplicate.Tie as tie
 

@@ -18,4 +18,4 @@ groups-spec =
     (λ c. search needs)
     (λ c. search needs)
     (λ c. search needs)
-    (λ c. search (needs, entries-served requests.groups)))
+    (λ c. search (entries-served requests.groups)))

@@ -13,4 +13,5 @@ owner-valid-spec =
     (λ c. search needs)
     (λ c. search needs)
     (λ c. search needs)
+    (λ c κs. search needs)
     (λ c. search (needs, owner-group)))

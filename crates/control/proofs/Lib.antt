@@ -1,0 +1,4 @@
+pub mod Sections
+pub mod StationRows
+pub mod Referring
+pub mod Beginning

@@ -1,0 +1,108 @@
+-- A word of a station's row, read and stored. Assumes nothing.
+use Prim.Native.Nat.{ℕ, _+_, _*_, _<_}
+use native.Mathlib.Omega.{arith}
+use mathlib.Core.Path.{_≡_, refl, sym, ap, _∙_}
+use mathlib.Core.Bool.{Bool, true, false}
+use mathlib.Core.List.{List}
+use mir.Val.{boolByte}
+use lib.Dec.{eqb}
+use lib.ListN.{length, getD, set, length-set}
+use Rattle.table.specs.Table.{flat, put-record, length-flat, record-element, put-element, record-flat, put-back}
+use Rattle.table.specs.Sections.{Sectioned, section-long, section-word, section-set}
+use Rattle.rules.specs.Station.{Station, startStation, withToken}
+use Rattle.rules.specs.State.{State, stationCount, withStations, stationAt, changeStation, setToken, callerNumber}
+use Rattle.rules.specs.Memory.{stationWords, primaryWord, countWord, brokenWord, stationSection, controlSizes, stationWordAt, mark, stationRow, sections}
+use Rattle.rules.proofs.Rows.{length-stationRow}
+use Rattle.rules.proofs.Control.{row-put}
+use Rattle.control.specs.Control.{ControlIn}
+use Rattle.control.specs.Stations.{WordGiven, CallerNumber, TokenSet, StreamGiven, StreamSet}
+
+-- ---- reading
+
+module _ {ws : List ℕ} (σ : State) (i : ControlIn σ ws) where
+  pub station-count : length (σ .stations) ≡ stationCount
+  unfolding sections
+  station-count = omega (arith, section-long (i .words) stationSection, length-flat stationRow stationWords length-stationRow (σ .stations))
+
+  station-word : (s k : ℕ) → s < stationCount → k < stationWords → getD ws (stationWordAt s k) 0 ≡ getD (stationRow (stationAt σ s)) k 0
+  unfolding sections stationAt
+  station-word s k h l =
+      section-word (i .words) stationSection (s * stationWords + k) 0 (omega arith)
+      ∙ record-element stationWords s k (flat stationRow (σ .stations)) 0 l
+      ∙ ap (λ (row : List ℕ). getD row k 0) (record-flat stationRow stationWords length-stationRow s (σ .stations) startStation (omega (arith, station-count)))
+
+pub word-given : (s k : ℕ) (ws : List ℕ) {at : ℕ} → s < stationCount → k < stationWords → at ≡ stationWordAt s k → WordGiven s k ws (getD ws at 0)
+word-given s k ws h l e = record { word = λ σ i. ap (λ (j : ℕ). getD ws j 0) e ∙ station-word σ i s k h l }
+
+pub caller-number : (s : ℕ) {ws : List ℕ} {r : ℕ} → WordGiven s primaryWord ws r → CallerNumber s ws r
+unfolding callerNumber stationRow
+caller-number s w = record { number = w .word }
+
+is-mark : (b : Bool) → eqb (mark b) 1 ≡ b
+unfolding mark
+is-mark true = refl
+is-mark false = refl
+
+pub stream-given : (s : ℕ) {ws : List ℕ} {n m b : ℕ} → WordGiven s countWord ws n → WordGiven s brokenWord ws b → m ≡ n
+    → StreamGiven s ws (record { count = m; broken = eqb b 1 })
+unfolding stationRow
+stream-given s c d e = record {
+  count = λ σ i. e ∙ c .word σ i;
+  broken = λ σ i. ap (λ (w : ℕ). eqb w 1) (d .word σ i) ∙ is-mark (stationAt σ s .isBroken);
+}
+
+-- ---- storing
+
+pub stored-at : (ws : List ℕ) (v : ℕ) {at k : ℕ} → at ≡ k → set ws at v ≡ set ws k v
+stored-at ws v e = ap (λ (j : ℕ). set ws j v) e
+
+-- the words of a state, with another row for station s
+record RowIn (σ : State) (s : ℕ) (row ws : List ℕ) : Type 0 where
+  words : Sectioned controlSizes (set (sections σ) stationSection (put-record stationWords s row (flat stationRow (σ .stations)))) ws
+  long : length row ≡ stationWords
+  count : length (σ .stations) ≡ stationCount
+
+module _ (s : ℕ) (h : s < stationCount) where
+  own-row : {ws : List ℕ} (σ : State) → ControlIn σ ws → RowIn σ s (stationRow (stationAt σ s)) ws
+  unfolding sections stationAt
+  own-row {ws} σ i =
+      let n = station-count σ i in
+      record {
+        words = rw (put-back stationRow stationWords length-stationRow s (σ .stations) startStation (omega arith)) (i .words);
+        long = length-stationRow (getD (σ .stations) s startStation);
+        count = n;
+      }
+
+  row-stored : {σ : State} {row ws : List ℕ} (k v : ℕ) → k < stationWords → RowIn σ s row ws → RowIn σ s (set row k v) (set ws (stationWordAt s k) v)
+  unfolding sections
+  row-stored {σ} {row} k v l r = record {
+    words =
+        rw (put-element stationWords s k row (flat stationRow (σ .stations)) v (omega (arith, r .count, length-flat stationRow stationWords length-stationRow (σ .stations))) (omega (arith, r .long)))
+        at (section-set (r .words) stationSection (s * stationWords + k) v (omega arith));
+    long = length-set row k v ∙ r .long;
+    count = r .count;
+  }
+
+  row-changed : {row ws : List ℕ} (σ : State) (f : Station → Station) → row ≡ stationRow (f (stationAt σ s)) → RowIn σ s row ws → ControlIn (changeStation s f σ) ws
+  unfolding sections changeStation withStations
+  row-changed σ f e r = record {
+    words = rw (e, row-put stationRow stationWords length-stationRow σ s f (omega (arith, r .count))) at (r .words);
+  }
+
+  pub token-set : (n : ℕ) {ws ws′ : List ℕ} → ws′ ≡ set ws (stationWordAt s primaryWord) n → TokenSet s n ws ws′
+  unfolding setToken stationRow withToken
+  token-set n {ws} e = record {
+    control = λ σ i. rw e (row-changed σ (withToken n) refl (row-stored primaryWord n (omega arith) (own-row σ i)));
+  }
+
+  byte-mark : (b : Bool) → boolByte b ≡ mark b
+  unfolding mark
+  byte-mark true = refl
+  byte-mark false = refl
+
+  pub stream-set : (n : ℕ) (b : Bool) {ws ws₁ ws₂ : List ℕ} → ws₁ ≡ set ws (stationWordAt s countWord) n → ws₂ ≡ set ws₁ (stationWordAt s brokenWord) (boolByte b)
+      → StreamSet s n b ws ws₂
+  stream-set n b d e = record {
+    control = λ σ f q i.
+        rw (e, d, byte-mark b) (row-changed σ f (sym (q (stationAt σ s))) (row-stored brokenWord (mark b) (omega arith) (row-stored countWord n (omega arith) (own-row σ i))));
+  }

@@ -1,0 +1,31 @@
+// The places of the control words: sections one after the other. What is new goes to the end, a section behind the last and a word behind
+// the others of its row.
+pub const STATIONS: usize = 8;
+
+// The next numbers.
+pub const NEXT_TOKEN: usize = 0;
+
+pub const NEXT_HANDLE: usize = 1;
+
+pub const COUNTER_WORDS: usize = 2;
+
+// A station's row: its primary token, how many bytes are pending, whether the stream is broken.
+pub const PRIMARY_WORD: usize = 0;
+
+pub const COUNT_WORD: usize = 1;
+
+pub const BROKEN_WORD: usize = 2;
+
+pub const STATION_WORDS: usize = 3;
+
+// Where the sections begin and end.
+pub const STATIONS_AT: usize = COUNTER_WORDS;
+
+pub const STATIONS_END: usize = STATIONS_AT + STATIONS * STATION_WORDS;
+
+pub const CONTROL_WORDS: usize = STATIONS_END;
+
+// The largest numbers of their types, which are given to no token and to no handle.
+pub const MAX_TOKEN: u64 = 0xFFFF_FFFF_FFFF_FFFF;
+
+pub const MAX_HANDLE: u64 = 0xFFFF_FFFF;
