@@ -1,11 +1,2 @@
-pub mod Parts
-pub mod Dropping
-pub mod Reconnecting
-pub mod Starting
-pub mod StreamsKept
-pub mod PendingRows
 pub mod Lent
-pub mod Accepting
-pub mod Freeing
-pub mod Feeding
 pub mod WholeRuns

@@ -1,5 +1,1 @@
-pub mod Promise
-pub mod Accepted
-pub mod Initial
-pub mod Streams
 pub mod WholeRun

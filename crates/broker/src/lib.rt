@@ -5,22 +5,10 @@ ghost use Rattle.rules.specs.Handle.{isHandle};
 ghost use Rattle.handle.specs.Meaning.{slotsOf};
 ghost use Rattle.handle.specs.Loaded.{loaded};
 ghost use Rattle.valid.specs.Meaning.{memoryOf};
-ghost use Rattle.broker.specs.Promise.{StartPromise, FeedPromise, ReconnectPromise};
+ghost use Rattle.calls.specs.Promise.{StartPromise, FeedPromise, ReconnectPromise};
+use calls::Fed;
 use handle::Handle;
 use handle::list;
-
-mod accept;
-pub mod by_value;
-mod initial;
-mod station;
-
-// What a feed returns: the refusal (0, or 11 to 13), the bytes used, the whole answer's length.
-#[repr(C)]
-pub struct Fed {
-    pub refusal: u32,
-    pub used: usize,
-    pub answered: usize,
-}
 
 // The start's memory, over any memory of the right sizes; else 13.
 #[no_mangle]
@@ -33,7 +21,7 @@ pub extern "C" fn obriska_start(
 ) -> u32
     ensures { λ r. ⌜ StartPromise (memoryOf (now (tokens .entry)) (now (dacls .entry)) (now (handles .entry)) (now (control .entry)) (now (pending .entry))) (memoryOf (now (tokens .exit)) (now (dacls .exit)) (now (handles .exit)) (now (control .exit)) (now (pending .exit))) r ⌝ }
 {
-    let s = by_value::start(tokens, dacls, handles.len(), control, pending);
+    let s = calls::start(tokens, dacls, handles.len(), control, pending);
     list::clear_first(handles, s.freed);
     s.refusal
 }
@@ -54,7 +42,7 @@ pub extern "C" fn obriska_feed(
 {
     let count = handles.len();
     let held = list::load(handles);
-    let turn = by_value::feed(
+    let turn = calls::feed(
         station,
         chunk,
         answer,
@@ -86,7 +74,7 @@ pub extern "C" fn obriska_reconnect(
     ensures { λ r. ⌜ ReconnectPromise (memoryOf (now (tokens .entry)) (now (dacls .entry)) (now (handles .entry)) (now (control .entry)) (now (pending .entry))) station (memoryOf (now (tokens .entry)) (now (dacls .entry)) (now (handles .entry)) (now (control .exit)) (now (pending .exit))) r ⌝ }
 {
     let held = list::load(handles);
-    by_value::reconnect(
+    calls::reconnect(
         station,
         tokens,
         dacls,

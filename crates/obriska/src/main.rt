@@ -5,7 +5,7 @@ ghost use lib.ListN.{length};
 ghost use Rattle.handle.specs.Words.{recordsIn};
 ghost use Rattle.valid.specs.Meaning.{memoryOf};
 ghost use Rattle.obriska.specs.Serving.{bufferBytes, Ready, Steps, Serves, Room, Refilled, Advances, Ends};
-use broker::by_value::MAX_ANSWER;
+use calls::MAX_ANSWER;
 use control::layout::CONTROL_WORDS;
 use handle::Handles;
 use libc::STDIN_FILENO;

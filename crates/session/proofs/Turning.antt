@@ -15,11 +15,11 @@ use Rattle.handle.specs.declared.Handle.{Handle}
 use Rattle.handle.specs.declared.Handles.{Handles}
 use Rattle.valid.specs.Meaning.{memoryOf}
 use Rattle.state.specs.HandleFacts.{changed}
-use Rattle.broker.specs.Promise.{Feeds, freed, StartsWith, FeedsWith}
-use Rattle.broker.specs.declared.by_value.Turn.{Turn}
-use Rattle.broker.specs.declared.by_value.Started.{Started}
+use Rattle.calls.specs.Promise.{Feeds, freed, StartsWith, FeedsWith}
+use Rattle.calls.specs.declared.Turn.{Turn}
+use Rattle.calls.specs.declared.Started.{Started}
 use Rattle.handle.proofs.Words.{records-long}
-use Rattle.broker.proofs.Freeing.{of-bytes}
+use Rattle.calls.proofs.Freeing.{of-bytes}
 use Rattle.session.specs.Program.{fed}
 use Rattle.session.specs.Turns.{Starts, Turns}
 use Rattle.session.specs.declared.turn.Turned.{Turned}

@@ -13,7 +13,7 @@ use Rattle.handle.specs.Meaning.{none}
 use Rattle.handle.specs.Words.{recordsIn}
 use Rattle.handle.specs.declared.Handles.{Handles}
 use Rattle.valid.specs.Meaning.{memoryOf}
-use Rattle.broker.specs.Promise.{FeedPromise}
+use Rattle.calls.specs.Promise.{FeedPromise}
 use Rattle.session.specs.Program.{Output, nothing, fed}
 use Rattle.session.specs.declared.turn.Turned.{Turned}
 

@@ -2,8 +2,7 @@
 ghost use Rattle.handle.specs.Words.{recordsIn};
 ghost use Rattle.valid.specs.Meaning.{memoryOf};
 ghost use Rattle.session.specs.Turns.{Starts, Turns};
-use broker::Fed;
-use broker::by_value;
+use calls::Fed;
 use handle::HANDLE_WORDS;
 use handle::Handles;
 use handle::SLOTS;
@@ -23,7 +22,7 @@ pub fn start(
 ) -> Handles
     ensures { λ r. ⌜ Starts (now (tokens .entry)) (now (dacls .entry)) (now (control .entry)) (now (pending .entry)) (now (tokens .exit)) (now (dacls .exit)) (now (control .exit)) (now (pending .exit)) r ⌝ }
 {
-    by_value::start(tokens, dacls, SLOTS, control, pending);
+    calls::start(tokens, dacls, SLOTS, control, pending);
     Handles {
         words: [0; HANDLE_WORDS],
     }
@@ -42,7 +41,7 @@ pub fn feed(
 ) -> Turned
     ensures { λ r. ⌜ Turns station (now (chunk .entry)) (memoryOf (now (tokens .entry)) (now (dacls .entry)) (recordsIn (handles .words)) (now (control .entry)) (now (pending .entry))) (memoryOf (now (tokens .exit)) (now (dacls .exit)) (recordsIn (r .handles .words)) (now (control .exit)) (now (pending .exit))) (now (out .entry)) (now (out .exit)) r ⌝ }
 {
-    let turn = by_value::feed(
+    let turn = calls::feed(
         station,
         chunk,
         out,

@@ -1,4 +1,4 @@
-//! A model of the rights broker, written from documents 000 to 004 and 01 alone.
+//! A model of the rights broker, written from documents 000 to 004, 01 and 02 alone.
 //!
 //! [`Model`] is document 01's plain desk: it is fed chunks of bytes, station by station, and
 //! gives the answers. [`Memory`] is the lent memory that holds the same state.

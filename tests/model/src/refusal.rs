@@ -14,7 +14,7 @@ pub enum Refusal {
     Privilege,
     /// A bad field or entry, an unknown class, or installing a non-primary token.
     Field,
-    /// A protected group.
+    /// A mandatory, deny-only or logon group, or disabling one with the user's SID.
     Protected,
     /// The token to install is of another user or session.
     Mismatch,

@@ -34,7 +34,7 @@ macro_rules! declare {
             fn $feed(
                 station: u32, data: *const u8, data_len: usize, answer: *mut u8, answer_len: usize,
                 tokens: *mut u64, tokens_len: usize, dacls: *mut u64, dacls_len: usize,
-                handles: *mut u64, handles_len: usize, stations: *mut u64, stations_len: usize,
+                handles: *mut u64, handles_len: usize, control: *mut u64, control_len: usize,
                 pending: *mut u64, pending_len: usize,
             ) -> Turn;
         }
@@ -87,7 +87,7 @@ impl Side {
     /// Feeds a chunk; gives a mixture of refusal, bytes used, the answer's length and its last byte.
     pub fn feed(self, station: u32, data: &[u8], answer: &mut [u8], lent: &mut Lent) -> u64 {
         let call = if self == Side::Now { obriska_feed } else { before_obriska_feed };
-        let [tokens, dacls, handles, stations, pending] = &mut lent.parts;
+        let [tokens, dacls, handles, control, pending] = &mut lent.parts;
         let turn = unsafe {
             call(
                 station,
@@ -101,8 +101,8 @@ impl Side {
                 dacls.len,
                 handles.words.as_mut_ptr(),
                 handles.len,
-                stations.words.as_mut_ptr(),
-                stations.len,
+                control.words.as_mut_ptr(),
+                control.len,
                 pending.words.as_mut_ptr(),
                 pending.len,
             )

@@ -1,6 +1,6 @@
--- broker::obriska_feed meets its contract: a walk of its MIR. The handle list is lent as `&` to list::load and comes back; by_value::feed, which is covered, has the list by value and the other slices;
+-- broker::obriska_feed meets its contract: a walk of its MIR. The handle list is lent as `&` to list::load and comes back; calls::feed, which is covered, has the list by value and the other slices;
 -- list::clear or list::place has the handle list for good, with the one slot that changes.
--- The walk is cut at the calls: `begins` up to list::load, `feeds` up to by_value::feed, `changes` up to either of the last two, `leaves` from there on. At each cut all locals are bare but the parameters and, of `_9` to `_11`, those that are named.
+-- The walk is cut at the calls: `begins` up to list::load, `feeds` up to calls::feed, `changes` up to either of the last two, `leaves` from there on. At each cut all locals are bare but the parameters and, of `_9` to `_11`, those that are named.
 -- Assumes nothing.
 use mathlib.Core.Path.{_≡_, refl}
 use Prim.Native.Nat.{ℕ, _<_, _^_}
@@ -47,18 +47,18 @@ use Rattle.handle.proofs.list.place.Met as place-thm
 use Rattle.state.proofs.handles.Change as X
 use Rattle.state.proofs.handles.Change.Laws as X′
 use Rattle.valid.specs.Meaning.{memoryOf}
-use Rattle.broker.specs.declared.Fed.{Fed}
-use Rattle.broker.specs.declared.by_value.Turn.{Turn}
-use Rattle.broker.specs.Promise.{Feeds, FeedsWith}
+use Rattle.calls.specs.declared.Fed.{Fed}
+use Rattle.calls.specs.declared.Turn.{Turn}
+use Rattle.calls.specs.Promise.{Feeds, FeedsWith}
 use Rattle.broker.proofs.Lent.{sv, fed-at, cleared-at}
-use Rattle.broker.proofs.Fed as F
-use Rattle.broker.proofs.Fed.Laws as F′
-use Rattle.broker.proofs.by_value.Turn as B
-use Rattle.broker.proofs.by_value.Turn.Laws as B′
-use Rattle.broker.proofs.by_value.feed as by-value
-use Rattle.broker.proofs.by_value.feed.Symbol as by-value-def
-use Rattle.broker.proofs.by_value.feed.Symbol.{name as #by-value}
-use Rattle.broker.proofs.by_value.feed.Met as by-value-thm
+use Rattle.calls.proofs.Fed as F
+use Rattle.calls.proofs.Fed.Laws as F′
+use Rattle.calls.proofs.Turn as B
+use Rattle.calls.proofs.Turn.Laws as B′
+use Rattle.calls.proofs.feed as by-value
+use Rattle.calls.proofs.feed.Symbol as by-value-def
+use Rattle.calls.proofs.feed.Symbol.{name as #by-value}
+use Rattle.calls.proofs.feed.Met as by-value-thm
 use Rattle.broker.proofs.obriska_feed as feed
 use Rattle.broker.proofs.obriska_feed.Key.{name as #feed}
 use Rattle.broker.proofs.obriska_feed.Statement as stated
@@ -71,7 +71,7 @@ params = number w32 ∷ lent 0 tt u8 ∷ passed 1 tt u8 ∷ passed 2 tt u64 ∷ 
 abbrev stayed : Stays (feed.ended .signature .params) (feed.ended .kept)
 stayed = stays params
 
--- the machine value of what by_value::feed returns and that it is its; and of what obriska_feed returns
+-- the machine value of what calls::feed returns and that it is its; and of what obriska_feed returns
 abbrev out : Turn → Val
 out r = mach B.the-type B′.the-laws r
 
@@ -139,7 +139,7 @@ module _ {M : Type 1} (𝓤 : URA M) (H : Heap 𝓤) (A : Atoms 𝓤) (W : Given
   abbrev Own : Fml
   Own = u32 .own st (vint w32 st ∷ [])
 
-  -- the tokens, and those that by_value::feed has
+  -- the tokens, and those that calls::feed has
   abbrev Toks : List Fml
   Toks = flft κ₀ q₀ ∷ flft κ₁ q₁ ∷ flft κ₂ q₂ ∷ flft κ₃ q₃ ∷ flft κ₄ q₄ ∷ flft κ₅ q₅ ∷ flft κ₆ q₆ ∷ []
 
@@ -203,7 +203,7 @@ module _ {M : Type 1} (𝓤 : URA M) (H : Heap 𝓤) (A : Atoms 𝓤) (W : Given
           (room (mut-to erased u8) l₁₄ (room (mut-slice erased u8) l₁₅ (room (mut-to erased u64) l₁₆ (room (mut-slice erased u64) l₁₇ (room (mut-to erased u8) l₁₈ (room (mut-slice erased u8) l₁₉
           (room (mut-to erased u64) l₂₀ (room (mut-slice erased u64) l₂₁ (room (mut-to erased u8) l₂₂ (room (mut-slice erased u8) l₂₃ (room tyBool l₂₄ (room tyUnit l₂₅ (room (mut-to erased R) l₂₆ (room (mut-slice erased R) l₂₇ (room tyUnit l₂₈ (room (mut-to erased R) l₂₉ (room (mut-slice erased R) l₃₀ Γ))))))))))))))))))))))))))))
 
-      -- with the list at zs, and what by_value::feed returned in `_11`
+      -- with the list at zs, and what calls::feed returned in `_11`
       leaves : (az ts ds cs ps : List ℕ) (zs : List Handle) (r : Turn) → Out r → length az ≡ length (a .now) → length ts ≡ length (t .now) → length ds ≡ length (d .now) → length cs ≡ length (s .now) → length ps ≡ length (p .now) → length zs ≡ length ys
           → Feeds (feedOn (memoryOf (t .now) (d .now) ys (s .now) (p .now)) st (c .now) (length (a .now))) (memoryOf ts ds zs cs ps) (a .now) az (r .fed)
           → Sq W (Locals (λ Γ. room word l₉ (room S′.mir l₁₀ (full B′.mir l₁₁ (out r) Γ))) (‵ (finally R γ zs) ∷ ‵ (chain (flft κ₄ q₄ ∷ [])) ∷ ‵ (chain Theirs) ∷ ‵ OwnC ∷ items (Lasts az ts ds cs ps) [])) (runs (𝓣 .C) (𝓣 .Λ) En mir.t-18 (atRet En Post))
@@ -214,7 +214,7 @@ module _ {M : Type 1} (𝓤 : URA M) (H : Heap 𝓤) (A : Atoms 𝓤) (W : Given
           free1 ! $ free1 ! $ free1 ! $ free1 ! $ free1 ! $ free1 ! $ free1 ! $ free1 ! $ free1 ! $ free1 ! $ free1 ! $ free1 ! $ free1 ! $ free1 ! $ free1 ! $ free1 ! $ free1 ! $ free1 ! $ free1 ! $ free1 ! $ free1 ! $ free1 ! $ free1 ! $ free1 ! $ free1 ! $ free1 ! $ free1 ! $ free1 ! $ free1 ! $ free1 ! $ free1 ! $ free0 ! $
           by ! (exits az ts ds cs ps zs (r .fed) la lt ld ls lp lh e (parts .0))
 
-      -- with what by_value::feed returned in `_11`
+      -- with what calls::feed returned in `_11`
       changes : (az ts ds cs ps : List ℕ) (hs : Handles) (r : Turn) → recordsIn (hs .words) ≡ loaded ys → Out r → length az ≡ length (a .now) → length ts ≡ length (t .now) → length ds ≡ length (d .now) → length cs ≡ length (s .now) → length ps ≡ length (p .now)
           → FeedsWith st (c .now) (length ys) (recordsIn (hs .words)) (t .now) (d .now) (s .now) (p .now) (a .now) ts ds cs ps az r
           → Sq W (Locals (λ Γ. room word l₉ (room S′.mir l₁₀ (full B′.mir l₁₁ (out r) Γ))) (‵ (flft κ₄ q₄) ∷ ‵ OwnH ∷ ‵ (chain Theirs) ∷ ‵ OwnC ∷ items (Lasts az ts ds cs ps) [])) (runs (𝓣 .C) (𝓣 .Λ) En mir.t-16 (atRet En Post))
@@ -261,7 +261,7 @@ module _ {M : Type 1} (𝓤 : URA M) (H : Heap 𝓤) (A : Atoms 𝓤) (W : Given
           had W ! S.the-type S′.the-laws S′.the-plain hs g $ number-had W ! w64 (length ys) (gh .0) $
           -- [the count's; the list's; chunk's twice; the locals; handles'; κ₄; station's; answer's; tokens'; dacls'; control's; pending's; the tokens]
           move ! (74 ∷ 75 ∷ 76 ∷ 77 ∷ 78 ∷ 79 ∷ 68 ∷ 2 ∷ 69 ∷ 70 ∷ 71 ∷ 0 ∷ 1 ∷ 72 ∷ 73 ∷ []) $ hands W Theirs (Handed hs) $
-          -- [what by_value::feed asks; chunk's; the locals, local k at 2 k + 2; handles'; κ₄]
+          -- [what calls::feed asks; chunk's; the locals, local k at 2 k + 2; handles'; κ₄]
           calls-at ! (fmOf 𝓤 H (W .laws) 𝓣) (ByValue 𝓤 H A at-mem run) known-by-value (to-by-value hs)
           (and-then ! (var ! 4 refl) (and-then ! (var ! 6 refl) (and-then ! (var ! 32 refl) (and-then ! (var ! 36 refl) (and-then ! (var ! 40 refl) (and-then ! (var ! 20 refl) (and-then ! (var ! 22 refl) (and-then ! (var ! 44 refl) (and-then ! (var ! 48 refl) (no-more !)))))))))) (λ u.
           returned ! tt B.the-row (‵ (chain Theirs)) _ (λ ws. lasts by-value.ended (κ₀, (κ₁, (κ₂, (κ₃, (κ₅, (κ₆, tt)))))) (st, (c, (a, (t, (d, (length ys, (hs, (s, (p, tt))))))))) ws)
@@ -312,7 +312,7 @@ obriska-feed-spec 𝓤 H 𝓜 𝓖 𝓡 =
     (a .0) (a .1 .0) (a .1 .1 .0) (a .1 .1 .1 .0) (a .1 .1 .1 .1 .0) (a .1 .1 .1 .1 .1 .0 .ptr .0) (a .1 .1 .1 .1 .1 .0 .ptr .1) (a .1 .1 .1 .1 .1 .0 .name) (a .1 .1 .1 .1 .1 .0 .now) (a .1 .1 .1 .1 .1 .1 .0) (a .1 .1 .1 .1 .1 .1 .1 .0)
     (are .0 .1) (are .1 .0 .0 .1) (are .1 .1 .0 .0 .1) (are .1 .1 .1 .0 .0 .1) (are .1 .1 .1 .1 .0 .0 .1) (are .1 .1 .1 .1 .1 .0 .0 .1) (are .1 .1 .1 .1 .1 .1 .0 .0 .1) (are .1 .1 .1 .1 .1 .1 .1 .0 .0 .1) (here 𝓤 H 𝓜 𝓖 𝓡 code.env)
     (cites 𝓤 H 𝓜 𝓖 𝓡 code.env (Load 𝓤 H (𝓖 .A) (𝓜 .mem) (𝓡 .run)) #load load-def.routine code.calls-handle·list·load (load-thm.met 𝓤 H 𝓜 𝓖 𝓡))
-    (cites 𝓤 H 𝓜 𝓖 𝓡 code.env (ByValue 𝓤 H (𝓖 .A) (𝓜 .mem) (𝓡 .run)) #by-value by-value-def.routine code.calls-broker·by-value·feed (by-value-thm.met 𝓤 H 𝓜 𝓖 𝓡))
+    (cites 𝓤 H 𝓜 𝓖 𝓡 code.env (ByValue 𝓤 H (𝓖 .A) (𝓜 .mem) (𝓡 .run)) #by-value by-value-def.routine code.calls-calls·feed (by-value-thm.met 𝓤 H 𝓜 𝓖 𝓡))
     (cites 𝓤 H 𝓜 𝓖 𝓡 code.env (Clear 𝓤 H (𝓖 .A) (𝓜 .mem) (𝓡 .run)) #clear clear-def.routine code.calls-handle·list·clear (clear-thm.met 𝓤 H 𝓜 𝓖 𝓡))
     (cites 𝓤 H 𝓜 𝓖 𝓡 code.env (Place 𝓤 H (𝓖 .A) (𝓜 .mem) (𝓡 .run)) #place place-def.routine code.calls-handle·list·place (place-thm.met 𝓤 H 𝓜 𝓖 𝓡))))
   where

@@ -1,0 +1,9 @@
+pub mod Parts
+pub mod Dropping
+pub mod Reconnecting
+pub mod Starting
+pub mod StreamsKept
+pub mod PendingRows
+pub mod Accepting
+pub mod Freeing
+pub mod Feeding

@@ -1,0 +1,4 @@
+pub mod Promise
+pub mod Accepted
+pub mod Initial
+pub mod Streams
