@@ -172,6 +172,20 @@ enum obriska_refusal {
     OBRISKA_REFUSED_MEMORY = 13     /* the memory is not valid, or not of its sizes */
 };
 
+/* ---- answers -------------------------------------------------------------------------------- */
+
+/* After the length and the status 0 an answer has its request's fields, as numbers of seven bits a
+ * byte, low bits first, the top bit set on all bytes but the last:
+ *
+ *   1, 3, 9, 10  the number of the new handle;
+ *   4            the report of the class, in which a DACL's bytes are plain;
+ *   5            two words of before the change, at the bits of the named privileges: which were
+ *                present, then which were enabled. In both 0, a privilege was absent; in the first
+ *                alone 1, it was disabled. A reset answers both words whole;
+ *   6            sixteen words of the groups that were enabled before, group i at bit i % 64 of
+ *                word i / 64;
+ *   2, 7, 8, 11  nothing. */
+
 /* ---- rights, token fields and attributes ----------------------------------------------------- */
 
 /* Rights of a handle's mask. */

@@ -159,6 +159,27 @@ static void a_feed_ends_at_the_first_request(void)
     EXPECT(unchanged());
 }
 
+/* Feeds a whole request to station 0; its answer has to be these bytes. */
+static int answers(const uint8_t *data, size_t len, const uint8_t *expected, size_t expected_len)
+{
+    return is(feed(0, data, len), 0, len, expected_len) &&
+           memcmp(answer, expected, expected_len) == 0;
+}
+
+static void request_5_tells_absent_disabled_and_enabled_apart(void)
+{
+    static const uint8_t disable_tcb[] = {0x05, 0x05, 0x01, 0x01, 0x07, 0x00};
+    static const uint8_t remove_tcb[] = {0x05, 0x05, 0x01, 0x01, 0x07, 0x04};
+    static const uint8_t was_enabled[] = {0x05, 0x00, 0x80, 0x01, 0x80, 0x01};
+    static const uint8_t was_disabled[] = {0x04, 0x00, 0x80, 0x01, 0x00};
+    static const uint8_t was_absent[] = {0x03, 0x00, 0x00, 0x00};
+    EXPECT(obriska_memory_start(&memory) == 0);
+    EXPECT(is(feed(0, open_own, sizeof open_own), 0, 3, 3));
+    EXPECT(answers(disable_tcb, sizeof disable_tcb, was_enabled, sizeof was_enabled));
+    EXPECT(answers(remove_tcb, sizeof remove_tcb, was_disabled, sizeof was_disabled));
+    EXPECT(answers(remove_tcb, sizeof remove_tcb, was_absent, sizeof was_absent));
+}
+
 static void a_request_is_answered_at_its_last_byte(void)
 {
     const uint8_t *pending = &memory.pending[3 * OBRISKA_PENDING_BYTES];
@@ -217,6 +238,7 @@ int main(void)
     a_free_handle_slot_is_zero_in_every_byte();
     the_lowest_of_11_to_13_refuses_a_call_and_nothing_is_written();
     a_feed_ends_at_the_first_request();
+    request_5_tells_absent_disabled_and_enabled_apart();
     a_request_is_answered_at_its_last_byte();
     a_broken_stream_ignores_bytes_until_a_reconnect();
     find_gives_the_stations_live_handle();

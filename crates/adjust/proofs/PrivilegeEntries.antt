@@ -33,17 +33,17 @@ small p o v n k a e h =
 -- ---- all of them
 
 module _ (p : Privileges) where
-  reset-judged : (r : Read (List Entry)) → true ≡ isJust 0 0x80000000 r → done (reset p) (p .enabled) ≡ judged p r
+  reset-judged : (r : Read (List Entry)) → true ≡ isJust 0 0x80000000 r → done (reset p) (p .present) (p .enabled) ≡ judged p r
   unfolding judged isJust isReset adjusted previous
   reset-judged (got es later) h = rw (sym h)
   reset-judged bad h = cc
 
   -- what becomes of a pass
   abbrev finished : Progress Privileges → Outcome
-  finished (going q w) = done q (bitAnd (p .enabled) w)
+  finished (going q w) = done q (bitAnd (p .present) w) (bitAnd (p .enabled) w)
   finished stopped = refused
 
-  finished-if : (b : Bool) (q : Privileges) (w : ℕ) → (if b then done q (bitAnd (p .enabled) w) else refused) ≡ finished (if b then going q w else stopped)
+  finished-if : (b : Bool) (q : Privileges) (w : ℕ) → (if b then done q (bitAnd (p .present) w) (bitAnd (p .enabled) w) else refused) ≡ finished (if b then going q w else stopped)
   finished-if true q w = refl
   finished-if false q w = refl
 
@@ -55,12 +55,12 @@ module _ (p : Privileges) where
 
 -- j says that the entries are a reset
 module _ (p q : Code.Privileges) (n : ℕ) (bytes : List ℕ) (j : Bool) (h : j ≡ isJust 0 0x80000000 (times n entry bytes)) where
-  pub was-reset : j ≡ true → privilegesOf q ≡ reset (privilegesOf p) → done (privilegesOf q) (p .enabled) ≡ judged (privilegesOf p) (times n entry bytes)
-  was-reset t e = ap (λ (x : Privileges). done x (p .enabled)) e ∙ reset-judged (privilegesOf p) (times n entry bytes) (sym t ∙ h)
+  pub was-reset : j ≡ true → privilegesOf q ≡ reset (privilegesOf p) → done (privilegesOf q) (p .present) (p .enabled) ≡ judged (privilegesOf p) (times n entry bytes)
+  was-reset t e = ap (λ (x : Privileges). done x (p .present) (p .enabled)) e ∙ reset-judged (privilegesOf p) (times n entry bytes) (sym t ∙ h)
 
   -- o no entry was bad; q and w are what the pass made
   pub was-passed : j ≡ false → (o : Bool) (w : ℕ) → (if o then going (privilegesOf q) w else stopped) ≡ passed (validEntry (privilegesOf p)) applied (privilegesOf p) (times n entry bytes)
-      → (if o && not (eqb n 0) then done (privilegesOf q) (bitAnd (p .enabled) w) else refused) ≡ judged (privilegesOf p) (times n entry bytes)
+      → (if o && not (eqb n 0) then done (privilegesOf q) (bitAnd (p .present) w) (bitAnd (p .enabled) w) else refused) ≡ judged (privilegesOf p) (times n entry bytes)
   was-passed f o w e =
       finished-if (privilegesOf p) (o && not (eqb n 0)) (privilegesOf q) w
       ∙ ap (finished (privilegesOf p)) (pass-whole (validEntry (privilegesOf p)) applied o (privilegesOf q) w (privilegesOf p) n bytes e)

@@ -3,11 +3,11 @@ use Prim.Native.Nat.{ℕ}
 use native.Mathlib.Omega.{arith}
 use mathlib.Core.Path.{_≡_, refl, sym, ap, subst, _∙_}
 use mathlib.Core.Bool.{Bool, true, false, not, _||_}
-use mathlib.Core.List.{List}
+use mathlib.Core.List.{List, [], _∷_}
 use lib.ListN.{drop}
 use borrow.Author.Tests.{not-true, not-false}
 use Rattle.rules.specs.Basic.{if_then_else_}
-use Rattle.rules.specs.Number.{Read, got, encode}
+use Rattle.rules.specs.Number.{Read, got, encodeAll}
 use Rattle.rules.specs.Entry.{Entry, validEntries}
 use Rattle.rules.specs.Request.{times, entry}
 use Rattle.rules.specs.Refusal.{refusal, badField}
@@ -19,7 +19,7 @@ use Rattle.rules.specs.State as state
 use Rattle.rules.specs.State.{State, changeToken, putToken}
 use Rattle.rules.specs.Handle as handles
 use Rattle.rules.specs.Memory.{tokenRow}
-use Rattle.rules.specs.AdjustPrivileges.{isReset, validEntry, previous, adjustedToken, adjust}
+use Rattle.rules.specs.AdjustPrivileges.{isReset, validEntry, report, adjustedToken, adjust}
 use Rattle.rules.specs.Decision.{Decision, carriedOut, need_else_then_, success}
 use Rattle.privilege.specs.Meaning.{privilegesOf}
 use Rattle.privilege.specs.declared.privileges.Privileges as Code
@@ -44,10 +44,10 @@ use Rattle.adjust.specs.EntriesCarried.{EntriesCarried}
 module _ (es : Read (List Entry)) {ws : List ℕ} {p : Code.Privileges} (a : Adjusted) (g : p ≡ privilegesIn ws) (j : outcomeOf a ≡ judged (privilegesOf p) es) where
   -- what the entries come to for the token of the row
   ending : {b : Bool} → a .ok ≡ b → (t : tokens.Token) → ws ≡ tokenRow t
-      → privilegesEnding es t ≡ endingOf t (if b then done (privilegesOf (a .privileges)) (a .previous) else refused)
+      → privilegesEnding es t ≡ endingOf t (if b then done (privilegesOf (a .privileges)) (a .«was_present») (a .«was_enabled») else refused)
   ending k t e =
       ap (λ (q : Privileges). endingOf t (judged q es)) (sym (ap privilegesOf g ∙ privileges-in-row ws t e)) ∙ ap (endingOf t) (sym j)
-      ∙ ap (λ (b : Bool). endingOf t (if b then done (privilegesOf (a .privileges)) (a .previous) else refused)) k
+      ∙ ap (λ (b : Bool). endingOf t (if b then done (privilegesOf (a .privileges)) (a .«was_present») (a .«was_enabled») else refused)) k
 
   pub bad-entry : not (a .ok) ≡ true → RowEnds (privilegesEnding es) ws ws (answers.Refused 5)
   bad-entry f = record {
@@ -57,7 +57,7 @@ module _ (es : Read (List Entry)) {ws : List ℕ} {p : Code.Privileges} (a : Adj
   }
 
   pub adjusts : {ws₁ ws₂ : List ℕ} → not (a .ok) ≡ false → Becomes (withPrivileges (privilegesOf (a .privileges))) ws ws₁ → Becomes nextModified ws₁ ws₂
-      → RowEnds (privilegesEnding es) ws ws₂ (answers.Value (a .previous))
+      → RowEnds (privilegesEnding es) ws ws₂ (answers.Values (a .«was_present») (a .«was_enabled»))
   adjusts f b c = record {
     row = λ t v e. c .row (withPrivileges (privilegesOf (a .privileges)) t) (b .row t e) ∙ ap tokenRow (sym (ap (tokenAfter t) (ending (not-false (a .ok) f) t e)));
     answer = λ t v e ts ds. rw (ending (not-false (a .ok) f) t e);
@@ -70,26 +70,26 @@ module _ (es : Read (List Entry)) {ws : List ℕ} {p : Code.Privileges} (a : Adj
 abbrev rest : List Entry → State → handles.Handle → tokens.Token → Decision
 rest es σ h t =
     need isReset es || validEntries (validEntry (t .privileges)) es else badField then
-    success (changeToken (h .token) (adjustedToken es) σ) (encode (previous es (t .privileges)))
+    success (changeToken (h .token) (adjustedToken es) σ) (report es (t .privileges))
 
-ended-if : (b : Bool) (σ : State) (t : tokens.Token) (p : Privileges) (w : ℕ)
-    → carriedOut σ (need b else badField then success (putToken (nextModified (withPrivileges p t)) σ) (encode w)) ≡ served σ (endingOf t (if b then done p w else refused))
+ended-if : (b : Bool) (σ : State) (t : tokens.Token) (p : Privileges) (w v : ℕ)
+    → carriedOut σ (need b else badField then success (putToken (nextModified (withPrivileges p t)) σ) (encodeAll (w ∷ v ∷ []))) ≡ served σ (endingOf t (if b then done p w v else refused))
 unfolding carriedOut refusal
-ended-if true σ t p w = refl
-ended-if false σ t p w = refl
+ended-if true σ t p w v = refl
+ended-if false σ t p w v = refl
 
 rule : (es : List Entry) (later : List ℕ) → Rule (rest es) (privilegesEnding (got es later))
-unfolding changeToken adjustedToken judged
-rule es later σ h = ended-if _ σ (state.tokenOf σ (h .token)) _ _
+unfolding changeToken adjustedToken report judged
+rule es later σ h = ended-if _ σ (state.tokenOf σ (h .token)) _ _ _
 
 same-number : (t : tokens.Token) (z : Outcome) → tokenAfter t (endingOf t z) .number ≡ t .number
 unfolding nextModified withPrivileges
-same-number t (done p w) = refl
+same-number t (done p w v) = refl
 same-number t refused = refl
 
 same-dacl : (t : tokens.Token) (z : Outcome) → tokenAfter t (endingOf t z) .defaults .dacl ≡ t .defaults .dacl
 unfolding nextModified withPrivileges
-same-dacl t (done p w) = refl
+same-dacl t (done p w v) = refl
 same-dacl t refused = refl
 
 module _ {s n : ℕ} {hs : List Handle} (body : List ℕ) (at count : ℕ) {cs ts ds : List ℕ} {token held : ℕ} {x : Located} (g : TokenLocated s n mask.adjustPrivileges hs ts token held x) where

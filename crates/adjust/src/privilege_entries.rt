@@ -13,11 +13,12 @@ use privilege::words;
 
 const RESET: u64 = 0x8000_0000;
 
-// The privileges after the entries, and the previous enabled bits of those named; or, where not ok, some entry is bad.
+// The privileges after the entries, and which of those named were present and enabled before; or, where not ok, some entry is bad.
 pub struct Adjusted {
     pub ok: bool,
     pub privileges: Privileges,
-    pub previous: u64,
+    pub was_present: u64,
+    pub was_enabled: u64,
 }
 
 // The privileges so far and the word of those named so far, as long as no entry was bad.
@@ -79,7 +80,8 @@ pub fn adjust(p: Privileges, s: &[u8], at: usize, count: u64) -> Adjusted
         return Adjusted {
             ok: true,
             privileges: p.reset(),
-            previous: p.enabled,
+            was_present: p.present,
+            was_enabled: p.enabled,
         };
     }
     let g = pass(p, s, at, count);
@@ -87,6 +89,7 @@ pub fn adjust(p: Privileges, s: &[u8], at: usize, count: u64) -> Adjusted
     Adjusted {
         ok: g.ok & (count != 0),
         privileges,
-        previous: p.enabled & g.named,
+        was_present: p.present & g.named,
+        was_enabled: p.enabled & g.named,
     }
 }

@@ -35,7 +35,7 @@ fn adjust_row(s: &[u8], at: usize, count: u64, words: &mut [u64]) -> Answer
     let made = adjusted.privileges;
     row::set_privileges(words, made);
     row::step_modified(words);
-    Answer::Value(adjusted.previous)
+    Answer::Values(adjusted.was_present, adjusted.was_enabled)
 }
 
 pub fn adjust_privileges(

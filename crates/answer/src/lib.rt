@@ -38,9 +38,9 @@ pub enum Answer {
     TooSmall(u64),
     // Success, with nothing more.
     Done,
-    // Success, with a new handle or the report of request 5.
+    // Success, with a new handle.
     Value(u64),
-    // Success, with two numbers.
+    // Success, with the two words of request 5's report.
     Values(u64, u64),
     // Success, with the first of request 6's sixteen words; the others are 0, as no token has more than 64 groups.
     Report(u64),

@@ -277,17 +277,21 @@ module _ (σ : State) (f : StateFacts σ) (s : ℕ) where
       let report = word (length (Query.classBytes t class)) (omega arith) in
       (omega arith, λ ok. (omega arith, λ enough. l))
 
+  previous-fits : (es : List Entry) (w : ℕ) → w < 2 ^ 64 → length (encode (AdjustPrivileges.previous es w)) ≤ 10
+  unfolding AdjustPrivileges.previous
+  previous-fits es w h =
+      on-if (λ (x : ℕ). length (encode x) ≤ 10) (AdjustPrivileges.isReset es) w (bitAnd w (AdjustPrivileges.named es))
+      (λ t. word w h)
+      (λ t. word (bitAnd w (AdjustPrivileges.named es)) (omega (arith, and-le-l w (AdjustPrivileges.named es))))
+
   adjusts-privileges : (n : ℕ) (es : List Entry) → Fits (AdjustPrivileges.adjust σ s n es)
-  unfolding AdjustPrivileges.adjust AdjustPrivileges.previous Fits refusal
+  unfolding AdjustPrivileges.adjust AdjustPrivileges.report encodeAll Fits refusal
   adjusts-privileges n es = on-handle n _ _ λ k.
       let p = tokenOf σ (handleOf σ s n .token) .privileges in
       let v = sound p (token-ok σ (handleOf σ s n .token) f (k .token) .privileges) in
-      let on = known (p .enabled) (within-trans (p .enabled) (p .present) existing (v .enabled) (v .present)) in (
-        omega arith,
-        λ ok. on-if (λ (w : ℕ). length (encode w) ≤ most) (AdjustPrivileges.isReset es) (p .enabled) (bitAnd (p .enabled) (AdjustPrivileges.named es))
-            (λ t. let l = word (p .enabled) on in omega arith)
-            (λ t. let l = word (bitAnd (p .enabled) (AdjustPrivileges.named es)) (omega (arith, and-le-l (p .enabled) (AdjustPrivileges.named es))) in omega arith),
-      )
+      let here = previous-fits es (p .present) (known (p .present) (v .present)) in
+      let on = previous-fits es (p .enabled) (known (p .enabled) (within-trans (p .enabled) (p .present) existing (v .enabled) (v .present))) in
+      (omega arith, λ ok. simp length-append (omega arith))
 
   adjusts-groups : (n : ℕ) (es : List Entry) → Fits (AdjustGroups.adjust σ s n es)
   unfolding AdjustGroups.adjust Fits refusal

@@ -55,7 +55,7 @@ unfolding
     OpenClose.openOwn OpenClose.close
     Create.validPair Create.validIntegrity Create.validCreate Create.entered Create.create
     Query.pairs Query.words Query.classes Query.classBytes Query.query
-    AdjustPrivileges.isReset AdjustPrivileges.validEntry AdjustPrivileges.applied AdjustPrivileges.adjusted AdjustPrivileges.named AdjustPrivileges.previous AdjustPrivileges.adjustedToken AdjustPrivileges.adjust
+    AdjustPrivileges.isReset AdjustPrivileges.validEntry AdjustPrivileges.applied AdjustPrivileges.adjusted AdjustPrivileges.named AdjustPrivileges.previous AdjustPrivileges.report AdjustPrivileges.adjustedToken AdjustPrivileges.adjust
     AdjustGroups.isReset AdjustGroups.validEntry AdjustGroups.isProtected AdjustGroups.unprotected AdjustGroups.applied AdjustGroups.resetGroup AdjustGroups.adjusted AdjustGroups.enabledBits AdjustGroups.enabledWords AdjustGroups.adjustedToken AdjustGroups.adjust
     AdjustScope.scopedToken AdjustScope.scope
     AdjustDefaults.validOwner AdjustDefaults.validGroup AdjustDefaults.validDacl AdjustDefaults.validDefaults AdjustDefaults.orKept AdjustDefaults.adjusted AdjustDefaults.adjustedToken AdjustDefaults.adjust

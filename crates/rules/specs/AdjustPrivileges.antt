@@ -5,7 +5,7 @@ use mathlib.Core.List.{List, [], _∷_}
 use lib.Bits.{bitAnd}
 use lib.Dec.{eqb}
 use Rattle.rules.specs.Basic.{if_then_else_}
-use Rattle.rules.specs.Number.{encode}
+use Rattle.rules.specs.Number.{encodeAll}
 use Rattle.rules.specs.Bits.{has}
 use Rattle.rules.specs.Mask.{adjustPrivileges}
 use Rattle.rules.specs.Refusal.{badField}
@@ -37,9 +37,13 @@ unfoldable pub named : List Entry → ℕ
 named [] = 0
 named (e ∷ es) = 2 ^ e.key + named es
 
--- the previous enabled word at the named bits; for reset, the whole word
-unfoldable pub previous : List Entry → Privileges → ℕ
-previous es p = if isReset es then p.enabled else bitAnd p.enabled (named es)
+-- a previous word at the named bits; for reset, the whole word
+unfoldable pub previous : List Entry → ℕ → ℕ
+previous es w = if isReset es then w else bitAnd w (named es)
+
+-- what was present, then what was enabled
+unfoldable pub report : List Entry → Privileges → List ℕ
+report es p = encodeAll (previous es p.present ∷ previous es p.enabled ∷ [])
 
 unfoldable pub adjustedToken : List Entry → Token → Token
 adjustedToken es t = nextModified (withPrivileges (adjusted es t.privileges) t)
@@ -48,4 +52,4 @@ unfoldable pub adjust : State → ℕ → ℕ → List Entry → Decision
 adjust σ s n es =
     withHandle σ s n adjustPrivileges λ h t.
     need isReset es || validEntries (validEntry t.privileges) es else badField then
-    success (changeToken h.token (adjustedToken es) σ) (encode (previous es t.privileges))
+    success (changeToken h.token (adjustedToken es) σ) (report es t.privileges)

@@ -63,7 +63,7 @@ unfoldable pub table : List Row
 table =
     -- A to D: open with mask 0x28, disable Tcb, ask for the privileges with capacity 64, 18 and 19
     (answers (at 0 (openWith 0x28 ∷ adjust 7 0 ∷ queryWords 0x40 ∷ queryWords 18 ∷ queryWords 19 ∷ []))
-    gives handle 1 ∷ (0x03 ∷ 0x00 ∷ 0x80 ∷ 0x01 ∷ []) ∷ words ∷ (0x02 ∷ 0x09 ∷ 0x13 ∷ []) ∷ words ∷ [])
+    gives handle 1 ∷ (0x05 ∷ 0x00 ∷ 0x80 ∷ 0x01 ∷ 0x80 ∷ 0x01 ∷ []) ∷ words ∷ (0x02 ∷ 0x09 ∷ 0x13 ∷ []) ∷ words ∷ [])
     -- E: a body of 2,048 bytes is served at its last one (no request is numbered 0)
     ∷ (answers (at 0 ((0x80 ∷ 0x10 ∷ []) ∷ replicate 2047 0 ∷ (0x00 ∷ []) ∷ [])) gives [] ∷ [] ∷ status 1 ∷ [])
     -- F: the next length breaks the stream, and what follows is eaten
@@ -74,14 +74,14 @@ table =
     ∷ (answers (at 0 ((0x03 ∷ 0x01 ∷ 0xEF ∷ 0x03 ∷ []) ∷ openWith 0x10 ∷ [])) gives handle 1 ∷ status 5 ∷ [])
     -- I: privilege 36 passes, 37 does not
     ∷ (answers (at 0 (openWith 0x28 ∷ adjust 36 0 ∷ adjust 37 0 ∷ []))
-    gives handle 1 ∷ (0x07 ∷ 0x00 ∷ 0x80 ∷ 0x80 ∷ 0x80 ∷ 0x80 ∷ 0x80 ∷ 0x02 ∷ []) ∷ status 5 ∷ [])
+    gives handle 1 ∷ (0x0D ∷ 0x00 ∷ 0x80 ∷ 0x80 ∷ 0x80 ∷ 0x80 ∷ 0x80 ∷ 0x02 ∷ 0x80 ∷ 0x80 ∷ 0x80 ∷ 0x80 ∷ 0x80 ∷ 0x02 ∷ []) ∷ status 5 ∷ [])
     -- J: the 33rd handle
     ∷ (answers (at 0 (replicate 33 (openWith 0x28))) gives handles 32 1 ++ (status 8 ∷ []))
     -- K: the number 80 00
     ∷ (answers (at 0 ((0x03 ∷ 0x01 ∷ 0x80 ∷ 0x00 ∷ []) ∷ [])) gives status 1 ∷ [])
     -- L: privilege 7 removed twice; the second time only the modified number of token 1 steps
     ∷ (answers (at 0 (openWith 0x28 ∷ adjust 7 4 ∷ adjust 7 4 ∷ []))
-    gives handle 1 ∷ (0x03 ∷ 0x00 ∷ 0x80 ∷ 0x01 ∷ []) ∷ (0x02 ∷ 0x00 ∷ 0x00 ∷ []) ∷ [])
+    gives handle 1 ∷ (0x05 ∷ 0x00 ∷ 0x80 ∷ 0x01 ∷ 0x80 ∷ 0x01 ∷ []) ∷ (0x03 ∷ 0x00 ∷ 0x00 ∷ 0x00 ∷ []) ∷ [])
     ∷ (after (at 0 (openWith 0x28 ∷ adjust 7 4 ∷ adjust 7 4 ∷ [])) start
     is changeToken 1 nextModified (after (at 0 (openWith 0x28 ∷ adjust 7 4 ∷ [])) start))
     ∷ []

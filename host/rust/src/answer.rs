@@ -40,7 +40,8 @@ impl Answer {
         self.body().first().and_then(|&status| Refusal::from_number(status.into()))
     }
 
-    /// The bytes after the status: a success's fields, or the size that refusal 9 gives.
+    /// The bytes after the status: a success's fields, or the size that refusal 9 gives. Those of
+    /// request 5 are a [`PreviousPrivileges`](crate::PreviousPrivileges).
     pub fn fields(&self) -> &[u8] {
         self.body().get(1..).unwrap_or_default()
     }

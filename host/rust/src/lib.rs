@@ -12,9 +12,9 @@
 //! // Station 0 opens its own token for query and adjust-privileges: it gets handle 1.
 //! let answers = broker.feed(0, &[0x02, 0x01, 0x28])?;
 //! assert_eq!(answers[0].bytes(), [0x02, 0x00, 0x01]);
-//! // It disables Tcb, which was enabled.
+//! // It disables Tcb, which was present and enabled.
 //! let answers = broker.feed(0, &[0x05, 0x05, 0x01, 0x01, 0x07, 0x00])?;
-//! assert_eq!(answers[0].bytes(), [0x03, 0x00, 0x80, 0x01]);
+//! assert_eq!(answers[0].bytes(), [0x05, 0x00, 0x80, 0x01, 0x80, 0x01]);
 //!
 //! let handle = broker.handle(0, 1).expect("it was just opened");
 //! let token = broker.token(handle.token).expect("a handle's token is live");
@@ -35,6 +35,7 @@ mod layout;
 mod memory;
 pub mod names;
 pub mod number;
+mod previous;
 mod refusal;
 mod view;
 
@@ -44,5 +45,6 @@ pub use layout::{
     HANDLES, LENGTH_BYTES, MAX_ANSWER, MAX_BODY, MAX_DACL, MAX_GROUPS, MAX_RESTRICTING,
     MEMORY_BYTES, STATIONS, TOKENS,
 };
+pub use previous::{PreviousPrivileges, PrivilegeState};
 pub use refusal::Refusal;
 pub use view::{Elevation, Group, Handle, Level, Privileges, Station, Token, TokenType};

@@ -51,8 +51,13 @@ pub struct Privileges {
 impl Privileges {
     /// Whether privilege n is enabled.
     pub fn enables(&self, privilege: u32) -> bool {
-        self.enabled.checked_shr(privilege).is_some_and(|word| word & 1 == 1)
+        has_bit(self.enabled, privilege)
     }
+}
+
+/// Whether a word has this bit.
+pub(crate) fn has_bit(word: u64, bit: u32) -> bool {
+    word.checked_shr(bit).is_some_and(|word| word & 1 == 1)
 }
 
 /// A group of a token.

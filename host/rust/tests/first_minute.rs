@@ -1,4 +1,4 @@
-//! Document 01's cases A to L, byte by byte, through the crate.
+//! Document 01's cases A to L, with the report of document 02, W6, byte by byte, through the crate.
 
 use obriska::{Broker, Refusal, TokenType, HANDLES, MAX_BODY};
 
@@ -11,6 +11,7 @@ fn ask(broker: &mut Broker, station: u32, frame: &[u8]) -> Vec<u8> {
 
 const OPEN: [u8; 3] = [0x02, 0x01, 0x28];
 const DISABLE_TCB: [u8; 6] = [0x05, 0x05, 0x01, 0x01, 0x07, 0x00];
+const TCB_WAS_ENABLED: [u8; 6] = [0x05, 0x00, 0x80, 0x01, 0x80, 0x01];
 const QUERY_PRIVILEGES: [u8; 5] = [0x04, 0x04, 0x01, 0x03, 0x40];
 const PRIVILEGES: [u8; 21] = [
     0x14, 0x00, 0xFC, 0xFF, 0xFF, 0xFF, 0xFF, 0x03, 0xFC, 0xFE, 0xFF, 0xFF, 0xFF, 0x03, 0xFC, 0xFF,
@@ -20,7 +21,7 @@ const PRIVILEGES: [u8; 21] = [
 fn after_b() -> Broker {
     let mut broker = Broker::start();
     assert_eq!(ask(&mut broker, 0, &OPEN), [0x02, 0x00, 0x01]);
-    assert_eq!(ask(&mut broker, 0, &DISABLE_TCB), [0x03, 0x00, 0x80, 0x01]);
+    assert_eq!(ask(&mut broker, 0, &DISABLE_TCB), TCB_WAS_ENABLED);
     broker
 }
 
@@ -81,7 +82,8 @@ fn h_checks_the_mask() {
 #[test]
 fn i_knows_privileges_up_to_36() {
     let mut broker = after_b();
-    let previous = [0x07, 0x00, 0x80, 0x80, 0x80, 0x80, 0x80, 0x02];
+    let bit_36 = [0x80, 0x80, 0x80, 0x80, 0x80, 0x02];
+    let previous = [&[0x0D, 0x00][..], &bit_36, &bit_36].concat();
     assert_eq!(ask(&mut broker, 0, &[0x05, 0x05, 0x01, 0x01, 36, 0x00]), previous);
     assert_eq!(ask(&mut broker, 0, &[0x05, 0x05, 0x01, 0x01, 37, 0x00]), [0x01, 0x05]);
 }
@@ -106,9 +108,9 @@ fn l_steps_modified_only_at_the_second_removal() {
     let mut broker = Broker::start();
     ask(&mut broker, 0, &OPEN);
     let remove = [0x05, 0x05, 0x01, 0x01, 0x07, 0x04];
-    assert_eq!(ask(&mut broker, 0, &remove), [0x03, 0x00, 0x80, 0x01]);
+    assert_eq!(ask(&mut broker, 0, &remove), TCB_WAS_ENABLED);
     let first = broker.token(1).unwrap();
-    assert_eq!(ask(&mut broker, 0, &remove), [0x02, 0x00, 0x00]);
+    assert_eq!(ask(&mut broker, 0, &remove), [0x03, 0x00, 0x00, 0x00]);
     let second = broker.token(1).unwrap();
     assert_eq!((first.modified, second.modified), (2, 3));
     assert_eq!(obriska::Token { modified: 2, ..second }, first);

@@ -1,8 +1,9 @@
 //! Answers in words.
 
-use obriska::{names, number, Answer, Refusal, MAX_BODY};
+use obriska::{names, number, Answer, PreviousPrivileges, Refusal, MAX_BODY};
 
 use crate::hex;
+use crate::request::RESET_PRIVILEGES;
 use crate::vocabulary::{self, ELEVATIONS, LEVELS, TYPES};
 
 /// The bodies of the whole requests that a stream begins with.
@@ -40,13 +41,27 @@ fn success(request: &[u8], fields: &[u8]) -> Option<Vec<String>> {
             let (_handle, rest) = number::read(rest)?;
             report(number::read(rest)?.0, fields)
         }
-        5 => {
-            let previous = number::read(fields)?.0;
-            Some(vec![format!("enabled before: {}", vocabulary::privileges_text(previous))])
-        }
+        5 => previous(&number::read_all(rest)?, PreviousPrivileges::read(fields)?),
         6 => Some(vec![format!("enabled before: {}", groups_text(&number::read_all(fields)?))]),
         _ => None,
     }
+}
+
+/// How each privilege that request 5 named was before it; after a reset, how those present were.
+fn previous(request: &[u64], previous: PreviousPrivileges) -> Option<Vec<String>> {
+    let [_handle, _count, entries @ ..] = request else {
+        return None;
+    };
+    if *entries == RESET_PRIVILEGES {
+        let PreviousPrivileges { present, enabled } = previous;
+        let line = |name, word| format!("was {name}: {}", vocabulary::privileges_text(word));
+        return Some(vec![line("enabled", enabled), line("disabled", present & !enabled)]);
+    }
+    let line = |entry: &[u64]| {
+        let state = previous.state(entry[0] as u32);
+        format!("{} was {state}", vocabulary::privilege_text(entry[0]))
+    };
+    Some(entries.chunks_exact(2).map(line).collect())
 }
 
 /// The groups whose bits are set in these words.
@@ -153,11 +168,30 @@ mod tests {
     fn successes_say_what_they_answer() {
         let said = |request: &[u8], fields: &[u8]| success(request, fields).unwrap();
         assert_eq!(said(&[1, 8], &[5]), ["handle 5"]);
-        assert_eq!(said(&[5, 1, 1, 7, 0], &[0x80, 1]), ["enabled before: SeTcbPrivilege 7"]);
-        assert_eq!(said(&[5, 1, 1, 7, 0], &[0]), ["enabled before: none"]);
         let words = [[9].as_slice(), &[0; 15]].concat();
         assert_eq!(said(&[6, 1, 1, 0, 0], &words), ["enabled before: groups 0, 3"]);
         assert_eq!(success(&[2, 1], &[]), None);
+    }
+
+    #[test]
+    fn request_5_says_how_each_named_privilege_was() {
+        let said = |request: &[u8], fields: &[u8]| success(request, fields).unwrap();
+        assert_eq!(said(&[5, 1, 1, 7, 0], &[0x80, 1, 0x80, 1]), ["SeTcbPrivilege 7 was enabled"]);
+        assert_eq!(
+            said(&[5, 1, 3, 20, 4, 7, 2, 2, 0], &[0x84, 1, 4]),
+            [
+                "SeDebugPrivilege 20 was absent",
+                "SeTcbPrivilege 7 was disabled",
+                "SeCreateTokenPrivilege 2 was enabled",
+            ]
+        );
+        let reset = [5, 1, 1, 0, 0x80, 0x80, 0x80, 0x80, 8];
+        assert_eq!(
+            said(&reset, &[0x84, 1, 4]),
+            ["was enabled: SeCreateTokenPrivilege 2", "was disabled: SeTcbPrivilege 7"]
+        );
+        assert_eq!(said(&reset, &[0, 0]), ["was enabled: none", "was disabled: none"]);
+        assert_eq!(success(&[5, 1, 1, 7, 0], &[0x80, 1]), None);
     }
 
     #[test]

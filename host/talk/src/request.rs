@@ -10,7 +10,7 @@ use crate::words::{Mistake, Word};
 /// An index that changes nothing, in a default request.
 const KEEP: u64 = 0xFFFF;
 /// The single pair that resets the privileges.
-const RESET_PRIVILEGES: [u64; 2] = [0, 0x8000_0000];
+pub const RESET_PRIVILEGES: [u64; 2] = [0, 0x8000_0000];
 /// The single pair that resets the groups.
 const RESET_GROUPS: [u64; 2] = [0xFFFF_FFFF, 0];
 

@@ -160,7 +160,12 @@ pub fn privileges_text(word: u64) -> String {
 
 fn privilege_names(word: u64) -> String {
     let set = names::PRIVILEGES.iter().filter(|named| word >> named.0 & 1 == 1);
-    set.map(|(number, name)| format!("{name} {number}")).collect::<Vec<_>>().join(", ")
+    set.map(|named| privilege_text(named.0.into())).collect::<Vec<_>>().join(", ")
+}
+
+/// A privilege by name and number.
+pub fn privilege_text(privilege: u64) -> String {
+    format!("{} {privilege}", text(&names::PRIVILEGES, privilege))
 }
 
 #[cfg(test)]

@@ -1,4 +1,5 @@
-//! Cases A to L of document 01 through the static library, byte by byte, and the model beside it.
+//! Cases A to L of document 01, with the report of document 02, W6, through the static library, byte
+//! by byte, and the model beside it.
 
 use compare::lists::Both;
 use compare::Lent;
@@ -7,7 +8,8 @@ use model::Fed;
 type Pair = Both<Lent>;
 
 const A: ([u8; 3], [u8; 3]) = ([0x02, 0x01, 0x28], [0x02, 0x00, 0x01]);
-const B: ([u8; 6], [u8; 4]) = ([0x05, 0x05, 0x01, 0x01, 0x07, 0x00], [0x03, 0x00, 0x80, 0x01]);
+const B: ([u8; 6], [u8; 6]) =
+    ([0x05, 0x05, 0x01, 0x01, 0x07, 0x00], [0x05, 0x00, 0x80, 0x01, 0x80, 0x01]);
 
 /// Feeds a whole frame; gives its answer.
 fn answer(both: &mut Pair, station: u32, frame: &[u8]) -> Vec<u8> {
@@ -30,7 +32,7 @@ fn case_a_opens_the_own_token() {
 }
 
 #[test]
-fn case_b_reports_that_tcb_was_enabled() {
+fn case_b_reports_that_tcb_was_present_and_enabled() {
     let both = after_b();
     assert!(!both.model.primary(0).privileges.holds(model::TCB));
 }
@@ -85,7 +87,9 @@ fn case_h_opens_all_rights_and_refuses_0x10() {
 fn case_i_knows_privilege_36_and_not_37() {
     let mut both = after_b();
     let frame = |privilege| [0x05, 0x05, 0x01, 0x01, privilege, 0x00];
-    assert_eq!(answer(&mut both, 0, &frame(36))[1], 0);
+    let bit_36 = [0x80, 0x80, 0x80, 0x80, 0x80, 0x02];
+    let report = [&[0x0D, 0x00][..], &bit_36, &bit_36].concat();
+    assert_eq!(answer(&mut both, 0, &frame(36)), report);
     assert_eq!(answer(&mut both, 0, &frame(37)), [0x01, 0x05]);
 }
 
@@ -110,9 +114,9 @@ fn case_l_steps_modified_only_at_the_second_removal() {
     let mut both = Pair::start();
     let remove = [0x05, 0x05, 0x01, 0x01, 0x07, 0x04];
     assert_eq!(answer(&mut both, 0, &A.0), A.1);
-    assert_eq!(answer(&mut both, 0, &remove), [0x03, 0x00, 0x80, 0x01]);
+    assert_eq!(answer(&mut both, 0, &remove), B.1);
     let mut expected = both.model.clone();
     expected.tokens[0].as_mut().expect("token 1").step_modified();
-    assert_eq!(answer(&mut both, 0, &remove), [0x02, 0x00, 0x00]);
+    assert_eq!(answer(&mut both, 0, &remove), [0x03, 0x00, 0x00, 0x00]);
     assert_eq!(both.model, expected);
 }

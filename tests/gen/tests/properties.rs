@@ -1,7 +1,11 @@
-//! Demand 3 on the model itself: what never grows, what stays, and that cuts change nothing.
+//! Demand 3 on the model itself: what never grows, what stays, and that cuts change nothing. And
+//! that request 5 reports what was before.
 
-use gen::{each_seed, run, state, Call, Step};
-use model::{Group, Model, Request, Token, STATIONS};
+use std::cell::RefCell;
+use std::collections::BTreeMap;
+
+use gen::{each_seed, one_seed, run, state, Call, Step};
+use model::{Group, Model, Reader, Request, Token, RESET_PRIVILEGES, STATIONS};
 
 /// Many scripts, from the start and from random states.
 fn run_all(check: impl Fn(&Step) + Copy) {
@@ -81,6 +85,13 @@ fn ended_request(step: &Step) -> Option<(usize, Request)> {
     Some((station, Request::read(&body)?))
 }
 
+/// The token of the station's live handle.
+fn token_of(model: &Model, station: usize, handle: u32) -> Option<&Token> {
+    let mut handles = model.handles.iter().flatten();
+    let live = handles.find(|live| live.number == handle && live.station as usize == station)?;
+    model.token(live.token)
+}
+
 #[test]
 fn a_copy_begins_with_no_privilege_that_its_source_lacked() {
     run_all(|step| {
@@ -92,11 +103,7 @@ fn a_copy_begins_with_no_privilege_that_its_source_lacked() {
         if step.status() != Some(0) {
             return;
         }
-        let mut handles = before.handles.iter().flatten();
-        let source = handles
-            .find(|live| live.number == handle && live.station as usize == station)
-            .and_then(|live| before.token(live.token))
-            .expect("a success has a source");
+        let source = token_of(before, station, handle).expect("a success has a source");
         let copy = after.token(before.next_token).expect("a success has a copy");
         assert_eq!(copy.privileges.present & !source.privileges.present, 0);
         assert_eq!(copy.privileges.used, source.privileges.used);
@@ -168,4 +175,44 @@ fn modified_steps_by_one_on_the_adjusted_token_only() {
             assert_eq!(old.modified.wrapping_add(1), new.modified, "{call:?}");
         }
     });
+}
+
+/// The two words that a success of request 5 answers after its length and its status, a byte each.
+fn previous_words(answer: &[u8]) -> (u64, u64) {
+    let mut report = Reader::new(&answer[2..]);
+    let words = (report.u64().expect("present"), report.u64().expect("enabled"));
+    assert!(report.at_end());
+    words
+}
+
+#[test]
+fn request_5_reports_how_each_named_privilege_was() {
+    let seen = RefCell::new(BTreeMap::new());
+    run_all(|step| {
+        let Some((station, request)) = ended_request(step) else { return };
+        let Request::Privileges { handle, entries } = request else { return };
+        if step.status() != Some(0) {
+            return;
+        }
+        let before = token_of(step.before, station, handle).expect("a success has a token");
+        let (present, enabled) = previous_words(&step.fed.answer);
+        let words = (before.privileges.present, before.privileges.enabled);
+        if entries == [RESET_PRIVILEGES] {
+            assert_eq!((present, enabled), words, "{:?}", step.call);
+            return;
+        }
+        let named = entries.iter().fold(0, |named, &(privilege, _)| named | 1 << privilege);
+        assert_eq!((present, enabled), (words.0 & named, words.1 & named), "{:?}", step.call);
+        for (privilege, action) in entries {
+            let was = (present >> privilege & 1, enabled >> privilege & 1);
+            *seen.borrow_mut().entry((was, action)).or_insert(0) += 1;
+        }
+    });
+    // Absent, disabled and enabled ones, each with all that may be asked of it.
+    let [absent, disabled, enabled] = [(0, 0), (1, 0), (1, 1)];
+    let whatever = [disabled, enabled].into_iter().flat_map(|was| [0, 2, 4].map(|to| (was, to)));
+    for case in whatever.chain([(absent, 0), (absent, 4)]) {
+        let count = seen.borrow().get(&case).copied().unwrap_or(0);
+        assert!(one_seed().is_some() || count >= 10, "{case:?}: {count}");
+    }
 }

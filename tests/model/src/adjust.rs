@@ -19,7 +19,8 @@ pub(crate) const ENABLED_WORDS: usize = 16;
 const WORD_BITS: usize = u64::BITS as usize;
 
 impl Model {
-    /// 5: the answer is the previous enabled word at the named bits, or all of it for a reset.
+    /// 5: the answer is what was present and what was enabled before, at the named bits; for a
+    /// reset, both whole words.
     pub(crate) fn adjust_privileges(
         &mut self,
         station: usize,
@@ -29,17 +30,18 @@ impl Model {
         let handle = self.granted(station, handle, Mask::ADJUST_PRIVILEGES)?;
         let token = self.live_mut(handle.token);
         let before = token.privileges;
-        let mut report = Vec::new();
-        if entries == [RESET_PRIVILEGES] {
+        let reported = if entries == [RESET_PRIVILEGES] {
             token.privileges = before.reset();
-            write_number(before.enabled, &mut report);
+            u64::MAX
         } else {
             Refusal::Field.unless(entries_are_good(before, entries))?;
             token.privileges = entries.iter().fold(before, adjusted);
-            let named = entries.iter().fold(0, |named, &(privilege, _)| named | 1 << privilege);
-            write_number(before.enabled & named, &mut report);
-        }
+            entries.iter().fold(0, |named, &(privilege, _)| named | 1 << privilege)
+        };
         token.step_modified();
+        let mut report = Vec::new();
+        write_number(before.present & reported, &mut report);
+        write_number(before.enabled & reported, &mut report);
         Ok(report)
     }
 

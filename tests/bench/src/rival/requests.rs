@@ -89,15 +89,16 @@ impl Memory<'_> {
         let [present, enabled, default] = words.map(|word| self.tokens[slot][word]);
         if reset {
             self.tokens[slot][word::ENABLED] = default;
-            out.number(enabled);
+            named = u64::MAX;
         } else {
             refuse(5, !bad && enable & !present == 0)?;
             let row = &mut self.tokens[slot];
             row[word::PRESENT] = present & !remove;
             row[word::ENABLED] = (enabled | enable) & !(disable | remove);
             row[word::DEFAULT] = default & !remove;
-            out.number(enabled & named);
         }
+        out.number(present & named);
+        out.number(enabled & named);
         self.step_modified(slot);
         Ok(())
     }

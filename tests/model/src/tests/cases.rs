@@ -1,6 +1,7 @@
-//! Cases A to L of document 01, byte by byte, and after them all in one run.
+//! Cases A to L of document 01 with the report of document 02, W6, byte by byte, and after them all
+//! in one run.
 
-use super::{ask, body, open, send, status};
+use super::{ask, body, send};
 use crate::{framed, Fed, Model, MIN_BUFFER};
 
 fn fed(model: &mut Model, station: u32, frame: &[u8]) -> Vec<u8> {
@@ -14,7 +15,7 @@ fn after_b() -> Model {
     let mut model = Model::start();
     assert_eq!(fed(&mut model, 0, &[0x02, 0x01, 0x28]), [0x02, 0x00, 0x01]);
     let frame = [0x05, 0x05, 0x01, 0x01, 0x07, 0x00];
-    assert_eq!(fed(&mut model, 0, &frame), [0x03, 0x00, 0x80, 0x01]);
+    assert_eq!(fed(&mut model, 0, &frame), [0x05, 0x00, 0x80, 0x01, 0x80, 0x01]);
     model
 }
 
@@ -26,7 +27,7 @@ fn a_opens_the_own_token() {
 }
 
 #[test]
-fn b_disables_tcb_and_reports_that_it_was_enabled() {
+fn b_disables_tcb_and_reports_that_it_was_present_and_enabled() {
     let model = after_b();
     assert!(!model.primary(0).privileges.holds(7));
     assert_eq!(model.primary(0).modified, 2);
@@ -80,10 +81,12 @@ fn h_checks_the_mask() {
 
 #[test]
 fn i_knows_privileges_up_to_36() {
-    let mut model = Model::start();
-    let own = open(&mut model, 0, 0x20);
-    assert_eq!(status(&mut model, 0, &[5, own, 1, 36, 0]), 0);
-    assert_eq!(status(&mut model, 0, &[5, own, 1, 37, 0]), 5);
+    let mut model = after_b();
+    let frame = |privilege| [0x05, 0x05, 0x01, 0x01, privilege, 0x00];
+    let bit_36 = [0x80, 0x80, 0x80, 0x80, 0x80, 0x02];
+    let report = [&[0x0D, 0x00][..], &bit_36, &bit_36].concat();
+    assert_eq!(fed(&mut model, 0, &frame(36)), report);
+    assert_eq!(fed(&mut model, 0, &frame(37)), [0x01, 0x05]);
 }
 
 #[test]
@@ -105,11 +108,12 @@ fn k_refuses_a_number_not_in_its_shortest_form() {
 #[test]
 fn l_steps_modified_only_at_the_second_removal() {
     let mut model = Model::start();
-    let own = open(&mut model, 0, 0x20);
-    assert_eq!(ask(&mut model, 0, &[5, own, 1, 7, 4]), [0, 0x80, 0x01]);
+    let remove = [0x05, 0x05, 0x01, 0x01, 0x07, 0x04];
+    assert_eq!(fed(&mut model, 0, &[0x02, 0x01, 0x28]), [0x02, 0x00, 0x01]);
+    assert_eq!(fed(&mut model, 0, &remove), [0x05, 0x00, 0x80, 0x01, 0x80, 0x01]);
     let mut expected = model.clone();
     expected.tokens[0].as_mut().unwrap().modified = 3;
-    assert_eq!(ask(&mut model, 0, &[5, own, 1, 7, 4]), [0, 0]);
+    assert_eq!(fed(&mut model, 0, &remove), [0x03, 0x00, 0x00, 0x00]);
     assert_eq!(model, expected);
 }
 

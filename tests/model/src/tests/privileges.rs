@@ -16,7 +16,7 @@ fn adjusted(entries: &[u64]) -> (Vec<u8>, Privileges) {
 #[test]
 fn disable_enable_and_remove() {
     let (answer, privileges) = adjusted(&[4, 0, 5, 2, 6, 4]);
-    assert_eq!(answer, body(&[0, 0b111_0000]));
+    assert_eq!(answer, body(&[0, 0b111_0000, 0b111_0000]));
     let all = ALL_PRIVILEGES;
     assert_eq!(privileges.present, all & !(1 << 6));
     assert_eq!(privileges.enabled, all & !(1 << 6) & !(1 << 4));
@@ -28,9 +28,19 @@ fn disable_enable_and_remove() {
 fn the_report_is_of_the_named_bits_before() {
     let mut model = Model::start();
     let own = open(&mut model, 0, 0x20);
-    assert_eq!(ask(&mut model, 0, &[5, own, 2, 4, 0, 5, 0]), body(&[0, 0x30]));
-    assert_eq!(ask(&mut model, 0, &[5, own, 3, 4, 2, 5, 0, 6, 2]), body(&[0, 0x40]));
-    assert_eq!(ask(&mut model, 0, &[5, own, 1, 36, 0]), body(&[0, 1 << 36]));
+    assert_eq!(ask(&mut model, 0, &[5, own, 2, 4, 0, 5, 0]), body(&[0, 0x30, 0x30]));
+    assert_eq!(ask(&mut model, 0, &[5, own, 3, 4, 2, 5, 0, 6, 2]), body(&[0, 0x70, 0x40]));
+    assert_eq!(ask(&mut model, 0, &[5, own, 1, 36, 0]), body(&[0, 1 << 36, 1 << 36]));
+}
+
+#[test]
+fn the_report_tells_absent_disabled_and_enabled_apart() {
+    let mut model = Model::start();
+    let own = open(&mut model, 0, 0x20);
+    assert_eq!(status(&mut model, 0, &[5, own, 2, 4, 4, 5, 0]), 0);
+    let (disabled, enabled) = (1 << 5, 1 << 6);
+    let report = body(&[0, disabled | enabled, enabled]);
+    assert_eq!(ask(&mut model, 0, &[5, own, 3, 4, 0, 5, 2, 6, 4]), report);
 }
 
 #[test]
@@ -64,22 +74,22 @@ fn absent_ones_may_be_disabled_and_removed_but_not_enabled() {
     let after = model.primary(0).privileges;
     assert_eq!(ask(&mut model, 0, &[5, own, 1, 9, 2]), [5]);
     assert_eq!(ask(&mut model, 0, &[5, own, 2, 8, 0, 9, 2]), [5]);
-    assert_eq!(ask(&mut model, 0, &[5, own, 1, 9, 0]), [0, 0]);
-    assert_eq!(ask(&mut model, 0, &[5, own, 1, 9, 4]), [0, 0]);
+    assert_eq!(ask(&mut model, 0, &[5, own, 1, 9, 0]), [0, 0, 0]);
+    assert_eq!(ask(&mut model, 0, &[5, own, 1, 9, 4]), [0, 0, 0]);
     assert_eq!(model.primary(0).privileges, after);
     assert_eq!(model.primary(0).modified, 4);
 }
 
 #[test]
-fn reset_enables_the_defaults_and_reports_the_whole_word() {
+fn reset_enables_the_defaults_and_reports_both_whole_words() {
     let mut model = Model::start();
     let own = open(&mut model, 0, 0x20);
     assert_eq!(status(&mut model, 0, &[5, own, 3, 4, 0, 5, 4, 6, 0]), 0);
+    let present = ALL_PRIVILEGES & !(1 << 5);
     let enabled = ALL_PRIVILEGES & !(0b111 << 4);
-    assert_eq!(ask(&mut model, 0, &[5, own, 1, 0, RESET]), body(&[0, enabled]));
+    assert_eq!(ask(&mut model, 0, &[5, own, 1, 0, RESET]), body(&[0, present, enabled]));
     let privileges = model.primary(0).privileges;
-    assert_eq!(privileges.enabled, ALL_PRIVILEGES & !(1 << 5));
-    assert_eq!(privileges.present, privileges.enabled);
+    assert_eq!((privileges.present, privileges.enabled), (present, present));
     assert_eq!(model.primary(0).modified, 3);
 }
 
@@ -87,7 +97,7 @@ fn reset_enables_the_defaults_and_reports_the_whole_word() {
 fn all_35_at_once() {
     let entries: Vec<u64> = (2..=36).flat_map(|privilege| [privilege, 4]).collect();
     let (answer, privileges) = adjusted(&entries);
-    assert_eq!(answer, body(&[0, ALL_PRIVILEGES]));
+    assert_eq!(answer, body(&[0, ALL_PRIVILEGES, ALL_PRIVILEGES]));
     assert_eq!(privileges, Privileges::default());
 }
 

@@ -7,7 +7,7 @@ const OPEN: [u8; 5] = [0, 3, 2, 1, 0x28];
 #[test]
 fn answers_come_one_after_the_other() {
     let input = [&OPEN[..], &[0, 9, 5, 5, 1, 1, 7, 0, 2, 1, 8]].concat();
-    assert_eq!(program(&input), [2, 0, 1, 3, 0, 0x80, 1, 2, 0, 2]);
+    assert_eq!(program(&input), [2, 0, 1, 5, 0, 0x80, 1, 0x80, 1, 2, 0, 2]);
 }
 
 #[test]

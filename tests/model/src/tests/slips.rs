@@ -18,7 +18,7 @@ fn an_absent_privilege_may_be_disabled() {
     let mut model = Model::start();
     let own = open(&mut model, 0, 0x20);
     assert_eq!(status(&mut model, 0, &[5, own, 1, 20, 4]), 0);
-    assert_eq!(ask(&mut model, 0, &[5, own, 1, 20, 0]), [0, 0]);
+    assert_eq!(ask(&mut model, 0, &[5, own, 1, 20, 0]), [0, 0, 0]);
 }
 
 #[test]
