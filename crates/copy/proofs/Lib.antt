@@ -1,5 +1,6 @@
 pub mod Copies
 pub mod DuplicateEnding
 pub mod RestrictedRow
-pub mod RestrictLists
+pub mod DeniedGroups
+pub mod Restricting
 pub mod RestrictEnding

@@ -40,7 +40,7 @@ use Rattle.decide.proofs.Deciding.{refuses, carried-as}
 use Rattle.decide.proofs.Locating.{TokenLocated, not-located}
 use Rattle.copy.specs.declared.restricted_row.Counts.{Counts}
 use Rattle.copy.specs.Copies.{RowCopied, Remade}
-use Rattle.copy.specs.RestrictLists.{IndexesJudged, Packed, GroupsDenied, withSids, SidsAdded}
+use Rattle.copy.specs.DeniedGroups.{IndexesJudged, Packed, GroupsDenied, withSids, SidsAdded}
 use Rattle.copy.specs.Restrict.{Lists, Counted, CountsAt, limitedTo, CopyMade, refusalNumber, hasRoom, RestrictRefusal, restrictedAs, RestrictedIssued, RestrictCarried}
 use Rattle.copy.proofs.Copies.{issues-made, on-located}
 

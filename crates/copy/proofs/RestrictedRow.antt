@@ -23,7 +23,7 @@ use Rattle.privilege.specs.declared.privileges.Privileges.{Privileges}
 use Rattle.token.specs.Row.{privilegesIn, onWord, Becomes}
 use Rattle.state.proofs.TokenScalars.{privileges-in-row}
 use Rattle.copy.specs.Copies.{Remade}
-use Rattle.copy.specs.RestrictLists.{Packed, denyIn, DeniedAt, withSids, addIn, SidAdded}
+use Rattle.copy.specs.DeniedGroups.{Packed, denyIn, DeniedAt, withSids, addIn, SidAdded}
 use Rattle.copy.specs.Restrict.{markWord, limitedTo}
 
 -- ---- stores in a list of parts

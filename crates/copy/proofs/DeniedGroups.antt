@@ -28,8 +28,8 @@ use Rattle.body.specs.Entries.{entryOf, Progress, going, stopped, turned, foldA
 use Rattle.body.proofs.Pairs.{joined, times-end, times-lost, times-next}
 use Rattle.body.proofs.Passes.{turn-good, turn-bad, all-passed}
 use Rattle.body.proofs.Folding.{fold-end, fold-lost, fold-next}
-use Rattle.copy.specs.RestrictLists.{marksOf, inRange, kept, marked, IndexesJudged, Packed, denyIn, DeniedAt, GroupsDenied, withSids, addIn, SidAdded, SidsAdded}
-use Rattle.copy.specs.declared.restrict_lists.Marks.{Marks}
+use Rattle.copy.specs.DeniedGroups.{marksOf, inRange, kept, marked, IndexesJudged, Packed, denyIn, DeniedAt, GroupsDenied, withSids, addIn, SidAdded, SidsAdded}
+use Rattle.copy.specs.declared.denied_groups.Marks.{Marks}
 
 -- ---- one index more, judged
 
