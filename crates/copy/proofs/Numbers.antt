@@ -67,7 +67,7 @@ walk-next {s = s} {from = from} {left = left} k h n f v q g Q next = record {
   so-far = λ {all} {later} e.
       let r = k .so-far e in
       let j = taken-apart v (times (left - 1) u32 (drop q s)) (r .rest) later
-          (sym (times-next u32 left (drop from s) (drop q s) v h (one-number s from n f v q g)) ∙ r .more) in
+      (sym (times-next u32 left (drop from s) (drop q s) v h (one-number s from n f v q g)) ∙ r .more) in
       record {
         done = r .done ++ (v ∷ []);
         rest = j .0;

@@ -42,7 +42,7 @@ use Rattle.copy.specs.declared.restricting.Sids.{Sids}
 use Rattle.copy.specs.Copies.{RowCopied, Remade}
 use Rattle.copy.specs.DeniedGroups.{IndexesJudged, Packed, GroupsDenied}
 use Rattle.copy.specs.Restricting.{Listed, ListMade, withRestricting, RestrictedTo}
-use Rattle.copy.specs.Restrict.{Lists, IsSource, SourceAt, limitedTo, TakesFrom, CopyMade, refusalNumber, hasRoom, RestrictRefusal, restrictedAs, RestrictedIssued, RestrictCarried}
+use Rattle.copy.specs.Restrict.{Lists, IsSource, SourceAt, limitedTo, CopyMade, refusalNumber, hasRoom, RestrictRefusal, restrictedAs, RestrictedIssued, RestrictCarried}
 use Rattle.copy.proofs.Copies.{issues-made, on-located}
 use Rattle.copy.proofs.RestrictingSids.{empty-size}
 

@@ -133,7 +133,7 @@ module _ (sid : ℕ) (s : List ℕ) (at count : ℕ) where
         seen u = record {
           judged = λ given later e.
               let w = walk-next k h n f v q g (λ xs. member sid xs ≡ true)
-                  (λ xs m. member-append sid xs (v ∷ []) ∙ ap₂ (λ (a b : Bool). a || (b || false)) m (eq-eqb sid v (sym u))) in
+              (λ xs m. member-append sid xs (v ∷ []) ∙ ap₂ (λ (a b : Bool). a || (b || false)) m (eq-eqb sid v (sym u))) in
               let r = w .so-far e in
               let among = ap (member sid) (sym (r .parts)) ∙ member-append sid (r .done) (r .rest) ∙ ap (λ (b : Bool). b || member sid (r .rest)) (r .holds) in
               sym (ap (λ (b : Bool). isEmpty given || b) among ∙ or-true (isEmpty given));
@@ -193,7 +193,7 @@ module _ {own : ℕ} {ws s : List ℕ} {at count : ℕ} where
       listed = λ given later e t n q.
           let inside = k .inside in
           let all : take i (t .limits .restricting) ≡ t .limits .restricting =
-              ap (λ (j : ℕ). take j (t .limits .restricting)) {x = i} {y = length (t .limits .restricting)} (omega arith) ∙ take-length (t .limits .restricting) in
+          ap (λ (j : ℕ). take j (t .limits .restricting)) {x = i} {y = length (t .limits .restricting)} (omega arith) ∙ take-length (t .limits .restricting) in
           subst (λ (l : List ℕ). Listed (filter (isKept given) l) list) all (k .so-far given later e t n q);
     }
 
@@ -279,8 +279,8 @@ module _ (list : Sids) (ws : List ℕ) (long : length ws ≡ tokenWords) (size :
   pub restricts-to : {ys : List ℕ} → ys ≡ list .words → RestrictedTo list ws (set (putMid sidsAt (length ws - sidsAt) ws ys) 18 (list .count))
   restricts-to {ys} e =
       let put : putMid sidsAt (length ws - sidsAt) ws ys ≡ take sidsAt ws ++ list .words =
-          ap₂ (λ (l r : List ℕ). take sidsAt ws ++ (l ++ r)) e (post-is sidsAt (length ws) ws (omega arith) ∙ drop-length ws)
-          ∙ ap (λ (l : List ℕ). take sidsAt ws ++ l) (append-nil (list .words)) in
+      ap₂ (λ (l r : List ℕ). take sidsAt ws ++ (l ++ r)) e (post-is sidsAt (length ws) ws (omega arith) ∙ drop-length ws)
+      ∙ ap (λ (l : List ℕ). take sidsAt ws ++ l) (append-nil (list .words)) in
       subst (λ (l : List ℕ). RestrictedTo list ws (set l 18 (list .count))) (sym put) (record {
         long = simp (length-set, length-append, length-take) (omega arith);
         made = λ sids l few t q. (λ i. set (take sidsAt (q i) ++ l .words few i) 18 (l .count i)) ∙ restricted-row t sids;
