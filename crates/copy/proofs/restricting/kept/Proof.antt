@@ -1,5 +1,6 @@
 -- One by one. Assumes nothing.
 use Prim.Native.Nat.{_-_}
+use mathlib.Core.Path.{refl}
 use mathlib.Core.Logic.{⊎-elim}
 use borrow.Author.Needs.{needs}
 use Rattle.copy.proofs.RestrictingSids.{Keeping, keep-begin, keep-end, keep-one, keep-none}
@@ -24,5 +25,9 @@ kept-spec =
     (λ c κs. search needs)
     (λ c. search needs)
     (λ c. search needs)
-    (λ c. ⊎-elim (λ w. search (needs, keep-one)) (λ w. search (needs, keep-none)) (c .if1 .came))
+    (λ c. let at = c .before .before .before .before in
+    let few = at .before .before .before .pre .1 in
+    let more = c .before .before .before .loop-test .taken in
+    let stays = c .before .stays .ensures in
+    ⊎-elim (λ w. keep-one (at .loop .inv) few more _ refl stays (w .0 .taken) (w .1 .ensures) (w .2)) (λ w. keep-none (at .loop .inv) few more _ refl stays (w .0 .left) (w .1)) (c .if1 .came))
     (λ c. search (needs, keep-end)))
