@@ -1,10 +1,10 @@
 //! Requests that make sense in a state, with a bad value now and then.
 
 use model::{
-    number_length, Handle, Level, Mask, Model, Reader, Refusal, Request, Token, TokenType,
-    ALL_PRIVILEGES, ASSIGN_PRIMARY, CREATE_TOKEN, FIRST_PRIVILEGE, HANDLES, INTEGRITY_LEVELS,
-    LAST_CLASS, LAST_PRIVILEGE, LAST_REQUEST, MAX_DACL, MAX_GROUPS, MAX_RESTRICTING, NO_CHANGE,
-    RESET_GROUPS, RESET_PRIVILEGES, TCB, TOKENS,
+    number_length, Handle, Level, Mask, Model, Privileges, Reader, Refusal, Request, Token,
+    TokenType, ALL_PRIVILEGES, ASSIGN_PRIMARY, CREATE_TOKEN, DISABLE, ENABLE, FIRST_PRIVILEGE,
+    HANDLES, INTEGRITY_LEVELS, LAST_CLASS, LAST_PRIVILEGE, LAST_REQUEST, MAX_DACL, MAX_GROUPS,
+    MAX_RESTRICTING, NO_CHANGE, REMOVE, RESET_GROUPS, RESET_PRIVILEGES, TCB, TOKENS,
 };
 
 use crate::fields::{fields, flat};
@@ -226,7 +226,7 @@ impl Wish<'_> {
         if self.rng.percent(12) {
             return vec![RESET_PRIVILEGES];
         }
-        let present = self.token(handle).map_or(0, |token| token.privileges.present);
+        let words = self.token(handle).map_or(Privileges::default(), |token| token.privileges);
         let all: Vec<u32> =
             NEEDED_ONES.into_iter().chain(FIRST_PRIVILEGE..=LAST_PRIVILEGE).collect();
         let mut named = self.rng.some(&all, 4);
@@ -236,7 +236,7 @@ impl Wish<'_> {
             named.dedup();
         }
         let mut entries: Vec<_> =
-            named.into_iter().map(|named| (named, self.privilege_action(named, present))).collect();
+            named.into_iter().map(|named| (named, self.privilege_action(named, words))).collect();
         match self.rng.below(30) {
             0 => entries.clear(),
             1 => entries[0].0 = self.rng.pick(&[0, 1, LAST_PRIVILEGE + 1, u64::BITS, u32::MAX]),
@@ -247,16 +247,18 @@ impl Wish<'_> {
         entries
     }
 
-    /// Seldom removes what the other requests need.
-    fn privilege_action(&mut self, named: u32, present: u64) -> u32 {
+    /// What to ask of the privilege: all that may be asked of it, whether absent, disabled or
+    /// enabled; seldom to remove what the other requests need, or to enable an absent one.
+    fn privilege_action(&mut self, named: u32, words: Privileges) -> u32 {
         let is_needed = NEEDED_ONES.contains(&named);
-        let is_present = present >> named & 1 == 1;
-        match self.rng.below(10) {
-            0 if !is_needed || self.rng.percent(20) => 4,
-            1..=3 if !is_needed || named == TCB || self.rng.percent(60) => 0,
-            _ if is_present || self.rng.percent(10) => 2,
-            _ => 0,
-        }
+        let weights = match [words.present, words.enabled].map(|word| word >> named & 1 == 1) {
+            [false, _] => [12, 1, 6],
+            [true, _] if named == TCB => [15, 34, 1],
+            [true, _] if is_needed => [9, 40, 1],
+            [true, false] => [1, 1, 1],
+            [true, true] => [3, 5, 2],
+        };
+        [DISABLE, ENABLE, REMOVE][self.rng.weighted(&weights)]
     }
 
     fn group_entries(&mut self, handle: Handle) -> Vec<(u32, u32)> {
