@@ -1,5 +1,7 @@
 pub mod Copies
 pub mod DuplicateEnding
+pub mod Numbers
 pub mod RestrictedRow
-pub mod RestrictLists
+pub mod DeniedGroups
+pub mod RestrictingSids
 pub mod RestrictEnding

@@ -1,4 +1,5 @@
 pub mod Copies
 pub mod Duplicate
-pub mod RestrictLists
+pub mod DeniedGroups
+pub mod Restricting
 pub mod Restrict

@@ -1,5 +1,5 @@
 -- What request 10 makes and does, where the indexes and the SIDs are all there. Assumes nothing.
-use Prim.Native.Nat.{ℕ, _+_, _≤_, _<_}
+use Prim.Native.Nat.{ℕ, _≤_, _<_}
 use mathlib.Core.Path.{_≡_}
 use mathlib.Core.Bool.{Bool, true, _&&_, _||_}
 use mathlib.Core.List.{List}
@@ -15,34 +15,37 @@ use Rattle.rules.specs.Valid.{valid, tokenValid}
 use Rattle.rules.specs.Memory.{tokenWords, tokenRow}
 use Rattle.rules.specs.Request.{times, u32}
 use Rattle.rules.specs.Decision.{canIssue}
-use Rattle.rules.specs.Restrict.{validRestrict, restricted, restrict}
+use Rattle.rules.specs.Restrict.{restrictingTo, validRestrict, restricted, restrict}
 use Rattle.handle.specs.declared.Handle.{Handle}
 use Rattle.state.specs.ReleaseFacts.{PartsIn}
 use Rattle.decide.specs.declared.outcome.Outcome.{Outcome}
 use Rattle.decide.specs.Carried.{Carried}
 use Rattle.decide.specs.Issue.{NumbersLeft}
-use Rattle.copy.specs.declared.restricted_row.Counts.{Counts}
+use Rattle.copy.specs.declared.restricted_row.Source.{Source}
+use Rattle.copy.specs.declared.restricting.Sids.{Sids}
 use Rattle.copy.specs.Copies.{CopyIssued}
-use Rattle.copy.specs.RestrictLists.{Packed}
+use Rattle.copy.specs.DeniedGroups.{Packed}
+use Rattle.copy.specs.Restricting.{Listed}
 
 -- the two lists of a body
-pub record Lists (s : List ℕ) (denyAt denyCount sidAt sidCount : ℕ) (deny sids : List ℕ) : Type 0 where
+pub record Lists (s : List ℕ) (denyAt denyCount sidAt sidCount : ℕ) (deny given : List ℕ) : Type 0 where
   pub after : List ℕ
   pub denied : times denyCount u32 (drop denyAt s) ≡ got deny after
   pub later : List ℕ
-  pub added : times sidCount u32 (drop sidAt s) ≡ got sids later
+  pub sids : times sidCount u32 (drop sidAt s) ≡ got given later
 
 -- ---- the token that is copied
 
-pub record Counted (t : Token) (k : Counts) : Type 0 where
-  pub groups : length (t .groups) ≡ k .groups
-  pub restricting : length (t .limits .restricting) ≡ k .restricting
+pub record IsSource (t : Token) (r : Source) : Type 0 where
+  pub groups : length (t .groups) ≡ r .groups
+  pub restricting : length (t .limits .restricting) ≡ r .restricting
+  pub writeRestricted : t .limits .writeRestricted ≡ r .«write_restricted»
 
 -- whatever token is in the slot
-pub record CountsAt (slot : ℕ) (ts : List ℕ) (r : Counts) : Type 0 where
+pub record SourceAt (slot : ℕ) (ts : List ℕ) (r : Source) : Type 0 where
   pub few-groups : r .groups ≤ maxGroups
   pub few-restricting : r .restricting ≤ maxRestricting
-  pub counted : (t : Token) → tokenValid t ≡ true → record-at tokenWords slot ts ≡ tokenRow t → Counted t r
+  pub source : (t : Token) → tokenValid t ≡ true → record-at tokenWords slot ts ≡ tokenRow t → IsSource t r
 
 -- ---- the copy
 
@@ -54,10 +57,16 @@ unfoldable pub limitedTo : (n mark removed : ℕ) → Token → Token
 limitedTo n mark removed t =
     record { number = n; modified = n; elevation = 1; identity = t.identity; privileges = remove removed t.privileges; groups = t.groups; limits = record { restricting = t.limits.restricting; writeRestricted = eqb mark 1 || t.limits.writeRestricted; userDenyOnly = eqb mark 1 || t.limits.userDenyOnly }; defaults = t.defaults; scope = t.scope }
 
-pub record CopyMade (n : ℕ) (k : Counts) (mark removed : ℕ) (s : List ℕ) (denyAt denyCount sidAt sidCount : ℕ) (ws ws′ : List ℕ) : Type 0 where
+-- the list is that of t's copy
+pub record TakesFrom (given : List ℕ) (size : ℕ) (list : Sids) (t : Token) : Type 0 where
+  pub groups : length (t .groups) ≡ size
+  pub listed : Listed (restrictingTo given (t .limits .restricting)) list
+  pub few : length (restrictingTo given (t .limits .restricting)) ≤ maxRestricting
+
+pub record CopyMade (n groups : ℕ) (list : Sids) (mark removed : ℕ) (s : List ℕ) (denyAt denyCount : ℕ) (ws ws′ : List ℕ) : Type 0 where
   pub long : length ws′ ≡ tokenWords
-  pub made : (deny sids : List ℕ) → Lists s denyAt denyCount sidAt sidCount deny sids
-      → (t : Token) → Counted t k → Packed t → ws ≡ tokenRow t → ws′ ≡ tokenRow (restricted n mark removed deny sids t)
+  pub made : (deny later : List ℕ) → times denyCount u32 (drop denyAt s) ≡ got deny later
+      → (given : List ℕ) (t : Token) → TakesFrom given groups list t → Packed t → ws ≡ tokenRow t → ws′ ≡ tokenRow (restricted n mark removed deny given t)
 
 -- ---- the request
 
@@ -65,28 +74,30 @@ pub record CopyMade (n : ℕ) (k : Counts) (mark removed : ℕ) (s : List ℕ) (
 abbrev pub refusalNumber : (ok room : Bool) → ℕ
 refusalNumber ok room = if ok then (if room then 0 else 8) else 5
 
-abbrev pub hasRoom : Token → List ℕ → State → Bool
-hasRoom t sids σ = leb (length (t .limits .restricting) + length sids) maxRestricting && canIssue σ
+abbrev pub hasRoom : ℕ → State → Bool
+hasRoom listed σ = leb listed maxRestricting && canIssue σ
 
-pub record RestrictRefusal (k : Counts) (mark removed : ℕ) (s : List ℕ) (denyAt denyCount sidCount : ℕ) (ts : List ℕ) (hs : List Handle) (cs : List ℕ) (r : ℕ) : Type 0 where
+pub record RestrictRefusal (x : Source) (listed mark removed : ℕ) (s : List ℕ) (denyAt denyCount : ℕ) (ts : List ℕ) (hs : List Handle) (cs : List ℕ) (r : ℕ) : Type 0 where
   pub small : r < 128
   -- what issuing asks
   pub left : r ≡ 0 → NumbersLeft cs
-  pub few : r ≡ 0 → k .restricting + sidCount ≤ maxRestricting
-  pub refusal : (deny later : List ℕ) → times denyCount u32 (drop denyAt s) ≡ got deny later → (sids : List ℕ) → length sids ≡ sidCount
-      → (t : Token) → Counted t k → (σ : State) → valid σ ≡ true → {ds : List ℕ} → PartsIn σ ts ds hs cs
-      → r ≡ refusalNumber (validRestrict t mark removed deny) (hasRoom t sids σ)
+  pub few : r ≡ 0 → listed ≤ maxRestricting
+  pub refusal : (deny later : List ℕ) → times denyCount u32 (drop denyAt s) ≡ got deny later
+      → (given : List ℕ) (t : Token) → IsSource t x → listed ≡ length (restrictingTo given (t .limits .restricting))
+      → (σ : State) → valid σ ≡ true → {ds : List ℕ} → PartsIn σ ts ds hs cs
+      → r ≡ refusalNumber (validRestrict t mark removed deny given) (hasRoom listed σ)
 
 -- by the next number last but the token
-unfoldable pub restrictedAs : (mark removed : ℕ) → (deny sids : List ℕ) → ℕ → Token → Token
-restrictedAs mark removed deny sids n t = restricted n mark removed deny sids t
+unfoldable pub restrictedAs : (mark removed : ℕ) → (deny given : List ℕ) → ℕ → Token → Token
+restrictedAs mark removed deny given n t = restricted n mark removed deny given t
 
-pub record RestrictedIssued (slot : ℕ) (k : Counts) (mark removed : ℕ) (s : List ℕ) (denyAt denyCount sidAt sidCount station mask : ℕ) (ts ds : List ℕ)
+pub record RestrictedIssued (slot groups : ℕ) (list : Sids) (mark removed : ℕ) (s : List ℕ) (denyAt denyCount station mask : ℕ) (ts ds : List ℕ)
     (hs : List Handle) (cs ts′ ds′ cs′ : List ℕ) (r : Outcome) : Type 0 where
-  pub copy : (deny sids : List ℕ) → Lists s denyAt denyCount sidAt sidCount deny sids → CountsAt slot ts k
-      → CopyIssued (restrictedAs mark removed deny sids) slot station mask ts ds hs cs ts′ ds′ cs′ r
+  pub copy : (deny later : List ℕ) → times denyCount u32 (drop denyAt s) ≡ got deny later → (given : List ℕ)
+      → ((t : Token) → tokenValid t ≡ true → record-at tokenWords slot ts ≡ tokenRow t → TakesFrom given groups list t)
+      → CopyIssued (restrictedAs mark removed deny given) slot station mask ts ds hs cs ts′ ds′ cs′ r
 
 pub record RestrictCarried (station number mark removed : ℕ) (s : List ℕ) (denyAt denyCount sidAt sidCount : ℕ) (ts ds : List ℕ) (hs : List Handle)
     (cs ts′ ds′ cs′ : List ℕ) (r : Outcome) : Type 0 where
-  pub carried : (deny sids : List ℕ) → Lists s denyAt denyCount sidAt sidCount deny sids
-      → Carried (λ σ. restrict σ station number mark removed deny sids) ts ds hs cs ts′ ds′ cs′ r
+  pub carried : (deny given : List ℕ) → Lists s denyAt denyCount sidAt sidCount deny given
+      → Carried (λ σ. restrict σ station number mark removed deny given) ts ds hs cs ts′ ds′ cs′ r

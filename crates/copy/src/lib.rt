@@ -1,6 +1,7 @@
 // Requests 9 and 10: a duplicate of a token, and a restricted copy.
+mod denied_groups;
 pub mod duplicate;
 pub mod restrict;
-mod restrict_lists;
 mod restricted_row;
+mod restricting;
 mod rows;

@@ -1,17 +1,22 @@
 // Request 10: restrict.
 ghost use mathlib.Core.Path.{_≡_};
-ghost use Prim.Native.Nat.{_+_, _*_, _≤_, _<_};
+ghost use mathlib.Core.Bool.{not, _&&_};
+ghost use lib.Dec.{eqb};
+ghost use Prim.Native.Nat.{_*_, _≤_, _<_};
 ghost use lib.ListN.{length};
-ghost use Rattle.rules.specs.Token.{maxGroups, maxRestricting};
+ghost use Rattle.rules.specs.Basic.{implies};
+ghost use Rattle.rules.specs.Token.{maxGroups};
 ghost use Rattle.rules.specs.State.{tokenSlots, stationCount};
 ghost use Rattle.rules.specs.Memory.{tokenWords, controlWords};
 ghost use Rattle.handle.specs.Words.{recordsIn};
 ghost use Rattle.state.specs.Parts.{Lent};
 ghost use Rattle.decide.specs.Issue.{NumbersLeft};
 ghost use Rattle.copy.specs.Restrict.{RestrictRefusal, RestrictedIssued, RestrictCarried};
-use crate::restrict_lists::valid_indexes;
+use crate::denied_groups::valid_indexes;
 use crate::restricted_row;
-use crate::restricted_row::Counts;
+use crate::restricted_row::Source;
+use crate::restricting;
+use crate::restricting::Sids;
 use crate::rows;
 use answer::refusal;
 use body::fields::RestrictFields;
@@ -29,24 +34,32 @@ use privilege::words;
 use state::handles::find_handle;
 use token::layout::MAX_RESTRICTING;
 
-// What the copy of a token that has so many groups and SIDs is refused for: 0 if nothing.
+// The copy of a restricted token is restricted, and write-restricted only if the token is.
+fn narrows(source: Source, mark: u32, listed: u64) -> bool
+    ensures { λ r. ⌜ r ≡ implies (not (eqb (source .restricting) 0)) (not (eqb listed 0) && implies (eqb mark 1) (source .«write_restricted»)) ⌝ }
+{
+    (source.restricting == 0) | ((listed != 0) & ((mark != 1) | source.write_restricted))
+}
+
+// What a copy of the source with so many restricting SIDs is refused for: 0 if nothing.
 fn refusal_of(
-    counts: Counts,
+    source: Source,
+    listed: u64,
     f: RestrictFields,
     s: &[u8],
     handles: &[u64; HANDLE_WORDS],
     tokens: &[u64],
     control: &[u64],
 ) -> u64
-    requires { ⌜ (counts .groups ≤ maxGroups) × (counts .restricting ≤ maxRestricting) × (length (now tokens) ≡ tokenSlots * tokenWords) × (length (now control) ≡ controlWords) ⌝ }
-    ensures { λ r. ⌜ RestrictRefusal counts (f .mark) (f .removed) (now (s .entry)) (f .«deny_at») (f .«deny_count») (f .«sid_count») (now (tokens .entry)) (recordsIn (now (handles .entry))) (now (control .entry)) r ⌝ }
+    requires { ⌜ (source .groups ≤ maxGroups) × (length (now tokens) ≡ tokenSlots * tokenWords) × (length (now control) ≡ controlWords) ⌝ }
+    ensures { λ r. ⌜ RestrictRefusal source listed (f .mark) (f .removed) (now (s .entry)) (f .«deny_at») (f .«deny_count») (now (tokens .entry)) (recordsIn (now (handles .entry))) (now (control .entry)) r ⌝ }
 {
-    let indexes = valid_indexes(counts.groups, s, f.deny_at, f.deny_count as u64);
+    let indexes = valid_indexes(source.groups, s, f.deny_at, f.deny_count as u64);
     let valid = (f.mark <= 1) & words::within(f.removed, Privileges::EXISTING) & indexes;
-    if !valid {
+    if !(valid & narrows(source, f.mark, listed)) {
         return refusal::BAD_FIELD;
     }
-    if MAX_RESTRICTING as u64 - counts.restricting < f.sid_count as u64 {
+    if (MAX_RESTRICTING as u64) < listed {
         return refusal::TABLE_FULL;
     }
     if can_issue(handles, tokens, control) {
@@ -60,7 +73,8 @@ fn issue_restricted(
     station: u32,
     mask: u16,
     slot: usize,
-    counts: Counts,
+    groups: u64,
+    list: Sids,
     f: RestrictFields,
     s: &[u8],
     handles: &[u64; HANDLE_WORDS],
@@ -68,12 +82,12 @@ fn issue_restricted(
     dacls: &mut [u8],
     control: &mut [u64],
 ) -> Outcome
-    requires { ⌜ Lent (now tokens) (now dacls) (now control) × (slot < tokenSlots) × NumbersLeft (now control) × (station < stationCount) × (counts .groups ≤ maxGroups) × (counts .restricting + f .«sid_count» ≤ maxRestricting) ⌝ }
-    ensures { λ r. ⌜ RestrictedIssued slot counts (f .mark) (f .removed) (now (s .entry)) (f .«deny_at») (f .«deny_count») (f .«sid_at») (f .«sid_count») station mask (now (tokens .entry)) (now (dacls .entry)) (recordsIn (now (handles .entry))) (now (control .entry)) (now (tokens .exit)) (now (dacls .exit)) (now (control .exit)) r ⌝ }
+    requires { ⌜ Lent (now tokens) (now dacls) (now control) × (slot < tokenSlots) × NumbersLeft (now control) × (station < stationCount) × (groups ≤ maxGroups) ⌝ }
+    ensures { λ r. ⌜ RestrictedIssued slot groups list (f .mark) (f .removed) (now (s .entry)) (f .«deny_at») (f .«deny_count») station mask (now (tokens .entry)) (now (dacls .entry)) (recordsIn (now (handles .entry))) (now (control .entry)) (now (tokens .exit)) (now (dacls .exit)) (now (control .exit)) r ⌝ }
 {
     let n = counters::next(NEXT_TOKEN, control);
     let mut copy = rows::words_at(slot, tokens);
-    restricted_row::make(&mut copy, n, counts, f, s);
+    restricted_row::make(&mut copy, n, groups, list, f, s);
     let dacl = rows::dacl_at(slot, dacls);
     issue_row(station, mask, &copy, &dacl, handles, tokens, dacls, control)
 }
@@ -95,8 +109,10 @@ pub fn restrict(
     if x.refusal != 0 {
         return outcome::refused(x.refusal);
     }
-    let counts = restricted_row::counts_at(x.slot, tokens);
-    let refusal = refusal_of(counts, f, s, handles, tokens, control);
+    let source = restricted_row::source_at(x.slot, tokens);
+    let own = source.restricting;
+    let list = restricting::list_of(x.slot, own, tokens, s, f.sid_at, f.sid_count as u64);
+    let refusal = refusal_of(source, list.count, f, s, handles, tokens, control);
     if refusal != 0 {
         return outcome::refused(refusal);
     }
@@ -104,7 +120,8 @@ pub fn restrict(
         station,
         found.mask,
         x.slot,
-        counts,
+        source.groups,
+        list,
         f,
         s,
         handles,

@@ -1,36 +1,39 @@
 // Request 10: the row of the copy.
 ghost use mathlib.Core.Path.{_≡_};
-ghost use Prim.Native.Nat.{_+_, _*_, _≤_, _<_};
+ghost use Prim.Native.Nat.{_*_, _≤_, _<_};
 ghost use lib.ListN.{length};
-ghost use Rattle.rules.specs.Token.{maxGroups, maxRestricting};
+ghost use Rattle.rules.specs.Token.{maxGroups};
 ghost use Rattle.rules.specs.State.{tokenSlots};
 ghost use Rattle.rules.specs.Memory.{tokenWords};
 ghost use Rattle.copy.specs.Copies.{Remade};
-ghost use Rattle.copy.specs.Restrict.{CountsAt, markWord, limitedTo, CopyMade};
-use crate::restrict_lists::add_sids;
-use crate::restrict_lists::deny;
+ghost use Rattle.copy.specs.Restrict.{SourceAt, markWord, limitedTo, CopyMade};
+use crate::denied_groups::deny;
+use crate::restricting::Sids;
+use crate::restricting::restrict_to;
 use body::fields::RestrictFields;
 use token::layout::*;
 use token::row;
 
-// How many groups and restricting SIDs a token has.
-pub struct Counts {
+// What the request asks of the token that it copies: how many groups and restricting SIDs it has, and its write-restricted mark.
+pub struct Source {
     pub groups: u64,
     pub restricting: u64,
+    pub write_restricted: bool,
 }
 
-// Of the token in a slot.
-pub fn counts_at(slot: usize, tokens: &[u64]) -> Counts
+// The token in a slot.
+pub fn source_at(slot: usize, tokens: &[u64]) -> Source
     requires { ⌜ (length (now tokens) ≡ tokenSlots * tokenWords) × (slot < tokenSlots) ⌝ }
-    ensures { λ r. ⌜ CountsAt slot (now (tokens .entry)) r ⌝ }
+    ensures { λ r. ⌜ SourceAt slot (now (tokens .entry)) r ⌝ }
 {
     let at = slot * TOKEN_WORDS;
     let end = at + TOKEN_WORDS;
     let groups = row::count_in(&tokens[at..end], GROUP_COUNT, MAX_GROUPS);
     let restricting = row::count_in(&tokens[at..end], RESTRICTING_COUNT, MAX_RESTRICTING);
-    Counts {
+    Source {
         groups: groups as u64,
         restricting: restricting as u64,
+        write_restricted: tokens[at + WRITE_RESTRICTED] == 1,
     }
 }
 
@@ -57,12 +60,19 @@ fn limit(words: &mut [u64; TOKEN_WORDS], n: u64, mark: u32, removed: u64)
     words[USER_DENY_ONLY] = deny;
 }
 
-// The indexes to deny and the restricting SIDs stand in the body.
-pub fn make(words: &mut [u64; TOKEN_WORDS], n: u64, counts: Counts, f: RestrictFields, s: &[u8])
-    requires { ⌜ (length (now words) ≡ tokenWords) × (counts .groups ≤ maxGroups) × (counts .restricting + f .«sid_count» ≤ maxRestricting) ⌝ }
-    ensures { λ _. ⌜ CopyMade n counts (f .mark) (f .removed) (now (s .entry)) (f .«deny_at») (f .«deny_count») (f .«sid_at») (f .«sid_count») (now (words .entry)) (now (words .exit)) ⌝ }
+// The indexes to deny stand in the body; the restricting SIDs are those of a list.
+pub fn make(
+    words: &mut [u64; TOKEN_WORDS],
+    n: u64,
+    groups: u64,
+    list: Sids,
+    f: RestrictFields,
+    s: &[u8],
+)
+    requires { ⌜ (length (now words) ≡ tokenWords) × (groups ≤ maxGroups) ⌝ }
+    ensures { λ _. ⌜ CopyMade n groups list (f .mark) (f .removed) (now (s .entry)) (f .«deny_at») (f .«deny_count») (now (words .entry)) (now (words .exit)) ⌝ }
 {
     limit(words, n, f.mark, f.removed);
-    deny(words, counts.groups, s, f.deny_at, f.deny_count as u64);
-    add_sids(words, counts.restricting, s, f.sid_at, f.sid_count as u64);
+    deny(words, groups, s, f.deny_at, f.deny_count as u64);
+    restrict_to(words, list);
 }

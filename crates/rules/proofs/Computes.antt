@@ -36,13 +36,13 @@ use Rattle.rules.specs.Memory as Memory
 
 unfoldable pub computes : Unit {0}
 unfolding
-    Basic.implies Basic.bothOrNeither Basic.all Basic.member Basic.distinct Basic.isEmpty Basic.changeAt
+    Basic.implies Basic.bothOrNeither Basic.all Basic.filter Basic.member Basic.distinct Basic.isEmpty Basic.changeAt
     Number.lowFirst Number.encodeIn Number.encode Number.encodeAll Number.longer Number.readNumber
     Bits.has Bits.without Bits.within
     Mask.permits Mask.validMask
     Privileges.exists Privileges.isEnabled Privileges.enable Privileges.disable Privileges.remove Privileges.reset Privileges.markUsed Privileges.onlyUsed Privileges.granted
     Group.noGroup Group.isMandatory Group.isEnabledByDefault Group.isEnabled Group.isOwner Group.isDenyOnly Group.isLogon Group.isFixed Group.withEnabled Group.denied
-    Token.sidAt Token.primaryOf Token.noLimits Token.noDefaults Token.newToken Token.startToken Token.withPrivileges Token.withGroups Token.withDefaults Token.withScope Token.nextModified
+    Token.sidAt Token.isRestricted Token.primaryOf Token.noLimits Token.noDefaults Token.newToken Token.startToken Token.withPrivileges Token.withGroups Token.withDefaults Token.withScope Token.nextModified
     Table.isLive Table.orElse Table.lives Table.someFree Table.found Table.withSlots Table.placed Table.canAdd Table.added Table.exchanged Table.retained
     Handle.noHandle Handle.isHandle
     Station.startStation Station.withToken Station.withPending Station.cleared Station.brokenOff
@@ -59,8 +59,8 @@ unfolding
     AdjustGroups.isReset AdjustGroups.validEntry AdjustGroups.isProtected AdjustGroups.unprotected AdjustGroups.applied AdjustGroups.resetGroup AdjustGroups.adjusted AdjustGroups.enabledBits AdjustGroups.enabledWords AdjustGroups.adjustedToken AdjustGroups.adjust
     AdjustScope.scopedToken AdjustScope.scope
     AdjustDefaults.validOwner AdjustDefaults.validGroup AdjustDefaults.validDacl AdjustDefaults.validDefaults AdjustDefaults.orKept AdjustDefaults.adjusted AdjustDefaults.adjustedToken AdjustDefaults.adjust
-    Duplicate.retyped Duplicate.copied Duplicate.nobody Duplicate.anonymousCopy Duplicate.duplicated Duplicate.validLevel Duplicate.validDuplicate Duplicate.duplicate
-    Restrict.isBelow Restrict.validRestrict Restrict.deniedAll Restrict.limited Restrict.restricted Restrict.restrict
+    Duplicate.retyped Duplicate.copied Duplicate.nobody Duplicate.anonymousCopy Duplicate.isAnonymous Duplicate.duplicated Duplicate.validLevel Duplicate.validDuplicate Duplicate.duplicate
+    Restrict.isBelow Restrict.restrictingTo Restrict.narrows Restrict.validRestrict Restrict.deniedAll Restrict.limited Restrict.restricted Restrict.restrict
     Install.matches Install.marked Install.install
     Serve.rule Serve.decided Serve.decision Serve.serve
     Frame.frame Frame.secondOf Frame.lengthOf Frame.framedBy Frame.framed
@@ -68,6 +68,6 @@ unfolding
     Valid.isByte Valid.is32 Valid.is64 Valid.between Valid.identityValid Valid.privilegesValid Valid.groupValid Valid.groupsValid Valid.limitsValid Valid.defaultsValid Valid.tokenValid Valid.handleValid Valid.isPart Valid.streamValid Valid.tableValid Valid.isToken Valid.primaryAtStation Valid.valid
     Ladder.failing Ladder.firstOf Ladder.status
     Run.returned Run.after Run.noted Run.answered Run.ofBytes Run.eventsOf Run.events Run.happens Run.stateOf Run.told Run.afterEvents Run.answersTo Run.stationOf Run.notedAt Run.timed Run.placeOf Run.toldAt Run.timedTo Run.untilUsed Run.outcomeOf Run.outcomeAt Run.outcomes Run.servedBy Run.answerTo Run.answeredAt Run.answeredFrom Run.OneByOne
-    Growth.sidOf Growth.Live Growth.LiveHandle Growth.tokenAt Growth.sourceOf Growth.NoMore
+    Growth.sidOf Growth.Live Growth.LiveHandle Growth.sourceAt Growth.sourceOf Growth.Copying
     Memory.sized Memory.mark Memory.pack Memory.unpack Memory.head Memory.tokenRow Memory.daclRow Memory.slotRow Memory.slotDacl Memory.slotHandle Memory.stationRow Memory.pendingRow Memory.sections Memory.control Memory.encode Memory.identityAt Memory.privilegesAt Memory.groupsAt Memory.limitsAt Memory.defaultsAt Memory.tokenAt Memory.slotAt Memory.handleAt Memory.stationAt Memory.decode Memory.same Memory.sameHandle Memory.sameHandles Memory.sameMemory Memory.isImage Memory.valid
 computes = tt

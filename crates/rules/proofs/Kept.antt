@@ -189,7 +189,7 @@ module _ (d : State) (f : StateFacts d) (s : ℕ) (in8 : s < stationCount) where
       on-handle d s n _ _ f λ k ok fits.
       let h = handleOf d s n in
       let t = tokenOf d (h .token) in
-      let few = leb (length (t .limits .restricting) + length sids) maxRestricting in
+      let few = leb (length (Restrict.restrictingTo sids (t .limits .restricting))) maxRestricting in
       let room = and-r few (canIssue d) fits in
       let u = restricted-made t (d .tokens .next) mark removed deny sids (next-64 d room) (and-l few (canIssue d) fits) w (token-ok d (h .token) f (k .token)) in
       issue-step d s (h .mask) (Restrict.restricted (d .tokens .next) mark removed deny sids t) f in8 (mask-ok h k) room (u .number) (u .facts)

@@ -9,6 +9,7 @@ pub mod Changes
 pub mod Widths
 pub mod PrivilegesKept
 pub mod GroupsKept
+pub mod Restricting
 pub mod TokensKept
 pub mod Steps
 pub mod Kept

@@ -7,7 +7,7 @@ use mathlib.Core.Bool.{Bool, true, _&&_, _||_}
 use mathlib.Core.Logic.{⊎-elim}
 use mathlib.Core.List.{List, []}
 use lib.Dec.{eqb, leb}
-use lib.ListN.{length, length-append}
+use lib.ListN.{length}
 use borrow.Author.Tests.{eqb-true, lt-ltb, le-leb}
 use Rattle.rules.specs.AdjustDefaults as AdjustDefaults
 use Rattle.rules.specs.AdjustDefaults.{noChange, validOwner, validGroup, validDacl, validDefaults, orKept}
@@ -22,11 +22,12 @@ use Rattle.rules.specs.Entry.{Entry, validEntries}
 use Rattle.rules.specs.Group.{Group}
 use Rattle.rules.specs.Growth.{Follows}
 use Rattle.rules.specs.Privileges.{existing, markUsed, onlyUsed, Privileges}
-use Rattle.rules.specs.Restrict.{limited, restricted}
+use Rattle.rules.specs.Restrict.{restrictingTo, limited, restricted}
 use Rattle.rules.specs.State.{usedOn}
 use Rattle.rules.specs.Token.{maxRestricting, maxDacl, primary, impersonation, noLimits, noDefaults, newToken, withPrivileges, withGroups, withDefaults, withScope, nextModified, Identity, Limits, Defaults, Token}
 use Rattle.rules.specs.Valid.{isByte, is32, is64, between, identityValid, privilegesValid, groupsValid, limitsValid, defaultsValid}
-use Rattle.rules.proofs.Logic.{and-l, and-r, and-i, or-e, all-append}
+use Rattle.rules.proofs.Logic.{and-l, and-r, and-i, or-e, all-mem, mem-all}
+use Rattle.rules.proofs.Restricting.{from-either}
 use Rattle.rules.proofs.Bits.{within-refl, power-within}
 use Rattle.rules.proofs.Tables.{on-if}
 use Rattle.rules.proofs.Facts.{TokenFacts, each-group}
@@ -170,12 +171,14 @@ duplicated-made t n type level w l f =
     on-if (Made n t) (eqb type primary) _ _ (λ p. copied-made t n primary 0 w refl refl refl f)
     (λ p. on-if (Made n t) (eqb level 0) _ _ (λ z. stripped-made t n w f) (λ z. copied-made t n impersonation level w refl l refl f))
 
-limited-ok : (mark : ℕ) (sids : List ℕ) (x : Limits) → leb (length (x .restricting) + length sids) maxRestricting ≡ true → all is32 sids ≡ true → limitsValid x ≡ true → limitsValid (limited mark sids x) ≡ true
+limited-ok : (mark : ℕ) (sids : List ℕ) (x : Limits) → leb (length (restrictingTo sids (x .restricting))) maxRestricting ≡ true → all is32 sids ≡ true → limitsValid x ≡ true
+    → limitsValid (limited mark sids x) ≡ true
 unfolding limitsValid limited
 limited-ok mark sids x h w k =
-    and-i (ap (λ (n : ℕ). leb n maxRestricting) (length-append (x .restricting) sids) ∙ h) (all-append is32 (x .restricting) sids (and-r (leb (length (x .restricting)) maxRestricting) _ k) w)
+    let own = and-r (leb (length (x .restricting)) maxRestricting) _ k in
+    and-i h (mem-all is32 _ (λ n m. ⊎-elim (all-mem is32 sids w) (all-mem is32 (x .restricting) own) (from-either sids (x .restricting) m)))
 
-pub restricted-made : (t : Token) (n mark removed : ℕ) (deny sids : List ℕ) → is64 n ≡ true → leb (length (t .limits .restricting) + length sids) maxRestricting ≡ true → all is32 sids ≡ true → TokenFacts t → Made n t (restricted n mark removed deny sids t)
+pub restricted-made : (t : Token) (n mark removed : ℕ) (deny sids : List ℕ) → is64 n ≡ true → leb (length (restrictingTo sids (t .limits .restricting))) maxRestricting ≡ true → all is32 sids ≡ true → TokenFacts t → Made n t (restricted n mark removed deny sids t)
 unfolding restricted between
 restricted-made t n mark removed deny sids w l s f =
     let k = P.removed removed (t .privileges) (sound _ (f .privileges)) in

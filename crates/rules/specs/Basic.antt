@@ -22,6 +22,11 @@ unfoldable pub all : {A : Type 0} → (A → Bool) → List A → Bool
 all f [] = true
 all f (x ∷ xs) = f x && all f xs
 
+-- the elements that pass the test, in their order
+unfoldable pub filter : {A : Type 0} → (A → Bool) → List A → List A
+filter f [] = []
+filter f (x ∷ xs) = if f x then x ∷ filter f xs else filter f xs
+
 unfoldable pub member : ℕ → List ℕ → Bool
 member n [] = false
 member n (x ∷ xs) = eqb n x || member n xs

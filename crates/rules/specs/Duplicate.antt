@@ -28,7 +28,11 @@ nobody = record { user = anonymous; session = 0; type = impersonation; level = 0
 unfoldable pub anonymousCopy : ℕ → Token → Token
 anonymousCopy n t = newToken n nobody (onlyUsed t.privileges) []
 
--- only the type and level asked for make an anonymous copy; to primary, the level becomes 0
+-- only the type and level asked for make an anonymous copy
+unfoldable pub isAnonymous : ℕ → ℕ → Bool
+isAnonymous type level = not (eqb type primary) && eqb level 0
+
+-- to primary, the level becomes 0
 unfoldable pub duplicated : ℕ → ℕ → ℕ → Token → Token
 duplicated n type level t =
     if eqb type primary then copied n primary 0 t else

@@ -1,17 +1,18 @@
 -- What lasts while a token or a handle lives, between an earlier and a later state: demand 3's 'all along'. Assumes nothing.
 use Prim.Native.Nat.{ℕ, _≤_, _<_}
 use mathlib.Core.Path.{_≡_}
-use mathlib.Core.Bool.{true}
+use mathlib.Core.Bool.{Bool, true, false}
 use mathlib.Core.List.{List, _∷_, map}
 use lib.ListN.{getD}
 use Rattle.rules.specs.Number.{Read, got, bad}
 use Rattle.rules.specs.Bits.{within}
 use Rattle.rules.specs.Group.{Group, noGroup, isDenyOnly}
-use Rattle.rules.specs.Token.{Token}
+use Rattle.rules.specs.Token.{Token, isRestricted}
 use Rattle.rules.specs.Table.{Slot, free, live, Table, lives}
 use Rattle.rules.specs.Handle.{Handle}
 use Rattle.rules.specs.State.{State, tokenOf, findHandle}
 use Rattle.rules.specs.Request.{Request, parse}
+use Rattle.rules.specs.Duplicate.{isAnonymous}
 use Rattle.rules.specs.Serve.{serve}
 use Rattle.rules.specs.Run.{Serving}
 
@@ -68,11 +69,17 @@ pub record StillHandle (σ τ : State) (s n : ℕ) (h : Handle) : Type 0 where
 
 -- ---- a token made from another: its source is the one that request 9 or 10 copies
 
-unfoldable pub tokenAt : State → Slot Handle → Slot Token
-tokenAt σ free = free
-tokenAt σ (live h) = live (tokenOf σ h.token)
+pub record Source : Type 0 where
+  pub token : Token
+  -- the copy is anonymous
+  pub stripped : Bool
 
-unfoldable pub sourceOf : State → ℕ → Read Request → Slot Token
+-- the token of a handle
+unfoldable pub sourceAt : State → Bool → Slot Handle → Slot Source
+sourceAt σ stripped free = free
+sourceAt σ stripped (live h) = live (record { token = tokenOf σ h.token; stripped = stripped })
+
+unfoldable pub sourceOf : State → ℕ → Read Request → Slot Source
 sourceOf σ s bad = free
 sourceOf σ s (got (Request.openOwn mask) bytes) = free
 sourceOf σ s (got (Request.close n) bytes) = free
@@ -82,15 +89,23 @@ sourceOf σ s (got (Request.privileges n es) bytes) = free
 sourceOf σ s (got (Request.groups n es) bytes) = free
 sourceOf σ s (got (Request.scope n v) bytes) = free
 sourceOf σ s (got (Request.defaults n owner group flag dacl) bytes) = free
-sourceOf σ s (got (Request.duplicate n type level mask) bytes) = tokenAt σ (findHandle σ s n)
-sourceOf σ s (got (Request.restrict n mark removed deny sids) bytes) = tokenAt σ (findHandle σ s n)
+sourceOf σ s (got (Request.duplicate n type level mask) bytes) = sourceAt σ (isAnonymous type level) (findHandle σ s n)
+sourceOf σ s (got (Request.restrict n mark removed deny sids) bytes) = sourceAt σ false (findHandle σ s n)
 sourceOf σ s (got (Request.install n) bytes) = free
 
--- of a body that is served: a token that it makes has no present privilege that its source lacked
-unfoldable pub NoMore : Serving → Type 0
-NoMore x =
-    (t u : Token)
+-- u, just made, has no more than its source
+pub record NoMore (x : Source) (u : Token) : Type 0 where
+  pub present : within (u .privileges .present) (x .token .privileges .present) ≡ true
+  -- a restricted token's copy is restricted, unless it is anonymous, and its list has nothing that the source's lacked
+  pub restricted : x .stripped ≡ false → isRestricted (x .token) ≡ true → isRestricted u ≡ true
+  pub restricting : x .stripped ≡ false → isRestricted (x .token) ≡ true
+      → (n : ℕ) → Mem n (u .limits .restricting) → Mem n (x .token .limits .restricting)
+
+-- of a body that is served: a token that it makes from another
+unfoldable pub Copying : Serving → Type 0
+Copying x =
+    (t : Source) (u : Token)
     → sourceOf (x .before) (x .station) (parse (x .body)) ≡ live t
     → Mem u (lives (serve (x .before) (x .station) (x .body) .state .tokens .slots))
     → x .before .tokens .next ≤ u .number
-    → within (u .privileges .present) (t .privileges .present) ≡ true
+    → NoMore t u

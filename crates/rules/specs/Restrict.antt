@@ -1,28 +1,42 @@
 -- Request 10: restrict. Assumes nothing.
-use Prim.Native.Nat.{ℕ, _+_}
-use mathlib.Core.Bool.{Bool, _&&_, _||_}
-use mathlib.Core.List.{List, [], _∷_, _++_}
+use Prim.Native.Nat.{ℕ}
+use mathlib.Core.Bool.{Bool, not, _&&_, _||_}
+use mathlib.Core.List.{List, [], _∷_}
 use lib.ListN.{length}
 use lib.Dec.{eqb, leb, ltb}
-use Rattle.rules.specs.Basic.{all, distinct, changeAt}
+use Rattle.rules.specs.Basic.{if_then_else_, implies, all, filter, member, distinct, isEmpty, changeAt}
 use Rattle.rules.specs.Bits.{within}
 use Rattle.rules.specs.Mask as Mask
 use Rattle.rules.specs.Refusal.{badField, tableFull}
 use Rattle.rules.specs.Privileges.{existing, remove}
 use Rattle.rules.specs.Group.{Group, denied}
-use Rattle.rules.specs.Token.{Token, Limits, maxRestricting}
+use Rattle.rules.specs.Token.{Token, Limits, maxRestricting, isRestricted}
 use Rattle.rules.specs.State.{State}
 use Rattle.rules.specs.Decision.{Decision, need_else_then_, withHandle, canIssue, issued}
 
 unfoldable pub isBelow : ℕ → ℕ → Bool
 isBelow n i = ltb i n
 
-unfoldable pub validRestrict : Token → ℕ → ℕ → List ℕ → Bool
-validRestrict t mark removed deny =
+-- the copy's restricting SIDs: an unrestricted token gets those given; a restricted one keeps those of its own, in their order, that are also
+-- given, and all of them where none is given
+unfoldable pub restrictingTo : List ℕ → List ℕ → List ℕ
+restrictingTo given own =
+    if isEmpty own then given else
+    if isEmpty given then own else
+    filter (λ sid. member sid given) own
+
+-- a restricted token's copy is restricted, and write-restricted only if the token is
+unfoldable pub narrows : Token → ℕ → List ℕ → Bool
+narrows t mark given =
+    implies (isRestricted t) (not (isEmpty (restrictingTo given (t .limits .restricting))) && implies (eqb mark 1) (t .limits .writeRestricted))
+
+unfoldable pub validRestrict : Token → ℕ → ℕ → List ℕ → List ℕ → Bool
+validRestrict t mark removed deny given =
     leb mark 1
     && within removed existing
     && all (isBelow (length t.groups)) deny
     && distinct deny
+    && narrows t mark given
 
 unfoldable pub deniedAll : List ℕ → List Group → List Group
 deniedAll [] gs = gs
@@ -30,16 +44,16 @@ deniedAll (i ∷ is) gs = deniedAll is (changeAt i denied gs)
 
 -- 1 sets both marks, 0 keeps them
 unfoldable pub limited : ℕ → List ℕ → Limits → Limits
-limited mark sids x =
-    record { restricting = x.restricting ++ sids; writeRestricted = eqb mark 1 || x.writeRestricted; userDenyOnly = eqb mark 1 || x.userDenyOnly }
+limited mark given x =
+    record { restricting = restrictingTo given x.restricting; writeRestricted = eqb mark 1 || x.writeRestricted; userDenyOnly = eqb mark 1 || x.userDenyOnly }
 
 unfoldable pub restricted : ℕ → ℕ → ℕ → List ℕ → List ℕ → Token → Token
-restricted n mark removed deny sids t =
-    record { number = n; modified = n; elevation = 1; identity = t.identity; privileges = remove removed t.privileges; groups = deniedAll deny t.groups; limits = limited mark sids t.limits; defaults = t.defaults; scope = t.scope }
+restricted n mark removed deny given t =
+    record { number = n; modified = n; elevation = 1; identity = t.identity; privileges = remove removed t.privileges; groups = deniedAll deny t.groups; limits = limited mark given t.limits; defaults = t.defaults; scope = t.scope }
 
 unfoldable pub restrict : State → ℕ → ℕ → ℕ → ℕ → List ℕ → List ℕ → Decision
-restrict σ s n mark removed deny sids =
+restrict σ s n mark removed deny given =
     withHandle σ s n Mask.duplicate λ h t.
-    need validRestrict t mark removed deny else badField then
-    need leb (length (t .limits .restricting) + length sids) maxRestricting && canIssue σ else tableFull then
-    issued s h.mask (restricted (σ .tokens .next) mark removed deny sids t) σ
+    need validRestrict t mark removed deny given else badField then
+    need leb (length (restrictingTo given (t .limits .restricting))) maxRestricting && canIssue σ else tableFull then
+    issued s h.mask (restricted (σ .tokens .next) mark removed deny given t) σ

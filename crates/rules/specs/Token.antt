@@ -1,8 +1,9 @@
 -- A token. Assumes nothing.
 use Prim.Native.Nat.{ℕ, zero, suc, _+_, _%_, _^_}
-use mathlib.Core.Bool.{Bool, false}
+use mathlib.Core.Bool.{Bool, false, not}
 use mathlib.Core.List.{List, []}
 use lib.ListN.{getD}
+use Rattle.rules.specs.Basic.{isEmpty}
 use Rattle.rules.specs.Privileges.{Privileges, existing, granted}
 use Rattle.rules.specs.Group.{Group, noGroup}
 
@@ -62,6 +63,10 @@ system = 18
 unfoldable pub sidAt : Token → ℕ → ℕ
 sidAt t zero = t .identity .user
 sidAt t (suc k) = (getD t.groups k noGroup) .sid
+
+-- it has restricting SIDs
+unfoldable pub isRestricted : Token → Bool
+isRestricted t = not (isEmpty (t .limits .restricting))
 
 -- ---- new tokens
 

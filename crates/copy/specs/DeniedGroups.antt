@@ -1,8 +1,8 @@
--- What request 10's lists do: the indexes are judged, and the groups denied and the SIDs added in a row. Assumes nothing.
+-- What request 10's indexes do: they are judged, and the groups denied in a row. Assumes nothing.
 use Prim.Native.Nat.{ℕ, _<_}
 use mathlib.Core.Path.{_≡_}
 use mathlib.Core.Bool.{Bool, _&&_}
-use mathlib.Core.List.{List, [], _∷_, _++_}
+use mathlib.Core.List.{List}
 use lib.ListN.{length, drop}
 use Rattle.rules.specs.Basic.{if_then_else_, all, distinct, changeAt}
 use Rattle.rules.specs.Number.{got}
@@ -14,7 +14,7 @@ use Rattle.rules.specs.Memory.{tokenWords, word32, tokenRow}
 use Rattle.rules.specs.Request.{times, u32}
 use Rattle.rules.specs.Restrict.{isBelow, deniedAll}
 use Rattle.body.specs.Entries.{entryOf, Progress, going, stopped, turned}
-use Rattle.copy.specs.declared.restrict_lists.Marks.{Marks}
+use Rattle.copy.specs.declared.denied_groups.Marks.{Marks}
 
 -- ---- the indexes, judged as an entry's key is
 
@@ -54,23 +54,3 @@ pub record GroupsDenied (size : ℕ) (s : List ℕ) (at count : ℕ) (ws ws′ :
   pub long : length ws′ ≡ tokenWords
   pub made : (is : List ℕ) (later : List ℕ) → times count u32 (drop at s) ≡ got is later
       → (t : Token) → length (t .groups) ≡ size → Packed t → ws ≡ tokenRow t → ws′ ≡ tokenRow (withGroups (deniedAll is (t .groups)) t)
-
--- ---- the restricting SIDs that are added
-
-unfoldable pub withSids : List ℕ → Token → Token
-withSids sids t =
-    record { number = t.number; modified = t.modified; elevation = t.elevation; identity = t.identity; privileges = t.privileges; groups = t.groups; limits = record { restricting = t.limits.restricting ++ sids; writeRestricted = t.limits.writeRestricted; userDenyOnly = t.limits.userDenyOnly }; defaults = t.defaults; scope = t.scope }
-
-unfoldable pub addIn : ℕ → Token → Token
-addIn sid t = withSids (sid ∷ []) t
-
--- one SID, in the row of a token that has k
-pub record SidAdded (k sid : ℕ) (ws ws′ : List ℕ) : Type 0 where
-  pub long : length ws′ ≡ tokenWords
-  pub made : (t : Token) → length (t .limits .restricting) ≡ k → ws ≡ tokenRow t → ws′ ≡ tokenRow (addIn sid t)
-
--- where the SIDs are all there
-pub record SidsAdded (k : ℕ) (s : List ℕ) (at count : ℕ) (ws ws′ : List ℕ) : Type 0 where
-  pub long : length ws′ ≡ tokenWords
-  pub made : (sids : List ℕ) (later : List ℕ) → times count u32 (drop at s) ≡ got sids later
-      → (t : Token) → length (t .limits .restricting) ≡ k → ws ≡ tokenRow t → ws′ ≡ tokenRow (withSids sids t)

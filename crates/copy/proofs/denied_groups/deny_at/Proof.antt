@@ -1,8 +1,8 @@
 -- A group's word, or none. Assumes nothing.
 use borrow.Author.Needs.{needs}
 use Rattle.copy.proofs.RestrictedRow.{denies, denies-none}
-use Rattle.copy.proofs.restrict_lists.deny_at.Statement.{statement}
-use Rattle.copy.proofs.restrict_lists.deny_at.Tie as tie
+use Rattle.copy.proofs.denied_groups.deny_at.Statement.{statement}
+use Rattle.copy.proofs.denied_groups.deny_at.Tie as tie
 
 pub deny-at-spec : {M : Type 1} → statement M
 deny-at-spec =

@@ -1,8 +1,8 @@
 -- One index more. Assumes nothing.
 use borrow.Author.Needs.{needs}
-use Rattle.copy.proofs.RestrictLists.{mark-good, mark-bad}
-use Rattle.copy.proofs.restrict_lists.mark.Statement.{statement}
-use Rattle.copy.proofs.restrict_lists.mark.Tie as tie
+use Rattle.copy.proofs.DeniedGroups.{mark-good, mark-bad}
+use Rattle.copy.proofs.denied_groups.mark.Statement.{statement}
+use Rattle.copy.proofs.denied_groups.mark.Tie as tie
 
 pub mark-spec : {M : Type 1} → statement M
 mark-spec =

@@ -1,8 +1,8 @@
 -- A step for each index. Assumes nothing.
 use borrow.Author.Needs.{needs}
-use Rattle.copy.proofs.RestrictLists.{Denying, deny-begin, deny-end, deny-lost, deny-next}
-use Rattle.copy.proofs.restrict_lists.deny.Statement.{statement}
-use Rattle.copy.proofs.restrict_lists.deny.Tie as tie
+use Rattle.copy.proofs.DeniedGroups.{Denying, deny-begin, deny-end, deny-lost, deny-next}
+use Rattle.copy.proofs.denied_groups.deny.Statement.{statement}
+use Rattle.copy.proofs.denied_groups.deny.Tie as tie
 
 abbrev Inv : tie.InvT-loop
 Inv words₀ size s at count from₀ left₀ words from left = Denying size s at count words₀ from left words

@@ -1,20 +1,18 @@
-// Request 10's lists, read from a body: the indexes of groups that are denied, judged and then made, and the SIDs that are added, in a row.
+// Request 10: the indexes of groups to deny, read from a body: they are judged, and then the groups denied in a row.
 ghost use mathlib.Core.Path.{_≡_};
-ghost use Prim.Native.Nat.{_+_, _≤_, _<_};
+ghost use Prim.Native.Nat.{_≤_};
 ghost use lib.ListN.{length};
 ghost use Rattle.rules.specs.Group.{denied};
-ghost use Rattle.rules.specs.Token.{maxGroups, maxRestricting};
+ghost use Rattle.rules.specs.Token.{maxGroups};
 ghost use Rattle.rules.specs.Memory.{tokenWords};
 ghost use Rattle.token.specs.Row.{onWord};
-ghost use Rattle.copy.specs.RestrictLists.{marksOf, marked, IndexesJudged, DeniedAt, GroupsDenied, SidAdded, SidsAdded};
+ghost use Rattle.copy.specs.DeniedGroups.{marksOf, marked, IndexesJudged, DeniedAt, GroupsDenied};
 use number::Number;
 use privilege::words::bit;
 use privilege::words::has;
 use privilege::words::with;
 use token::attributes;
-use token::layout::GROUPS_END;
 use token::layout::HEAD_WORDS;
-use token::layout::RESTRICTING_COUNT;
 use token::layout::TOKEN_WORDS;
 use token::words;
 
@@ -92,37 +90,6 @@ pub fn deny(words: &mut [u64; TOKEN_WORDS], size: u64, s: &[u8], at: usize, coun
             return;
         };
         deny_at(words, size, index);
-        from = next;
-        left -= 1;
-    }
-}
-
-// ---- the SIDs
-
-// One SID more, of a row that has k.
-fn add_sid(words: &mut [u64; TOKEN_WORDS], k: u64, sid: u64)
-    requires { ⌜ (length (now words) ≡ tokenWords) × (k < maxRestricting) ⌝ }
-    ensures { λ _. ⌜ SidAdded k sid (now (words .entry)) (now (words .exit)) ⌝ }
-{
-    let i = GROUPS_END + k as usize;
-    words[i] = sid;
-    words[RESTRICTING_COUNT] = k + 1;
-}
-
-// The count SIDs that stand at a place of a body, of a row that has k and room for them.
-pub fn add_sids(words: &mut [u64; TOKEN_WORDS], k: u64, s: &[u8], at: usize, count: u64)
-    requires { ⌜ (length (now words) ≡ tokenWords) × (k + count ≤ maxRestricting) ⌝ }
-    ensures { λ _. ⌜ SidsAdded k (now (s .entry)) at count (now (words .entry)) (now (words .exit)) ⌝ }
-{
-    let mut n = k;
-    let mut from = at;
-    let mut left = count;
-    while 0 < left {
-        let Number::Value { value: sid, next } = number::number_at(s, from, number::U32) else {
-            return;
-        };
-        add_sid(words, n, sid);
-        n += 1;
         from = next;
         left -= 1;
     }

@@ -1,8 +1,8 @@
 -- The group of the word, denied. Assumes nothing.
 use borrow.Author.Needs.{needs}
 use Rattle.token.proofs.Regrouped.{word-of}
-use Rattle.copy.proofs.restrict_lists.denied_word.Statement.{statement}
-use Rattle.copy.proofs.restrict_lists.denied_word.Tie as tie
+use Rattle.copy.proofs.denied_groups.denied_word.Statement.{statement}
+use Rattle.copy.proofs.denied_groups.denied_word.Tie as tie
 
 pub denied-word-spec : {M : Type 1} → statement M
 denied-word-spec =

@@ -4,10 +4,10 @@ use lib.ListN.{drop}
 use borrow.Author.Needs.{needs}
 use Rattle.rules.specs.Request.{times, u32}
 use Rattle.body.specs.Entries.{stopped, folded}
-use Rattle.copy.specs.RestrictLists.{marksOf, marked}
-use Rattle.copy.proofs.RestrictLists.{marking, marks-end, marks-lost, marks-next}
-use Rattle.copy.proofs.restrict_lists.valid_indexes.Statement.{statement}
-use Rattle.copy.proofs.restrict_lists.valid_indexes.Tie as tie
+use Rattle.copy.specs.DeniedGroups.{marksOf, marked}
+use Rattle.copy.proofs.DeniedGroups.{marking, marks-end, marks-lost, marks-next}
+use Rattle.copy.proofs.denied_groups.valid_indexes.Statement.{statement}
+use Rattle.copy.proofs.denied_groups.valid_indexes.Tie as tie
 
 abbrev Inv : tie.InvT-loop
 Inv size s at count m₀ from₀ left₀ m from left = folded (marked size) stopped (marksOf m) (times left u32 (drop from s)) ≡ marking size s at count
