@@ -21,7 +21,7 @@ accept-row-spec =
     (λ c κs. (search needs, search needs, search needs, search held-row, search start-fits, search (needs, count-fits)))
     (λ c. search needs)
     (λ c. search needs)
-    (λ c. let s = c .before .before .before .before .before .before .before .before .before .before .before in search (needs, chunk-joins, s .before .before .before .before .before .before .before .before .pre .1))
+    (λ c. let s = c .before .before .before .before .before .before in chunk-joins _ _ _ (s .before .before .before .before .before .before .before .before .before .before .before .before .before .pre .1) (s .before .before .before .before .before .stream-of .ensures) (s .before .before .before .before .if1 .left) _ (s .before .before .join .ensures) (s .before .row .given) (c .before .before .before .before .enum-told .given .1) (c .before .before .keep .ensures))
     (λ c. search needs)
     (λ c. search needs)
     (λ c. search needs)

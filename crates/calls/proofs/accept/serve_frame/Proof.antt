@@ -19,4 +19,4 @@ serve-frame-spec =
     (λ c. search needs)
     (λ c. search needs)
     (λ c. search needs)
-    (λ c. search frame-served))
+    (λ c. let s = c .before .before .before .before .before .before .before .before .before .before .before .before .before in frame-served _ _ _ _ _ _ (s .before .before .before .before .before .before .before .before .before .set-stream .ensures) (s .serve .ensures) (c .before .before .before .clear .ensures)))
