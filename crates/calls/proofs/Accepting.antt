@@ -254,7 +254,7 @@ module _ (s : ℕ) (chunk : List ℕ) {hs : List Handle} {cs ts ds row : List �
 
 -- ---- valid memory
 
-module _ (s : ℕ) (chunk : List ℕ) (hs : List Handle) (ts ds cs ps : List ℕ) (h : s < stationCount) (v : Memory.valid (memoryOf ts ds hs cs ps) ≡ true) where
+module _ (s : ℕ) (hs : List Handle) (ts ds cs ps : List ℕ) (h : s < stationCount) (v : Memory.valid (memoryOf ts ds hs cs ps) ≡ true) where
   abbrev held : State
   held = decode (memoryOf ts ds hs cs ps)
 
@@ -277,10 +277,10 @@ module _ (s : ℕ) (chunk : List ℕ) (hs : List Handle) (ts ds cs ps : List ℕ
   pub row-held : RowHeld s ts ds hs cs lent
   row-held = record { state = held; isValid = state-valid; parts = held-parts ts ds hs cs ps v; pending = lent-row }
 
-  pub accepts : {out cs′ ts′ ds′ row′ out′ : List ℕ} {u : Turn} → RowFed s chunk ts ds hs cs lent out ts′ ds′ cs′ row′ out′ u
+  pub accepts : {chunk out cs′ ts′ ds′ row′ out′ : List ℕ} {u : Turn} → RowFed s chunk ts ds hs cs lent out ts′ ds′ cs′ row′ out′ u
       → Accepted s chunk ts ds hs cs ps out ts′ ds′ cs′ (take (s * pendingBytes) ps ++ (row′ ++ drop (s * pendingBytes + pendingBytes - s * pendingBytes) (drop (s * pendingBytes) ps))) out′ u
   unfolding written
-  accepts {out} {cs′} {ts′} {ds′} {row′} {out′} {u} r =
+  accepts {chunk} {out} {cs′} {ts′} {ds′} {row′} {out′} {u} r =
       let f = r .fed held state-valid (held-parts ts ds hs cs ps v) lent-row in
       record {
         fed = record {
