@@ -19,6 +19,7 @@ use Rattle.rules.specs.Token.{Token, maxGroups, maxRestricting, maxDacl, withGr
 use Rattle.rules.specs.State as state
 use Rattle.rules.specs.State.{State}
 use Rattle.rules.specs.Valid.{is32, groupValid, groupsValid, limitsValid, valid, tokenValid}
+use Rattle.rules.specs.Head as Head
 use Rattle.rules.specs.Memory.{tokenWords, tokenCounter, mark, head, tokenRow, daclRow}
 use Rattle.rules.specs.Request.{times, u32}
 use Rattle.rules.specs.Decision.{Decision, carriedOut, need_else_then_, canIssue, issued}
@@ -53,8 +54,8 @@ unfolding mark
 is-mark true = refl
 is-mark false = refl
 
-pub sources : (i : ℕ) {ts : List ℕ} {g r : ℕ} → g ≡ min (getD (lent i ts) 17 0) maxGroups → r ≡ min (getD (lent i ts) 18 0) maxRestricting
-    → SourceAt i ts (record { groups = g; restricting = r; «write_restricted» = eqb (getD ts (i * tokenWords + 7) 0) 1 })
+pub sources : (i : ℕ) {ts : List ℕ} {g r : ℕ} → g ≡ min (getD (lent i ts) Head.groupCount 0) maxGroups → r ≡ min (getD (lent i ts) Head.restrictingCount 0) maxRestricting
+    → SourceAt i ts (record { groups = g; restricting = r; «write_restricted» = eqb (getD ts (i * tokenWords + Head.writeRestricted) 0) 1 })
 unfolding tokenRow head limitsValid
 sources i {ts} eg er = record {
   few-groups = omega arith;
@@ -62,9 +63,9 @@ sources i {ts} eg er = record {
   source = λ t v e.
       let groups = few-groups t v in
       let sids = leb-true (length (t .limits .restricting)) maxRestricting (and-l (leb (length (t .limits .restricting)) maxRestricting) _ (token-facts t v .limits)) in
-      let g = ap (λ (l : List ℕ). getD l 17 0) (part-at tokenWords i ts ∙ e) in
-      let r = ap (λ (l : List ℕ). getD l 18 0) (part-at tokenWords i ts ∙ e) in
-      let write : getD ts (i * tokenWords + 7) 0 ≡ mark (t .limits .writeRestricted) = record-element tokenWords i 7 ts 0 (omega arith) ∙ ap (λ (l : List ℕ). getD l 7 0) e in
+      let g = ap (λ (l : List ℕ). getD l Head.groupCount 0) (part-at tokenWords i ts ∙ e) in
+      let r = ap (λ (l : List ℕ). getD l Head.restrictingCount 0) (part-at tokenWords i ts ∙ e) in
+      let write : getD ts (i * tokenWords + Head.writeRestricted) 0 ≡ mark (t .limits .writeRestricted) = record-element tokenWords i Head.writeRestricted ts 0 (omega arith) ∙ ap (λ (l : List ℕ). getD l Head.writeRestricted 0) e in
       record {
         groups = omega arith;
         restricting = omega arith;

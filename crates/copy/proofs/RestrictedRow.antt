@@ -16,6 +16,7 @@ use Rattle.rules.specs.Group.{Group, denied}
 use Rattle.rules.specs.Privileges as rules
 use Rattle.rules.specs.Privileges.{remove}
 use Rattle.rules.specs.Token.{Token, maxGroups, maxRestricting, withPrivileges, withGroups}
+use Rattle.rules.specs.Head as Head
 use Rattle.rules.specs.Memory.{headWords, tokenWords, word32, mark, pack, unpack, head, tokenRow}
 use Rattle.rules.proofs.Logic.{length-changeAt}
 use Rattle.privilege.specs.Meaning.{privilegesOf}
@@ -77,7 +78,7 @@ module _ (t : Token) (i : ℕ) where
       ∙ set-append-add (head t) (gs ++ rs) i v
       ∙ ap (λ (l : List ℕ). head t ++ l) (set-append-left gs rs i v (omega arith))
       ∙ ap (λ (l : List ℕ). head t ++ (l ++ rs)) (set-pad maxGroups ws i (omega arith) (omega arith) v ∙ ap (pad maxGroups) (denied-among (t .groups) i h p))
-      ∙ ap (λ (n : ℕ). set (head t) 17 n ++ (pad maxGroups (map pack (changeAt i denied (t .groups))) ++ rs)) (sym (length-changeAt (t .groups) i denied))
+      ∙ ap (λ (n : ℕ). set (head t) Head.groupCount n ++ (pad maxGroups (map pack (changeAt i denied (t .groups))) ++ rs)) (sym (length-changeAt (t .groups) i denied))
 
   denied-none : length (t .groups) ≤ i → t ≡ denyIn i t
   unfolding denyIn withGroups
@@ -102,18 +103,18 @@ unfolding mark
 mark-set true b = refl
 mark-set false b = refl
 
-pub limits : (n m removed : ℕ) {ws ws₁ : List ℕ} {a b : ℕ} {p q : Privileges} → a ≡ markWord m (getD ws 7 0) → b ≡ markWord m (getD ws 8 0)
+pub limits : (n m removed : ℕ) {ws ws₁ : List ℕ} {a b : ℕ} {p q : Privileges} → a ≡ markWord m (getD ws Head.writeRestricted 0) → b ≡ markWord m (getD ws Head.userDenyOnly 0)
     → p ≡ privilegesIn ws → privilegesOf q ≡ remove removed (privilegesOf p) → Becomes (withPrivileges (privilegesOf q)) ws ws₁ → length ws₁ ≡ length ws → length ws ≡ tokenWords
-    → Remade (limitedTo n m removed) ws (set (set (set (set (set ws₁ 0 n) 1 n) 6 1) 7 a) 8 b)
+    → Remade (limitedTo n m removed) ws (set (set (set (set (set ws₁ Head.number n) Head.modified n) Head.elevation 1) Head.writeRestricted a) Head.userDenyOnly b)
 unfolding limitedTo withPrivileges tokenRow head
 limits n m removed {ws} ea eb g r w kept long = record {
   made = record {
     row = λ t e.
-        let fa = ea ∙ ap (λ (l : List ℕ). markWord m (getD l 7 0)) e ∙ mark-set (eqb m 1) (t .limits .writeRestricted) in
-        let fb = eb ∙ ap (λ (l : List ℕ). markWord m (getD l 8 0)) e ∙ mark-set (eqb m 1) (t .limits .userDenyOnly) in
+        let fa = ea ∙ ap (λ (l : List ℕ). markWord m (getD l Head.writeRestricted 0)) e ∙ mark-set (eqb m 1) (t .limits .writeRestricted) in
+        let fb = eb ∙ ap (λ (l : List ℕ). markWord m (getD l Head.userDenyOnly 0)) e ∙ mark-set (eqb m 1) (t .limits .userDenyOnly) in
         let left = r ∙ ap (remove removed) (ap privilegesOf g ∙ privileges-in-row ws t e) in
         let fw = w .row t e ∙ ap (λ (x : rules.Privileges). tokenRow (withPrivileges x t)) left in
-        λ i. set (set (set (set (set (fw i) 0 n) 1 n) 6 1) 7 (fa i)) 8 (fb i);
+        λ i. set (set (set (set (set (fw i) Head.number n) Head.modified n) Head.elevation 1) Head.writeRestricted (fa i)) Head.userDenyOnly (fb i);
   };
   long = simp length-set (kept ∙ long);
 }

@@ -15,6 +15,7 @@ use Rattle.table.specs.Table.{part-at}
 use Rattle.rules.specs.Basic.{if_then_else_, filter, member, isEmpty}
 use Rattle.rules.specs.Number.{got, max32}
 use Rattle.rules.specs.Token.{Token, maxGroups, maxRestricting}
+use Rattle.rules.specs.Head as Head
 use Rattle.rules.specs.Memory.{headWords, tokenWords, pack, head, tokenRow}
 use Rattle.rules.specs.Request.{times, u32}
 use Rattle.rules.specs.Restrict.{restrictingTo}
@@ -261,24 +262,24 @@ module _ (slot own : ℕ) {ts s : List ℕ} {at count : ℕ} {r : Sids} where
 -- ---- in a row
 
 restricted-row : (t : Token) (sids : List ℕ)
-    → set (take sidsAt (tokenRow t) ++ pad maxRestricting sids) 18 (length sids) ≡ tokenRow (withRestricting sids t)
+    → set (take sidsAt (tokenRow t) ++ pad maxRestricting sids) Head.restrictingCount (length sids) ≡ tokenRow (withRestricting sids t)
 unfolding tokenRow head withRestricting
 restricted-row t sids =
     let gs = pad maxGroups (map pack (t .groups)) in
     let rs = pad maxRestricting (t .limits .restricting) in
     let long = length-pad maxGroups (map pack (t .groups)) in
     let size : length (head t ++ gs) ≡ sidsAt = length-append (head t) gs ∙ ap (λ (k : ℕ). headWords + k) long in
-    ap (λ (l : List ℕ). set (l ++ pad maxRestricting sids) 18 (length sids))
+    ap (λ (l : List ℕ). set (l ++ pad maxRestricting sids) Head.restrictingCount (length sids))
     (ap (take sidsAt) (sym (append-assoc (head t) gs rs)) ∙ take-at (head t ++ gs) rs sidsAt size)
-    ∙ ap (λ (l : List ℕ). set l 18 (length sids)) (append-assoc (head t) gs (pad maxRestricting sids))
+    ∙ ap (λ (l : List ℕ). set l Head.restrictingCount (length sids)) (append-assoc (head t) gs (pad maxRestricting sids))
 
 pub restricts-to : (list : Sids) (ws : List ℕ) → length ws ≡ tokenWords → length (list .words) ≡ maxRestricting → {ys : List ℕ} → ys ≡ list .words
-    → RestrictedTo list ws (set (putMid sidsAt (length ws - sidsAt) ws ys) 18 (list .count))
+    → RestrictedTo list ws (set (putMid sidsAt (length ws - sidsAt) ws ys) Head.restrictingCount (list .count))
 restricts-to list ws long size {ys} e =
     let put : putMid sidsAt (length ws - sidsAt) ws ys ≡ take sidsAt ws ++ list .words =
     ap₂ (λ (l r : List ℕ). take sidsAt ws ++ (l ++ r)) e (post-is sidsAt (length ws) ws (omega arith) ∙ drop-length ws)
     ∙ ap (λ (l : List ℕ). take sidsAt ws ++ l) (append-nil (list .words)) in
-    subst (λ (l : List ℕ). RestrictedTo list ws (set l 18 (list .count))) (sym put) (record {
+    subst (λ (l : List ℕ). RestrictedTo list ws (set l Head.restrictingCount (list .count))) (sym put) (record {
       long = simp (length-set, length-append, length-take) (omega arith);
-      made = λ sids l few t q. (λ i. set (take sidsAt (q i) ++ l .words few i) 18 (l .count i)) ∙ restricted-row t sids;
+      made = λ sids l few t q. (λ i. set (take sidsAt (q i) ++ l .words few i) Head.restrictingCount (l .count i)) ∙ restricted-row t sids;
     })

@@ -15,7 +15,7 @@ pub record Identity : Type 0 where
   pub level : ℕ
   pub integrity : ℕ
 
--- what request 10 adds to a copy
+-- what request 10 limits a copy by
 pub record Limits : Type 0 where
   pub restricting : List ℕ
   pub writeRestricted : Bool
