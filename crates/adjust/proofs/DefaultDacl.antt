@@ -9,6 +9,7 @@ use Rattle.table.specs.Lists.{pad, pad-fits}
 use Rattle.rules.specs.Number.{Read, got, bad}
 use Rattle.rules.specs.Request.{follow, give, times, byte}
 use Rattle.rules.specs.Token.{maxDacl, withDefaults}
+use Rattle.rules.specs.Head as Head
 use Rattle.rules.specs.Memory.{head, tokenRow, daclRow}
 use Rattle.body.specs.Layout.{valuesAt, There}
 use Rattle.body.proofs.Pairs.{Long, times-long}
@@ -45,10 +46,10 @@ module _ (s : List ℕ) (at size : ℕ) (h : There byte s at size []) where
   pub there-long : length (valuesAt byte s at size) ≡ size
   there-long = subst (Long byte size) h (times-long byte size (drop at s))
 
-  pub bytes-written : {ws bs : List ℕ} → bs ≡ pad maxDacl (take size (drop at s)) → DaclWritten (valuesAt byte s at size) ws (set ws 19 size) bs
+  pub bytes-written : {ws bs : List ℕ} → bs ≡ pad maxDacl (take size (drop at s)) → DaclWritten (valuesAt byte s at size) ws (set ws Head.daclLength size) bs
   unfolding tokenRow head daclRow withDefaults
   bytes-written {ws} e = record {
-    row = record { row = λ t k. ap (set ws 19) (sym there-long) ∙ ap (λ (l : List ℕ). set l 19 (length (valuesAt byte s at size))) k };
+    row = record { row = λ t k. ap (set ws Head.daclLength) (sym there-long) ∙ ap (λ (l : List ℕ). set l Head.daclLength (length (valuesAt byte s at size))) k };
     dacl = λ t. e ∙ ap (pad maxDacl) (sym (part .0));
   }
 

@@ -14,6 +14,7 @@ use Rattle.rules.specs.Basic.{if_then_else_, isEmpty}
 use Rattle.rules.specs.Group.{Group, noGroup, isOwner}
 use Rattle.rules.specs.Token.{Token, maxGroups, maxDacl, withDefaults, nextModified}
 use Rattle.rules.specs.Valid.{groupsValid, tokenValid}
+use Rattle.rules.specs.Head as Head
 use Rattle.rules.specs.Memory.{headWords, unpack, head, tokenRow, daclRow, groupsAt, tokenAt}
 use Rattle.rules.specs.AdjustDefaults.{noChange, validOwner, validGroup, validDacl, validDefaults, orKept, adjusted, adjustedToken}
 use Rattle.rules.proofs.Logic.{and-l, and-r, or-e}
@@ -28,9 +29,9 @@ use Rattle.adjust.specs.Defaults.{OwnerJudged, DefaultsJudged, withIndex
 -- ---- a row's groups
 
 module _ (t : Token) where
-  count-in-row : {ws : List ℕ} → ws ≡ tokenRow t → getD ws 17 0 ≡ length (t .groups)
+  count-in-row : {ws : List ℕ} → ws ≡ tokenRow t → getD ws Head.groupCount 0 ≡ length (t .groups)
   unfolding tokenRow head
-  count-in-row e = ap (λ (l : List ℕ). getD l 17 0) e
+  count-in-row e = ap (λ (l : List ℕ). getD l Head.groupCount 0) e
 
   few-groups : tokenValid t ≡ true → length (t .groups) ≤ maxGroups
   unfolding groupsValid
@@ -43,9 +44,9 @@ module _ (t : Token) where
       let few = few-groups v in
       let row = take maxGroups (drop headWords ws) in
       ap (λ (x : Token). getD (x .groups) k noGroup) (sym (token-back t v))
-      ∙ ap (λ (l : List ℕ). getD (map unpack (take (getD l 17 0) (take maxGroups (drop headWords l)))) k noGroup) (sym e)
-      ∙ List·getD-map unpack (take (getD ws 17 0) row) k 0
-      ∙ ap unpack (getD-take (getD ws 17 0) row k 0 (omega arith) ∙ getD-take maxGroups (drop headWords ws) k 0 (omega arith) ∙ getD-drop headWords ws k 0)
+      ∙ ap (λ (l : List ℕ). getD (map unpack (take (getD l Head.groupCount 0) (take maxGroups (drop headWords l)))) k noGroup) (sym e)
+      ∙ List·getD-map unpack (take (getD ws Head.groupCount 0) row) k 0
+      ∙ ap unpack (getD-take (getD ws Head.groupCount 0) row k 0 (omega arith) ∙ getD-take maxGroups (drop headWords ws) k 0 (omega arith) ∙ getD-drop headWords ws k 0)
 
 -- ---- an owner index
 
@@ -63,14 +64,14 @@ module _ (ws : List ℕ) (i : ℕ) (h : i ≡ 0 → ⊥) where
   pub owner-none : maxGroups ≤ i - 1 → OwnerJudged i ws false
   owner-none l = record { judged = λ t v e. past (t .groups) i h (omega (arith, few-groups t v)) }
 
-  pub owner-past : getD ws 17 0 ≤ i - 1 → OwnerJudged i ws false
+  pub owner-past : getD ws Head.groupCount 0 ≤ i - 1 → OwnerJudged i ws false
   owner-past l = record { judged = λ t v e. past (t .groups) i h (omega (arith, count-in-row t e)) }
 
-  pub owner-group : (b : Bool) → i - 1 < getD ws 17 0 → b ≡ isOwner (unpack (getD ws (headWords + (i - 1)) 0)) → OwnerJudged i ws b
+  pub owner-group : (b : Bool) → i - 1 < getD ws Head.groupCount 0 → b ≡ isOwner (unpack (getD ws (headWords + (i - 1)) 0)) → OwnerJudged i ws b
   unfolding validOwner
   owner-group b l e = record { judged = λ t v q. by t v q i h l e }
     where
-      by : (t : Token) → tokenValid t ≡ true → ws ≡ tokenRow t → (i : ℕ) → (i ≡ 0 → ⊥) → i - 1 < getD ws 17 0 → b ≡ isOwner (unpack (getD ws (headWords + (i - 1)) 0)) → b ≡ validOwner (t .groups) i
+      by : (t : Token) → tokenValid t ≡ true → ws ≡ tokenRow t → (i : ℕ) → (i ≡ 0 → ⊥) → i - 1 < getD ws Head.groupCount 0 → b ≡ isOwner (unpack (getD ws (headWords + (i - 1)) 0)) → b ≡ validOwner (t .groups) i
       by t v q zero h l e = absurd (h refl)
       by t v q (suc k) h l e =
           let c = count-in-row t q in
@@ -88,7 +89,7 @@ empty-size (b ∷ bytes) = sym (ne-eqb (suc (length bytes)) 0 (λ h. omega arith
 module _ (ws : List ℕ) (owner group flag size : ℕ) where
   pub judges : (o : Bool) → OwnerJudged owner ws o
       → DefaultsJudged owner group flag size ws
-      ((eqb owner noChange || o) && (eqb group noChange || leb group (getD ws 17 0)) && (eqb flag 0 && eqb size 0 || eqb flag 1 && leb size maxDacl))
+      ((eqb owner noChange || o) && (eqb group noChange || leb group (getD ws Head.groupCount 0)) && (eqb flag 0 && eqb size 0 || eqb flag 1 && leb size maxDacl))
   unfolding validDefaults validGroup validDacl
   judges o j = record {
     judged = λ t v e bytes l. rw (j .judged t v e, count-in-row t e, sym l, empty-size bytes);
@@ -96,7 +97,7 @@ module _ (ws : List ℕ) (owner group flag size : ℕ) where
         let none = eqb flag 0 && eqb size 0 in
         let some = eqb flag 1 && leb size maxDacl in
         ⊎-elim (λ z. omega (arith, eqb-true size 0 (and-r (eqb flag 0) (eqb size 0) z))) (λ z. leb-true size maxDacl (and-r (eqb flag 1) (leb size maxDacl) z))
-        (or-e none some (and-r ((eqb owner noChange || o) && (eqb group noChange || leb group (getD ws 17 0))) (none || some) h));
+        (or-e none some (and-r ((eqb owner noChange || o) && (eqb group noChange || leb group (getD ws Head.groupCount 0))) (none || some) h));
   }
 
   pub dacl-fits : {r : Bool} → DefaultsJudged owner group flag size ws r → not r ≡ false → size ≤ maxDacl
@@ -112,14 +113,14 @@ pub index-new : (new old : ℕ) → (new ≡ noChange → ⊥) → new ≡ orKep
 unfolding orKept
 index-new new old h = rw (ne-eqb new noChange h)
 
-pub indexes-set : (owner group : ℕ) {ws : List ℕ} {o g : ℕ} → o ≡ orKept owner (getD ws 9 0) → g ≡ orKept group (getD (set ws 9 o) 10 0)
-    → Becomes (withIndexes owner group) ws (set (set ws 9 o) 10 g)
+pub indexes-set : (owner group : ℕ) {ws : List ℕ} {o g : ℕ} → o ≡ orKept owner (getD ws Head.owner 0) → g ≡ orKept group (getD (set ws Head.owner o) Head.primaryGroup 0)
+    → Becomes (withIndexes owner group) ws (set (set ws Head.owner o) Head.primaryGroup g)
 unfolding tokenRow head withDefaults
 indexes-set owner group {ws} {o} {g} a b = record {
   row = λ t e.
-      ap (set (set ws 9 o) 10) b
-      ∙ ap (λ (n : ℕ). set (set ws 9 n) 10 (orKept group (getD (set ws 9 n) 10 0))) a
-      ∙ ap (λ (l : List ℕ). set (set l 9 (orKept owner (getD l 9 0))) 10 (orKept group (getD (set l 9 (orKept owner (getD l 9 0))) 10 0))) e;
+      ap (set (set ws Head.owner o) Head.primaryGroup) b
+      ∙ ap (λ (n : ℕ). set (set ws Head.owner n) Head.primaryGroup (orKept group (getD (set ws Head.owner n) Head.primaryGroup 0))) a
+      ∙ ap (λ (l : List ℕ). set (set l Head.owner (orKept owner (getD l Head.owner 0))) Head.primaryGroup (orKept group (getD (set l Head.owner (orKept owner (getD l Head.owner 0))) Head.primaryGroup 0))) e;
 }
 
 module _ (owner group flag : ℕ) {ws ws₁ ws₂ bs : List ℕ} (a : Becomes (withIndexes owner group) ws ws₁) (b : Becomes nextModified ws₁ ws₂) where

@@ -16,6 +16,7 @@ use Rattle.rules.specs.Group.{Group}
 use Rattle.rules.specs.Token.{Token, maxGroups, withGroups, nextModified}
 use Rattle.rules.specs.Valid.{tokenValid}
 use Rattle.rules.specs.State.{State, putToken, changeToken}
+use Rattle.rules.specs.Head as Head
 use Rattle.rules.specs.Memory.{headWords, low32, pack, tokenRow, tokenAt, identityAt}
 use Rattle.rules.specs.AdjustGroups.{isReset, validEntry, unprotected, applied, resetGroup, adjusted, enabledBits, enabledWords, reportWords, adjustedToken, adjust}
 use Rattle.rules.specs.Decision.{Decision, carriedOut, need_else_then_, success}
@@ -71,14 +72,14 @@ length-adjusted es gs = by (isReset es)
     by false = length-applied es gs
 
 -- i and n are the identity and the count of groups in the row, and gw the words of its groups, once they are switched
-module _ {k n : ℕ} {bytes : List ℕ} (ws : List ℕ) {gw : List ℕ} {i : Identity} {r : Switched} (ei : i ≡ identityIn ws) (en : n ≡ min (getD ws 17 0) maxGroups)
+module _ {k n : ℕ} {bytes : List ℕ} (ws : List ℕ) {gw : List ℕ} {i : Identity} {r : Switched} (ei : i ≡ identityIn ws) (en : n ≡ min (getD ws Head.groupCount 0) maxGroups)
     (x : GroupsSwitched (i .user) k bytes (groupWords n ws) gw r) where
   module _ (t : Token) (v : tokenValid t ≡ true) (e : ws ≡ tokenRow t) (es : List Entry) (later : List ℕ) (q : times k entry bytes ≡ got es later) where
     told : {A : Type 0} (a b c : A) → judged (i .user) (groupsIn (groupWords n ws)) es a b c ≡ judged (t .identity .user) (t .groups) es a b c
     unfolding tokenAt identityAt
     told a b c =
         let user : i .user ≡ t .identity .user =
-        ap (λ (y : Identity). y .user) ei ∙ ap (λ (l : List ℕ). low32 (getD l 3 0)) e ∙ ap (λ (y : Token). y .identity .user) (token-back t v) in
+        ap (λ (y : Identity). y .user) ei ∙ ap (λ (l : List ℕ). low32 (getD l Head.user 0)) e ∙ ap (λ (y : Token). y .identity .user) (token-back t v) in
         ap₂ (λ (u : ℕ) (gs : List Group). judged u gs es a b c) user (group-words-read t v e en)
 
     refusal-is : r .refusal ≡ judged (t .identity .user) (t .groups) es 5 6 0

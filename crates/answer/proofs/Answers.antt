@@ -12,6 +12,7 @@ use Rattle.rules.specs.Number.{encode, encodeIn, encodeAll}
 use Rattle.rules.specs.Frame.{frame, maxAnswer}
 use Rattle.rules.specs.Token.{maxDacl}
 use Rattle.rules.specs.State.{tokenSlots}
+use Rattle.rules.specs.Head as Head
 use Rattle.rules.specs.Memory.{tokenWords, tokenAt}
 use Rattle.rules.specs.Valid.{tokenValid}
 use Rattle.rules.specs.AdjustGroups.{reportWords}
@@ -139,7 +140,7 @@ module _ (ws bs o : List ℕ) (class : ℕ) where
   dacl-wrote e w = wrote-same (ap (λ (k : ℕ). 0 ∷ classBytes (tokenAt ws bs) k) (sym e)) w
 
 -- the DACL: its count, and then its bytes
-module _ (ws bs o : List ℕ) (n : ℕ) (l : length bs ≡ maxDacl) (c : n ≡ min (getD ws 19 0) maxDacl) (fits : Room (0 ∷ classBytes (tokenAt ws bs) 6) o) where
+module _ (ws bs o : List ℕ) (n : ℕ) (l : length bs ≡ maxDacl) (c : n ≡ min (getD ws Head.daclLength 0) maxDacl) (fits : Room (0 ∷ classBytes (tokenAt ws bs) 6) o) where
   abbrev ps : List ℕ
   ps = take (n - 0) (drop 0 bs)
 

@@ -12,6 +12,7 @@ use Rattle.table.specs.Table.{flat}
 use Rattle.rules.specs.Number.{encode, encodeAll}
 use Rattle.rules.specs.Token.{maxGroups, maxRestricting}
 use Rattle.rules.specs.Query.{pairs}
+use Rattle.rules.specs.Head as Head
 use Rattle.rules.specs.Memory.{word32, low32, headWords, tokenWords, unpack, limitsAt}
 use Rattle.number.specs.Answer.{maxFields}
 use Rattle.answer.specs.Classes.{maxSids, groupNumbers, sidNumbers}
@@ -37,16 +38,16 @@ flat-sids (x ∷ xs) = ap (λ (l : List ℕ). low32 x ∷ l) (flat-sids xs)
 
 -- the n words from the first group on, and from the first restricting SID on
 module _ (ws : List ℕ) (n : ℕ) (l : length ws ≡ tokenWords) where
-  all-pairs : n ≡ min (getD ws 17 0) maxGroups → n ∷ flat pairOf (take n (drop headWords ws)) ≡ groupNumbers ws
+  all-pairs : n ≡ min (getD ws Head.groupCount 0) maxGroups → n ∷ flat pairOf (take n (drop headWords ws)) ≡ groupNumbers ws
   all-pairs e =
       ap₂ (λ (k : ℕ) (ns : List ℕ). k ∷ ns) (sym (groups-counted ws n l e)) (flat-pairs (take n (drop headWords ws)) ∙ ap pairs (sym (groups-cut ws n l e)))
 
-  all-low : n ≡ min (getD ws 18 0) maxRestricting → n ∷ flat sidOf (take n (drop (headWords + maxGroups) ws)) ≡ sidNumbers ws
+  all-low : n ≡ min (getD ws Head.restrictingCount 0) maxRestricting → n ∷ flat sidOf (take n (drop (headWords + maxGroups) ws)) ≡ sidNumbers ws
   unfolding limitsAt
   all-low e =
       let xs = drop (headWords + maxGroups) ws in
       let long : length xs ≡ maxRestricting = simp length-drop (omega arith) in
-      let cut : take n xs ≡ take (getD ws 18 0) xs = ap (λ (k : ℕ). take k xs) e ∙ take-least (getD ws 18 0) maxRestricting xs long in
+      let cut : take n xs ≡ take (getD ws Head.restrictingCount 0) xs = ap (λ (k : ℕ). take k xs) e ∙ take-least (getD ws Head.restrictingCount 0) maxRestricting xs long in
       ap₂ (λ (k : ℕ) (ns : List ℕ). k ∷ ns)
       (sym (ap length (ap (map low32) (sym cut)) ∙ length-map (take n xs) low32 ∙ length-take-le n xs (omega arith)))
       (flat-sids (take n xs) ∙ ap (map low32) cut)
@@ -106,7 +107,7 @@ module _ {f : ℕ → List ℕ} {b n : ℕ} {ws : List ℕ} where
   counted-all {sum} {i} c h = c .bytes ∙ ap (λ (k : ℕ). length (encodeAll (n ∷ flat f (take k (drop b ws))))) {x = i} {y = n} (omega arith)
 
 module _ {ws : List ℕ} {n : ℕ} where
-  module _ (l : length ws ≡ tokenWords) (e : n ≡ min (getD ws 17 0) maxGroups) where
+  module _ (l : length ws ≡ tokenWords) (e : n ≡ min (getD ws Head.groupCount 0) maxGroups) where
     pub no-pairs : {sum : ℕ} → sum ≡ length (encode n) → sum ≤ 10 → Counted pairOf headWords n ws sum 0
     no-pairs h k = counted-none (omega arith) (omega arith) h k
 
@@ -124,7 +125,7 @@ module _ {ws : List ℕ} {n : ℕ} where
       ∙ ap (λ (ns : List ℕ). length (encode (low32 w) ++ ns)) (sym (append-nil (encode (w / word32)))))
       (omega arith)
 
-  module _ (l : length ws ≡ tokenWords) (e : n ≡ min (getD ws 18 0) maxRestricting) where
+  module _ (l : length ws ≡ tokenWords) (e : n ≡ min (getD ws Head.restrictingCount 0) maxRestricting) where
     pub no-sids : {sum : ℕ} → sum ≡ length (encode n) → sum ≤ 10 → Counted sidOf (headWords + maxGroups) n ws sum 0
     no-sids h k = counted-none (omega arith) (omega arith) h k
 
@@ -166,11 +167,11 @@ pub record SidsIn (n : ℕ) (ws out : List ℕ) (i : ℕ) : Type 0 where
   front : take (i + 2) out ≡ 0 ∷ n ∷ flat sidOf (take i (drop (headWords + maxGroups) ws))
 
 module _ {ws : List ℕ} {n : ℕ} where
-  pub no-pair-in : length ws ≡ tokenWords → n ≡ min (getD ws 17 0) maxGroups → PairsIn n ws (0 ∷ n ∷ replicate (2 * maxGroups) 0) 0
+  pub no-pair-in : length ws ≡ tokenWords → n ≡ min (getD ws Head.groupCount 0) maxGroups → PairsIn n ws (0 ∷ n ∷ replicate (2 * maxGroups) 0) 0
   unfolding flat
   no-pair-in l h = record { within = zero-le; few = omega arith; source = l; long = refl; front = refl }
 
-  pub no-sid-in : length ws ≡ tokenWords → n ≡ min (getD ws 18 0) maxRestricting → SidsIn n ws (0 ∷ n ∷ replicate maxRestricting 0) 0
+  pub no-sid-in : length ws ≡ tokenWords → n ≡ min (getD ws Head.restrictingCount 0) maxRestricting → SidsIn n ws (0 ∷ n ∷ replicate maxRestricting 0) 0
   unfolding flat
   no-sid-in l h = record { within = zero-le; few = omega arith; source = l; long = refl; front = refl }
 
@@ -211,14 +212,14 @@ module _ {ws : List ℕ} {n : ℕ} where
               ∙ ap (λ (l : List ℕ). 0 ∷ n ∷ l) (sym (word-next sidOf (headWords + maxGroups) ws i (omega arith)));
         }
 
-    pub pairs-in : PairsIn n ws out i → n ≤ i → n ≡ min (getD ws 17 0) maxGroups → take (2 * n + 2) out ≡ 0 ∷ groupNumbers ws
+    pub pairs-in : PairsIn n ws out i → n ≤ i → n ≡ min (getD ws Head.groupCount 0) maxGroups → take (2 * n + 2) out ≡ 0 ∷ groupNumbers ws
     pairs-in s h e =
         ap (λ (k : ℕ). take (2 * k + 2) out) {x = n} {y = i} (omega arith)
         ∙ s .front
         ∙ ap (λ (k : ℕ). 0 ∷ n ∷ flat pairOf (take k (drop headWords ws))) {x = i} {y = n} (omega arith)
         ∙ ap (λ (ns : List ℕ). 0 ∷ ns) (all-pairs ws n (s .source) e)
 
-    pub sids-in : SidsIn n ws out i → n ≤ i → n ≡ min (getD ws 18 0) maxRestricting → take (n + 2) out ≡ 0 ∷ sidNumbers ws
+    pub sids-in : SidsIn n ws out i → n ≤ i → n ≡ min (getD ws Head.restrictingCount 0) maxRestricting → take (n + 2) out ≡ 0 ∷ sidNumbers ws
     sids-in s h e =
         ap (λ (k : ℕ). take (k + 2) out) {x = n} {y = i} (omega arith)
         ∙ s .front

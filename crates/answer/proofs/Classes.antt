@@ -13,19 +13,20 @@ use Rattle.rules.specs.Number.{encode, encodeAll}
 use Rattle.rules.specs.Group.{Group, noGroup}
 use Rattle.rules.specs.Token.{sidAt, maxGroups, maxDacl}
 use Rattle.rules.specs.Query.{words, classes, classBytes}
+use Rattle.rules.specs.Head as Head
 use Rattle.rules.specs.Memory.{word32, headWords, tokenWords, unpack, identityAt, privilegesAt, groupsAt, defaultsAt, tokenAt}
 use Rattle.rules.proofs.Logic.{and-l, and-r}
 use Rattle.answer.specs.Classes.{privilegeWords, IsOne, RowSid, RowOne, RowCounted}
 
 -- ---- the groups that the row's count leaves
 
-module _ (ws : List ℕ) (n : ℕ) (l : length ws ≡ tokenWords) (e : n ≡ min (getD ws 17 0) maxGroups) where
+module _ (ws : List ℕ) (n : ℕ) (l : length ws ≡ tokenWords) (e : n ≡ min (getD ws Head.groupCount 0) maxGroups) where
   pub groups-cut : groupsAt ws ≡ map unpack (take n (drop headWords ws))
   unfolding groupsAt
   groups-cut =
       let gs = take maxGroups (drop headWords ws) in
       let long : length gs ≡ maxGroups = length-take-le maxGroups (drop headWords ws) (simp length-drop (omega arith)) in
-      ap (map unpack) (sym (take-least (getD ws 17 0) maxGroups gs long) ∙ ap (λ (k : ℕ). take k gs) (sym e) ∙ take-take n maxGroups (drop headWords ws) (omega arith))
+      ap (map unpack) (sym (take-least (getD ws Head.groupCount 0) maxGroups gs long) ∙ ap (λ (k : ℕ). take k gs) (sym e) ∙ take-take n maxGroups (drop headWords ws) (omega arith))
 
   pub groups-counted : length (groupsAt ws) ≡ n
   groups-counted =
@@ -33,18 +34,18 @@ module _ (ws : List ℕ) (n : ℕ) (l : length ws ≡ tokenWords) (e : n ≡ min
 
 -- ---- the DACL that the row's count leaves
 
-pub dacl-bytes : (ws bs : List ℕ) (n : ℕ) → length bs ≡ maxDacl → n ≡ min (getD ws 19 0) maxDacl
+pub dacl-bytes : (ws bs : List ℕ) (n : ℕ) → length bs ≡ maxDacl → n ≡ min (getD ws Head.daclLength 0) maxDacl
     → encode n ++ take n bs ≡ classBytes (tokenAt ws bs) 6
 unfolding classBytes classes tokenAt defaultsAt
 dacl-bytes ws bs n l c =
-    let cut : take n bs ≡ take (getD ws 19 0) bs = ap (λ (k : ℕ). take k bs) c ∙ take-least (getD ws 19 0) maxDacl bs l in
-    let long : length (take (getD ws 19 0) bs) ≡ n = ap length (sym cut) ∙ length-take-le n bs (omega arith) in
+    let cut : take n bs ≡ take (getD ws Head.daclLength 0) bs = ap (λ (k : ℕ). take k bs) c ∙ take-least (getD ws Head.daclLength 0) maxDacl bs l in
+    let long : length (take (getD ws Head.daclLength 0) bs) ≡ n = ap length (sym cut) ∙ length-take-le n bs (omega arith) in
     ap₂ (λ (k : ℕ) (xs : List ℕ). encode k ++ xs) (sym long) cut
 
 -- ---- the SID of an index
 
 module _ (ws : List ℕ) (index : ℕ) where
-  pub user-sid : index ≡ 0 → RowSid ws index (getD ws 3 0 % word32)
+  pub user-sid : index ≡ 0 → RowSid ws index (getD ws Head.user 0 % word32)
   unfolding sidAt tokenAt identityAt
   user-sid e = record { sid = λ bs. ap (sidAt (tokenAt ws bs)) (sym e) }
 
@@ -53,7 +54,7 @@ module _ (ws : List ℕ) (index : ℕ) where
   unfolding sidAt tokenAt
   later h e = record { sid = λ bs. e ∙ ap (sidAt (tokenAt ws bs)) {x = suc (index - 1)} {y = index} (omega arith) }
 
-  module _ (n : ℕ) (l : length ws ≡ tokenWords) (e : n ≡ min (getD ws 17 0) maxGroups) where
+  module _ (n : ℕ) (l : length ws ≡ tokenWords) (e : n ≡ min (getD ws Head.groupCount 0) maxGroups) where
     pub no-sid : n < index → RowSid ws index 0
     unfolding noGroup
     no-sid h =
@@ -122,7 +123,7 @@ module _ {ws : List ℕ} {class r : ℕ} where
   pub counted-one : {m : ℕ} → RowOne ws class m → r ≡ length (encode m) → RowCounted ws class r
   counted-one o h = record { counted = λ bs l. h ∙ ap length (sym (o .bytes bs)) }
 
-pub counted-dacl : {ws : List ℕ} {n m : ℕ} → n ≡ min (getD ws 19 0) maxDacl → m ≡ length (encode n) → RowCounted ws 6 (m + n)
+pub counted-dacl : {ws : List ℕ} {n m : ℕ} → n ≡ min (getD ws Head.daclLength 0) maxDacl → m ≡ length (encode n) → RowCounted ws 6 (m + n)
 counted-dacl {ws} {n} c e = record {
   counted = λ bs l.
       let k : length (take n bs) ≡ n = length-take-le n bs (omega arith) in

@@ -6,6 +6,7 @@ use lib.ListN.{length, getD}
 use Rattle.rules.specs.Number.{encode}
 use Rattle.rules.specs.Token.{sidAt, maxRestricting, maxDacl}
 use Rattle.rules.specs.Query.{pairs, classBytes}
+use Rattle.rules.specs.Head as Head
 use Rattle.rules.specs.Memory.{low8, groupsAt, limitsAt, tokenAt}
 
 -- ---- the classes of several numbers
@@ -20,11 +21,11 @@ groupNumbers ws = length (groupsAt ws) ∷ pairs (groupsAt ws)
 
 -- class 3
 abbrev pub privilegeWords : List ℕ → List ℕ
-privilegeWords ws = getD ws 13 0 ∷ getD ws 14 0 ∷ getD ws 15 0 ∷ getD ws 16 0 ∷ []
+privilegeWords ws = getD ws Head.present 0 ∷ getD ws Head.enabled 0 ∷ getD ws Head.byDefault 0 ∷ getD ws Head.used 0 ∷ []
 
 -- class 9
 abbrev pub statistics : List ℕ → List ℕ
-statistics ws = getD ws 0 0 ∷ getD ws 2 0 ∷ getD ws 1 0 ∷ low8 (getD ws 4 0) ∷ []
+statistics ws = getD ws Head.number 0 ∷ getD ws Head.session 0 ∷ getD ws Head.modified 0 ∷ low8 (getD ws Head.type 0) ∷ []
 
 -- class 10
 abbrev pub sidNumbers : List ℕ → List ℕ

@@ -19,6 +19,7 @@ use Rattle.rules.specs.Handle as rules-handle
 use Rattle.rules.specs.State as state
 use Rattle.rules.specs.State.{State, tokenSlots}
 use Rattle.rules.specs.Valid.{valid}
+use Rattle.rules.specs.Head as Head
 use Rattle.rules.specs.Memory.{tokenWords, tokenCounter, mark, head, tokenRow, daclRow}
 use Rattle.rules.specs.Decision.{Decision, carriedOut, need_else_then_, canIssue, issued}
 use Rattle.rules.specs.Duplicate.{retyped, copied, nobody, anonymousCopy, duplicated, validLevel, validDuplicate, duplicate}
@@ -45,15 +46,15 @@ use Rattle.copy.proofs.Copies.{issues-made, on-located}
 
 -- ---- the copy
 
-pub relabelled : (n type level : ℕ) {ws : List ℕ} → length ws ≡ tokenWords → Remade (copied n type level) ws (set (set (set (set (set ws 0 n) 1 n) 4 type) 5 level) 6 1)
+pub relabelled : (n type level : ℕ) {ws : List ℕ} → length ws ≡ tokenWords → Remade (copied n type level) ws (set (set (set (set (set ws Head.number n) Head.modified n) Head.type type) Head.level level) Head.elevation 1)
 unfolding copied retyped tokenRow head
 relabelled n type level l = record {
-  made = record { row = λ t e. ap (λ (l : List ℕ). set (set (set (set (set l 0 n) 1 n) 4 type) 5 level) 6 1) e };
+  made = record { row = λ t e. ap (λ (l : List ℕ). set (set (set (set (set l Head.number n) Head.modified n) Head.type type) Head.level level) Head.elevation 1) e };
   long = simp length-set l;
 }
 
 abbrev anonymousRow : ℕ → ℕ → List ℕ
-anonymousRow n used = set (set (set (set (set (set (replicate tokenWords 0) 0 n) 1 n) 3 7) 4 2) 6 1) 16 used
+anonymousRow n used = set (set (set (set (set (set (replicate tokenWords 0) Head.number n) Head.modified n) Head.user 7) Head.type 2) Head.elevation 1) Head.used used
 
 module _ {n i s mask : ℕ} {hs : List Handle} {cs ts ds cs′ ts′ ds′ : List ℕ} {r : Outcome} (k : NextGiven tokenCounter cs n) where
   pub issues-copy : (type level : ℕ) {ws ws′ bs : List ℕ} → RowCopied tokenWords i ts ws → Remade (copied n type level) ws ws′ → RowCopied maxDacl i ds bs

@@ -19,6 +19,7 @@ use Rattle.rules.specs.Token.{Token, maxGroups, maxRestricting, maxDacl, withGr
 use Rattle.rules.specs.State as state
 use Rattle.rules.specs.State.{State}
 use Rattle.rules.specs.Valid.{is32, groupValid, groupsValid, limitsValid, valid, tokenValid}
+use Rattle.rules.specs.Head as Head
 use Rattle.rules.specs.Memory.{tokenWords, tokenCounter, head, tokenRow, daclRow}
 use Rattle.rules.specs.Request.{times, u32}
 use Rattle.rules.specs.Decision.{Decision, carriedOut, need_else_then_, canIssue, issued}
@@ -46,7 +47,7 @@ use Rattle.copy.proofs.Copies.{issues-made, on-located}
 
 -- ---- the counts of the token in a slot
 
-pub counts : (i : ℕ) {ts : List ℕ} {g r : ℕ} → g ≡ min (getD (lent i ts) 17 0) maxGroups → r ≡ min (getD (lent i ts) 18 0) maxRestricting
+pub counts : (i : ℕ) {ts : List ℕ} {g r : ℕ} → g ≡ min (getD (lent i ts) Head.groupCount 0) maxGroups → r ≡ min (getD (lent i ts) Head.restrictingCount 0) maxRestricting
     → CountsAt i ts (record { groups = g; restricting = r })
 unfolding tokenRow head limitsValid
 counts i {ts} eg er = record {
@@ -55,8 +56,8 @@ counts i {ts} eg er = record {
   counted = λ t v e.
       let groups = few-groups t v in
       let sids = leb-true (length (t .limits .restricting)) maxRestricting (and-l (leb (length (t .limits .restricting)) maxRestricting) _ (token-facts t v .limits)) in
-      let g = ap (λ (l : List ℕ). getD l 17 0) (part-at tokenWords i ts ∙ e) in
-      let r = ap (λ (l : List ℕ). getD l 18 0) (part-at tokenWords i ts ∙ e) in
+      let g = ap (λ (l : List ℕ). getD l Head.groupCount 0) (part-at tokenWords i ts ∙ e) in
+      let r = ap (λ (l : List ℕ). getD l Head.restrictingCount 0) (part-at tokenWords i ts ∙ e) in
       record { groups = omega arith; restricting = omega arith };
 }
 

@@ -16,6 +16,7 @@ use Rattle.rules.specs.Group.{Group, denied}
 use Rattle.rules.specs.Privileges as rules
 use Rattle.rules.specs.Privileges.{remove}
 use Rattle.rules.specs.Token.{Token, maxGroups, maxRestricting, withPrivileges, withGroups}
+use Rattle.rules.specs.Head as Head
 use Rattle.rules.specs.Memory.{headWords, tokenWords, word32, mark, pack, unpack, head, tokenRow}
 use Rattle.rules.proofs.Logic.{length-changeAt}
 use Rattle.privilege.specs.Meaning.{privilegesOf}
@@ -93,7 +94,7 @@ module _ (t : Token) (i : ℕ) where
       ∙ set-after (head t) (gs ++ rs) i v
       ∙ ap (λ (l : List ℕ). head t ++ l) (set-append-left gs rs i v (omega arith))
       ∙ ap (λ (l : List ℕ). head t ++ (l ++ rs)) (set-pad maxGroups ws i (omega arith) (omega arith) v ∙ ap (pad maxGroups) (denied-among (t .groups) i h p))
-      ∙ ap (λ (n : ℕ). set (head t) 17 n ++ (pad maxGroups (map pack (changeAt i denied (t .groups))) ++ rs)) (sym (length-changeAt (t .groups) i denied))
+      ∙ ap (λ (n : ℕ). set (head t) Head.groupCount n ++ (pad maxGroups (map pack (changeAt i denied (t .groups))) ++ rs)) (sym (length-changeAt (t .groups) i denied))
 
   denied-none : length (t .groups) ≤ i → t ≡ denyIn i t
   unfolding denyIn withGroups
@@ -114,7 +115,7 @@ module _ (size index : ℕ) {ws : List ℕ} (long : length ws ≡ tokenWords) (f
 -- ---- one SID more
 
 added-row : (t : Token) (sid k : ℕ) → length (t .limits .restricting) ≡ k → k < maxRestricting
-    → set (set (tokenRow t) (headWords + maxGroups + k) sid) 18 (k + 1) ≡ tokenRow (addIn sid t)
+    → set (set (tokenRow t) (headWords + maxGroups + k) sid) Head.restrictingCount (k + 1) ≡ tokenRow (addIn sid t)
 unfolding tokenRow head addIn withSids
 added-row t sid k e h =
     let gs = pad maxGroups (map pack (t .groups)) in
@@ -122,16 +123,16 @@ added-row t sid k e h =
     let rs = pad maxRestricting sids in
     let long = length-pad maxGroups (map pack (t .groups)) in
     let more : length (sids ++ (sid ∷ [])) ≡ length sids + 1 = length-append sids (sid ∷ []) in
-    ap (λ (j : ℕ). set (set (head t ++ (gs ++ rs)) j sid) 18 (k + 1)) {x = headWords + maxGroups + k} {y = headWords + (length gs + k)} (omega arith)
-    ∙ ap (λ (l : List ℕ). set l 18 (k + 1)) (set-after (head t) (gs ++ rs) (length gs + k) sid ∙ ap (λ (l : List ℕ). head t ++ l) (set-after gs rs k sid))
-    ∙ ap (λ (j : ℕ). set (head t) 18 (k + 1) ++ (gs ++ set rs j sid)) (sym e)
-    ∙ ap (λ (l : List ℕ). set (head t) 18 (k + 1) ++ (gs ++ l)) (pad-more maxRestricting sids sid (omega arith))
-    ∙ ap (λ (j : ℕ). set (head t) 18 j ++ (gs ++ pad maxRestricting (sids ++ (sid ∷ [])))) {x = k + 1} {y = length (sids ++ (sid ∷ []))} (omega arith)
+    ap (λ (j : ℕ). set (set (head t ++ (gs ++ rs)) j sid) Head.restrictingCount (k + 1)) {x = headWords + maxGroups + k} {y = headWords + (length gs + k)} (omega arith)
+    ∙ ap (λ (l : List ℕ). set l Head.restrictingCount (k + 1)) (set-after (head t) (gs ++ rs) (length gs + k) sid ∙ ap (λ (l : List ℕ). head t ++ l) (set-after gs rs k sid))
+    ∙ ap (λ (j : ℕ). set (head t) Head.restrictingCount (k + 1) ++ (gs ++ set rs j sid)) (sym e)
+    ∙ ap (λ (l : List ℕ). set (head t) Head.restrictingCount (k + 1) ++ (gs ++ l)) (pad-more maxRestricting sids sid (omega arith))
+    ∙ ap (λ (j : ℕ). set (head t) Head.restrictingCount j ++ (gs ++ pad maxRestricting (sids ++ (sid ∷ [])))) {x = k + 1} {y = length (sids ++ (sid ∷ []))} (omega arith)
 
-pub adds : (k sid : ℕ) {ws : List ℕ} → length ws ≡ tokenWords → k < maxRestricting → SidAdded k sid ws (set (set ws (headWords + maxGroups + k) sid) 18 (k + 1))
+pub adds : (k sid : ℕ) {ws : List ℕ} → length ws ≡ tokenWords → k < maxRestricting → SidAdded k sid ws (set (set ws (headWords + maxGroups + k) sid) Head.restrictingCount (k + 1))
 adds k sid long h = record {
   long = simp length-set long;
-  made = λ t e q. ap (λ (l : List ℕ). set (set l (headWords + maxGroups + k) sid) 18 (k + 1)) q ∙ added-row t sid k e h;
+  made = λ t e q. ap (λ (l : List ℕ). set (set l (headWords + maxGroups + k) sid) Head.restrictingCount (k + 1)) q ∙ added-row t sid k e h;
 }
 
 -- ---- the head
@@ -141,18 +142,18 @@ unfolding mark
 mark-set true b = refl
 mark-set false b = refl
 
-pub limits : (n m removed : ℕ) {ws ws₁ : List ℕ} {a b : ℕ} {p q : Privileges} → a ≡ markWord m (getD ws 7 0) → b ≡ markWord m (getD ws 8 0)
+pub limits : (n m removed : ℕ) {ws ws₁ : List ℕ} {a b : ℕ} {p q : Privileges} → a ≡ markWord m (getD ws Head.writeRestricted 0) → b ≡ markWord m (getD ws Head.userDenyOnly 0)
     → p ≡ privilegesIn ws → privilegesOf q ≡ remove removed (privilegesOf p) → Becomes (withPrivileges (privilegesOf q)) ws ws₁ → length ws₁ ≡ length ws → length ws ≡ tokenWords
-    → Remade (limitedTo n m removed) ws (set (set (set (set (set ws₁ 0 n) 1 n) 6 1) 7 a) 8 b)
+    → Remade (limitedTo n m removed) ws (set (set (set (set (set ws₁ Head.number n) Head.modified n) Head.elevation 1) Head.writeRestricted a) Head.userDenyOnly b)
 unfolding limitedTo withPrivileges tokenRow head
 limits n m removed {ws} ea eb g r w kept long = record {
   made = record {
     row = λ t e.
-        let fa = ea ∙ ap (λ (l : List ℕ). markWord m (getD l 7 0)) e ∙ mark-set (eqb m 1) (t .limits .writeRestricted) in
-        let fb = eb ∙ ap (λ (l : List ℕ). markWord m (getD l 8 0)) e ∙ mark-set (eqb m 1) (t .limits .userDenyOnly) in
+        let fa = ea ∙ ap (λ (l : List ℕ). markWord m (getD l Head.writeRestricted 0)) e ∙ mark-set (eqb m 1) (t .limits .writeRestricted) in
+        let fb = eb ∙ ap (λ (l : List ℕ). markWord m (getD l Head.userDenyOnly 0)) e ∙ mark-set (eqb m 1) (t .limits .userDenyOnly) in
         let left = r ∙ ap (remove removed) (ap privilegesOf g ∙ privileges-in-row ws t e) in
         let fw = w .row t e ∙ ap (λ (x : rules.Privileges). tokenRow (withPrivileges x t)) left in
-        λ i. set (set (set (set (set (fw i) 0 n) 1 n) 6 1) 7 (fa i)) 8 (fb i);
+        λ i. set (set (set (set (set (fw i) Head.number n) Head.modified n) Head.elevation 1) Head.writeRestricted (fa i)) Head.userDenyOnly (fb i);
   };
   long = simp length-set (kept ∙ long);
 }

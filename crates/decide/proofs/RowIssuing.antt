@@ -8,6 +8,7 @@ use Rattle.rules.specs.Token.{Token}
 use Rattle.rules.specs.Table.{added}
 use Rattle.rules.specs.Valid.{valid}
 use Rattle.rules.specs.State.{State, noToken, withTokens, withHandles, addToken, addHandle}
+use Rattle.rules.specs.Head as Head
 use Rattle.rules.specs.Memory.{sections, head, tokenRow, daclRow}
 use Rattle.rules.specs.Decision.{Decision, carriedOut, issued}
 use Rattle.handle.specs.declared.Handle.{Handle}
@@ -26,12 +27,12 @@ use Rattle.decide.specs.declared.outcome.Outcome.{Outcome}
 use Rattle.decide.specs.Carried.{Carried}
 use Rattle.decide.specs.Issue.{RowIssued}
 
-number-in : (ws : List ℕ) (u : Token) → ws ≡ tokenRow u → getD ws 0 0 ≡ u .number
+number-in : (ws : List ℕ) (u : Token) → ws ≡ tokenRow u → getD ws Head.number 0 ≡ u .number
 unfolding tokenRow head
-number-in ws u e = ap (λ (l : List ℕ). getD l 0 0) e
+number-in ws u e = ap (λ (l : List ℕ). getD l Head.number 0) e
 
 module _ {s mask : ℕ} {ws bs : List ℕ} {hs : List Handle} {cs ts ds cs₁ ts′ ds′ cs′ : List ℕ} {c : Change}
-    (a : RowAdded ws bs ts ds cs ts′ ds′ cs₁) (h : HandleAdded s (getD ws 0 0) mask hs cs₁ cs′ c) where
+    (a : RowAdded ws bs ts ds cs ts′ ds′ cs₁) (h : HandleAdded s (getD ws Head.number 0) mask hs cs₁ cs′ c) where
   -- the state between has a token that may be of any form: the handles are the same as if only the next number had stepped
   abbrev stepped : State → State
   stepped σ = withTokens (record { slots = σ .tokens .slots; next = σ .tokens .next + 1 }) σ
@@ -40,7 +41,7 @@ module _ {s mask : ℕ} {ws bs : List ℕ} {hs : List Handle} {cs ts ds cs₁ ts
   unfolding withTokens
   stepped-formed σ f = record { token-slots = f .token-slots; handle-slots = f .handle-slots; tokens = f .tokens; handles = f .handles }
 
-  handles-after : (u : Token) (σ : State) → valid σ ≡ true → PartsIn σ ts ds hs cs → HandlesIn (addHandle s (getD ws 0 0) mask (addToken u σ)) (changed hs c)
+  handles-after : (u : Token) (σ : State) → valid σ ≡ true → PartsIn σ ts ds hs cs → HandlesIn (addHandle s (getD ws Head.number 0) mask (addToken u σ)) (changed hs c)
   unfolding addToken withTokens added addHandle withHandles sections
   handles-after u σ v p = record {
     records = h .handles (stepped σ) (stepped-formed σ (valid-formed σ v)) (record { records = p .handles .records }) (control-same refl (a .control u σ (p .control))) .records;

@@ -16,6 +16,7 @@ use Rattle.rules.specs.Token.{maxDacl}
 use Rattle.rules.specs.Table.{Slot, free, live, isLive, orElse, found, lives}
 use Rattle.rules.specs.Growth.{Mem}
 use Rattle.rules.specs.Index.{foundIndex}
+use Rattle.rules.specs.Head as Head
 use Rattle.rules.specs.Memory.{tokenWords, slotDacl, slotAt, tokenAt}
 use Rattle.rules.specs.Valid.{valid}
 use Rattle.rules.specs.State as state
@@ -74,7 +75,7 @@ slot-of σ n i ts ds v k at m = go (found-some numberOf n (σ .tokens .slots) m)
         sym there ∙ ap (λ (qs : List (Slot Rules.Token)). getD qs i free) (sym read) ∙ rows-at slotAt tokenWords maxDacl free tokenSlots i ts ds in16 in
         record {
           inside = in16;
-          token = live-or noToken (eqb (getD (record-at tokenWords i ts) 0 0) 0) row refl ∙ ap (orElse noToken) (sym e);
+          token = live-or noToken (eqb (getD (record-at tokenWords i ts) Head.number 0) 0) row refl ∙ ap (orElse noToken) (sym e);
         }
 
 -- ---- a class of the token

@@ -31,6 +31,7 @@ pub mod Valid
 pub mod Ladder
 pub mod Run
 pub mod Growth
+pub mod Head
 pub mod Memory
 pub mod Throughout
 pub mod Calls

@@ -19,6 +19,7 @@ use Rattle.rules.specs.Station.{Station}
 use Rattle.rules.specs.State.{State, tokenSlots, handleSlots, stationCount}
 use Rattle.rules.specs.Frame.{maxBody}
 use Rattle.rules.specs.Valid as Valid
+use Rattle.rules.specs.Head as Head
 
 -- words and bytes, but for the handle list, which is a list of records
 pub record Memory : Type 0 where
@@ -184,47 +185,47 @@ encode σ =
 unfoldable pub identityAt : List ℕ → Identity
 identityAt ws =
     record {
-      user = low32 (getD ws 3 0);
-      session = getD ws 2 0;
-      type = low8 (getD ws 4 0);
-      level = low8 (getD ws 5 0);
-      integrity = low32 (getD ws 12 0);
+      user = low32 (getD ws Head.user 0);
+      session = getD ws Head.session 0;
+      type = low8 (getD ws Head.type 0);
+      level = low8 (getD ws Head.level 0);
+      integrity = low32 (getD ws Head.integrity 0);
     }
 
 unfoldable pub privilegesAt : List ℕ → Privileges
-privilegesAt ws = record { present = getD ws 13 0; enabled = getD ws 14 0; byDefault = getD ws 15 0; used = getD ws 16 0 }
+privilegesAt ws = record { present = getD ws Head.present 0; enabled = getD ws Head.enabled 0; byDefault = getD ws Head.byDefault 0; used = getD ws Head.used 0 }
 
 unfoldable pub groupsAt : List ℕ → List Group
-groupsAt ws = map unpack (take (getD ws 17 0) (take maxGroups (drop headWords ws)))
+groupsAt ws = map unpack (take (getD ws Head.groupCount 0) (take maxGroups (drop headWords ws)))
 
 unfoldable pub limitsAt : List ℕ → Limits
 limitsAt ws =
     record {
-      restricting = map low32 (take (getD ws 18 0) (drop (headWords + maxGroups) ws));
-      writeRestricted = eqb (getD ws 7 0) 1;
-      userDenyOnly = eqb (getD ws 8 0) 1;
+      restricting = map low32 (take (getD ws Head.restrictingCount 0) (drop (headWords + maxGroups) ws));
+      writeRestricted = eqb (getD ws Head.writeRestricted 0) 1;
+      userDenyOnly = eqb (getD ws Head.userDenyOnly 0) 1;
     }
 
 unfoldable pub defaultsAt : List ℕ → List ℕ → Defaults
-defaultsAt ws bs = record { owner = low32 (getD ws 9 0); primaryGroup = low32 (getD ws 10 0); dacl = take (getD ws 19 0) bs }
+defaultsAt ws bs = record { owner = low32 (getD ws Head.owner 0); primaryGroup = low32 (getD ws Head.primaryGroup 0); dacl = take (getD ws Head.daclLength 0) bs }
 
 unfoldable pub tokenAt : List ℕ → List ℕ → Token
 tokenAt ws bs =
     record {
-      number = getD ws 0 0;
-      modified = getD ws 1 0;
-      elevation = low8 (getD ws 6 0);
+      number = getD ws Head.number 0;
+      modified = getD ws Head.modified 0;
+      elevation = low8 (getD ws Head.elevation 0);
       identity = identityAt ws;
       privileges = privilegesAt ws;
       groups = groupsAt ws;
       limits = limitsAt ws;
       defaults = defaultsAt ws bs;
-      scope = low32 (getD ws 11 0);
+      scope = low32 (getD ws Head.scope 0);
     }
 
 -- number 0 is given to no token and to no handle: the slot is free
 unfoldable pub slotAt : List ℕ → List ℕ → Slot Token
-slotAt ws bs = if eqb (getD ws 0 0) 0 then free else live (tokenAt ws bs)
+slotAt ws bs = if eqb (getD ws Head.number 0) 0 then free else live (tokenAt ws bs)
 
 unfoldable pub handleAt : Handle → Slot Handle
 handleAt h = if eqb h.number 0 then free else live h

@@ -12,6 +12,7 @@ use Rattle.rules.specs.Basic.{all}
 use Rattle.rules.specs.Group.{Group}
 use Rattle.rules.specs.Token.{Token, maxGroups, maxRestricting, nextModified, withPrivileges, withGroups, withScope}
 use Rattle.rules.specs.Valid.{groupValid, groupsValid, tokenValid}
+use Rattle.rules.specs.Head as Head
 use Rattle.rules.specs.Memory.{headWords, pack, unpack, head, tokenRow, groupsAt, tokenAt}
 use Rattle.rules.proofs.Logic.{and-l}
 use Rattle.rules.proofs.Facts.{token-facts}
@@ -21,17 +22,17 @@ use Rattle.privilege.specs.declared.privileges.Privileges.{Privileges}
 use Rattle.token.specs.Row.{Becomes}
 
 module _ {ws : List ℕ} where
-  pub modified-stepped : {m : ℕ} → m ≡ (getD ws 1 0 + 1) % 2 ^ 64 → Becomes nextModified ws (set ws 1 m)
+  pub modified-stepped : {m : ℕ} → m ≡ (getD ws Head.modified 0 + 1) % 2 ^ 64 → Becomes nextModified ws (set ws Head.modified m)
   unfolding tokenRow head nextModified
-  modified-stepped q = record { row = λ t e. ap (set ws 1) q ∙ ap (λ (l : List ℕ). set l 1 ((getD l 1 0 + 1) % 2 ^ 64)) e }
+  modified-stepped q = record { row = λ t e. ap (set ws Head.modified) q ∙ ap (λ (l : List ℕ). set l Head.modified ((getD l Head.modified 0 + 1) % 2 ^ 64)) e }
 
-  pub privileges-set : (p : Privileges) → Becomes (withPrivileges (privilegesOf p)) ws (set (set (set (set ws 13 (p .present)) 14 (p .enabled)) 15 (p .«by_default»)) 16 (p .used))
+  pub privileges-set : (p : Privileges) → Becomes (withPrivileges (privilegesOf p)) ws (set (set (set (set ws Head.present (p .present)) Head.enabled (p .enabled)) Head.byDefault (p .«by_default»)) Head.used (p .used))
   unfolding tokenRow head withPrivileges
-  privileges-set p = record { row = λ t e. ap (λ (l : List ℕ). set (set (set (set l 13 (p .present)) 14 (p .enabled)) 15 (p .«by_default»)) 16 (p .used)) e }
+  privileges-set p = record { row = λ t e. ap (λ (l : List ℕ). set (set (set (set l Head.present (p .present)) Head.enabled (p .enabled)) Head.byDefault (p .«by_default»)) Head.used (p .used)) e }
 
-  pub scope-set : (v : ℕ) → Becomes (withScope v) ws (set ws 11 v)
+  pub scope-set : (v : ℕ) → Becomes (withScope v) ws (set ws Head.scope v)
   unfolding tokenRow head withScope
-  scope-set v = record { row = λ t e. ap (λ (l : List ℕ). set l 11 v) e }
+  scope-set v = record { row = λ t e. ap (λ (l : List ℕ). set l Head.scope v) e }
 
 -- ---- the words of a token's groups
 
@@ -63,10 +64,10 @@ pub few-groups : (t : Token) → tokenValid t ≡ true → length (t .groups) �
 unfolding groupsValid
 few-groups t v = leb-true (length (t .groups)) maxGroups (and-l _ (all groupValid (t .groups)) (token-facts t v .groups))
 
-module _ {ws : List ℕ} {n : ℕ} (t : Token) (v : tokenValid t ≡ true) (e : ws ≡ tokenRow t) (k : n ≡ min (getD ws 17 0) maxGroups) where
+module _ {ws : List ℕ} {n : ℕ} (t : Token) (v : tokenValid t ≡ true) (e : ws ≡ tokenRow t) (k : n ≡ min (getD ws Head.groupCount 0) maxGroups) where
   counted : headWords + n - headWords ≡ length (t .groups)
   unfolding tokenRow head
-  counted = let few = few-groups t v in let c : getD ws 17 0 ≡ length (t .groups) = ap (λ (l : List ℕ). getD l 17 0) e in omega arith
+  counted = let few = few-groups t v in let c : getD ws Head.groupCount 0 ≡ length (t .groups) = ap (λ (l : List ℕ). getD l Head.groupCount 0) e in omega arith
 
   pub group-words-read : map unpack (groupWords n ws) ≡ t .groups
   unfolding tokenAt groupsAt tokenRow head

@@ -15,13 +15,14 @@ use Rattle.rules.specs.Table.{Slot, free, live}
 use Rattle.rules.specs.Token.{Token, maxDacl}
 use Rattle.rules.specs.State.{tokenSlots, isNumbered}
 use Rattle.rules.specs.Index.{freeIndex, foundIndex}
+use Rattle.rules.specs.Head as Head
 use Rattle.rules.specs.Memory.{tokenWords, tokenAt, slotAt}
 use Rattle.token.specs.Meaning.{slotsOf}
 
 abbrev rows : ℕ → List ℕ → List ℕ → List (Slot Token)
 rows n ws bs = readRows slotAt tokenWords maxDacl n ws bs
 
-first : (ws : List ℕ) → getD (take tokenWords ws) 0 0 ≡ getD ws 0 0
+first : (ws : List ℕ) → getD (take tokenWords ws) Head.number 0 ≡ getD ws Head.number 0
 first ws = getD-take tokenWords ws 0 0 (omega arith)
 
 free-column : (n : ℕ) (ws bs : List ℕ) → indexOf 0 (column tokenWords n ws) ≡ freeIndex (rows n ws bs)
@@ -29,7 +30,7 @@ unfolding indexOf column readRows slotAt freeIndex
 free-column zero ws bs = refl
 free-column (suc n) ws bs =
     ap (λ (y : ℕ). orNext (eqb y 0) (indexOf 0 (column tokenWords n (drop tokenWords ws)))) (sym (first ws))
-    ∙ next (eqb (getD (take tokenWords ws) 0 0) 0) (tokenAt (take tokenWords ws) (take maxDacl bs)) (rows n (drop tokenWords ws) (drop maxDacl bs))
+    ∙ next (eqb (getD (take tokenWords ws) Head.number 0) 0) (tokenAt (take tokenWords ws) (take maxDacl bs)) (rows n (drop tokenWords ws) (drop maxDacl bs))
     (free-column n (drop tokenWords ws) (drop maxDacl bs))
   where
     next : (b : Bool) (t : Token) {k : ℕ} (ps : List (Slot Token)) → k ≡ freeIndex ps → orNext b k ≡ freeIndex ((if b then free else live t) ∷ ps)
@@ -49,20 +50,20 @@ found-row x {y} false t ps e = ap (λ (n : ℕ). if eqb n x then 0 else suc (fou
 
 found-next : (x n : ℕ) (ws bs : List ℕ)
     → foundIndex (isNumbered x) (rows (suc n) ws bs)
-    ≡ orNext (not (eqb (getD ws 0 0) 0) && eqb (getD ws 0 0) x) (foundIndex (isNumbered x) (rows n (drop tokenWords ws) (drop maxDacl bs)))
+    ≡ orNext (not (eqb (getD ws Head.number 0) 0) && eqb (getD ws Head.number 0) x) (foundIndex (isNumbered x) (rows n (drop tokenWords ws) (drop maxDacl bs)))
 unfolding readRows slotAt tokenAt
 found-next x n ws bs =
-    found-row x (eqb (getD (take tokenWords ws) 0 0) 0) (tokenAt (take tokenWords ws) (take maxDacl bs)) (rows n (drop tokenWords ws) (drop maxDacl bs)) refl
+    found-row x (eqb (getD (take tokenWords ws) Head.number 0) 0) (tokenAt (take tokenWords ws) (take maxDacl bs)) (rows n (drop tokenWords ws) (drop maxDacl bs)) refl
     ∙ ap (λ (y : ℕ). orNext (not (eqb y 0) && eqb y x) (foundIndex (isNumbered x) (rows n (drop tokenWords ws) (drop maxDacl bs)))) (first ws)
 
 found-column : (x n : ℕ) → (x ≡ 0 → ⊥) → (ws bs : List ℕ) → indexOf x (column tokenWords n ws) ≡ foundIndex (isNumbered x) (rows n ws bs)
 unfolding indexOf column readRows foundIndex
 found-column x zero u ws bs = refl
 found-column x (suc n) u ws bs =
-    ap₂ orNext (only (eqb (getD ws 0 0) 0) refl) (found-column x n u (drop tokenWords ws) (drop maxDacl bs)) ∙ sym (found-next x n ws bs)
+    ap₂ orNext (only (eqb (getD ws Head.number 0) 0) refl) (found-column x n u (drop tokenWords ws) (drop maxDacl bs)) ∙ sym (found-next x n ws bs)
   where
-    only : (b : Bool) → eqb (getD ws 0 0) 0 ≡ b → eqb (getD ws 0 0) x ≡ (not b && eqb (getD ws 0 0) x)
-    only true e = ne-eqb (getD ws 0 0) x (λ h. u (sym h ∙ eqb-true (getD ws 0 0) 0 e))
+    only : (b : Bool) → eqb (getD ws Head.number 0) 0 ≡ b → eqb (getD ws Head.number 0) x ≡ (not b && eqb (getD ws Head.number 0) x)
+    only true e = ne-eqb (getD ws Head.number 0) x (λ h. u (sym h ∙ eqb-true (getD ws Head.number 0) 0 e))
     only false e = refl
 
 -- no live token has number 0
@@ -70,7 +71,7 @@ none-numbered : (n : ℕ) (ws bs : List ℕ) → n ≡ foundIndex (isNumbered 0)
 unfolding readRows foundIndex
 none-numbered zero ws bs = refl
 none-numbered (suc n) ws bs =
-    ap₂ orNext (never (eqb (getD ws 0 0) 0)) (none-numbered n (drop tokenWords ws) (drop maxDacl bs)) ∙ sym (found-next 0 n ws bs)
+    ap₂ orNext (never (eqb (getD ws Head.number 0) 0)) (none-numbered n (drop tokenWords ws) (drop maxDacl bs)) ∙ sym (found-next 0 n ws bs)
   where
     never : (b : Bool) → false ≡ (not b && b)
     never true = refl

@@ -9,6 +9,7 @@ use lib.Seq.{append-snoc, set-append-seam, set-append-left}
 use Rattle.table.specs.Lists.{pad, length-pad, pad-fits}
 use Rattle.rules.specs.Group.{Group}
 use Rattle.rules.specs.Token.{maxGroups, maxRestricting, newToken, noLimits, noDefaults}
+use Rattle.rules.specs.Head as Head
 use Rattle.rules.specs.Memory.{headWords, tokenWords, mark, pack, head, tokenRow}
 use Rattle.privilege.specs.Meaning.{privilegesOf}
 use Rattle.privilege.specs.declared.privileges.Privileges.{Privileges}
@@ -59,11 +60,11 @@ one-group gs g {i} {w} h e f =
 module _ (n : ℕ) (i : Identity) (p : Privileges) where
   abbrev headed : ℕ → List ℕ → List ℕ
   headed count ws =
-      let numbers : List ℕ = set (set ws 0 n) 1 n in
-      let identity : List ℕ = set (set (set (set numbers 2 (i .session)) 3 (i .user)) 4 (i .kind)) 5 (i .level) in
-      let integrity : List ℕ = set (set identity 6 1) 12 (i .integrity) in
-      let privileges : List ℕ = set (set (set (set integrity 13 (p .present)) 14 (p .enabled)) 15 (p .«by_default»)) 16 (p .used) in
-      set privileges 17 count
+      let numbers : List ℕ = set (set ws Head.number n) Head.modified n in
+      let identity : List ℕ = set (set (set (set numbers Head.session (i .session)) Head.user (i .user)) Head.type (i .kind)) Head.level (i .level) in
+      let integrity : List ℕ = set (set identity Head.elevation 1) Head.integrity (i .integrity) in
+      let privileges : List ℕ = set (set (set (set integrity Head.present (p .present)) Head.enabled (p .enabled)) Head.byDefault (p .«by_default»)) Head.used (p .used) in
+      set privileges Head.groupCount count
 
   pub head-set : {count : ℕ} {ws : List ℕ} → Headed n (identityOf i) (privilegesOf p) count ws (headed count ws)
   unfolding headless tokenRow head newToken noLimits noDefaults mark

@@ -5,6 +5,7 @@ use Prim.Native.Nat.{ℕ, _+_, _*_, _/_}
 use lib.ListN.{getD}
 use Rattle.rules.specs.Group as Rules-group
 use Rattle.rules.specs.Token as Rules
+use Rattle.rules.specs.Head as Head
 use Rattle.rules.specs.Memory.{word32, low32, low8, pack, unpack, tokenRow}
 use Rattle.privilege.specs.declared.privileges.Privileges.{Privileges}
 use Rattle.token.specs.declared.Group.{Group}
@@ -16,15 +17,15 @@ groupIn w = record { sid = low32 w; attributes = w / word32 }
 abbrev pub identityIn : List ℕ → Identity
 identityIn ws =
     record {
-      user = low32 (getD ws 3 0);
-      session = getD ws 2 0;
-      kind = low8 (getD ws 4 0);
-      level = low8 (getD ws 5 0);
-      integrity = low32 (getD ws 12 0);
+      user = low32 (getD ws Head.user 0);
+      session = getD ws Head.session 0;
+      kind = low8 (getD ws Head.type 0);
+      level = low8 (getD ws Head.level 0);
+      integrity = low32 (getD ws Head.integrity 0);
     }
 
 abbrev pub privilegesIn : List ℕ → Privileges
-privilegesIn ws = record { present = getD ws 13 0; enabled = getD ws 14 0; «by_default» = getD ws 15 0; used = getD ws 16 0 }
+privilegesIn ws = record { present = getD ws Head.present 0; enabled = getD ws Head.enabled 0; «by_default» = getD ws Head.byDefault 0; used = getD ws Head.used 0 }
 
 abbrev pub wordOf : Group → ℕ
 wordOf g = g .sid + g .attributes * word32

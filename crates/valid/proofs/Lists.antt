@@ -18,6 +18,7 @@ use Rattle.rules.specs.Table.{Slot, free, live, lives}
 use Rattle.rules.specs.Handle.{Handle, noHandle}
 use Rattle.rules.specs.State.{handleSlots, stationCount, numberOf, handleNumber, stationToken}
 use Rattle.rules.specs.Valid.{between, handleValid}
+use Rattle.rules.specs.Head as Head
 use Rattle.rules.specs.Memory.{slotAt, tokenAt, identityAt, handleAt, slotHandle, sameHandle, sameHandles, stationAt, tokenWords, stationWords, pendingBytes}
 use Rattle.rules.proofs.Logic.{and-r, and-i, or-e, or-l, or-r, either}
 use Rattle.valid.specs.Tests.{slotTest, columnBy, firstWord, otherWord, tokenIn, kept, nonzero, isKept, referenceSlots, Referred, count, isGiven, isApart, fieldsTest}
@@ -145,16 +146,16 @@ given k next s = by (leb 1 next) refl
 pub token-numbers : (n : ℕ) (ws bs : List ℕ) → map numberOf (lives (readRows slotAt tokenWords maxDacl n ws bs)) ≡ nonzero (columnBy firstWord tokenWords n ws)
 unfolding readRows columnBy kept lives slotAt tokenAt numberOf
 token-numbers zero ws bs = refl
-token-numbers (suc n) ws bs = by (eqb (getD (take tokenWords ws) 0 0) 0) (token-numbers n (drop tokenWords ws) (drop maxDacl bs))
+token-numbers (suc n) ws bs = by (eqb (getD (take tokenWords ws) Head.number 0) 0) (token-numbers n (drop tokenWords ws) (drop maxDacl bs))
   where
     ps : List (Slot Token)
     ps = readRows slotAt tokenWords maxDacl n (drop tokenWords ws) (drop maxDacl bs)
 
     by : (b : Bool) → map numberOf (lives ps) ≡ nonzero (columnBy firstWord tokenWords n (drop tokenWords ws))
         → map numberOf (lives ((if_then_else_ b free (live (tokenAt (take tokenWords ws) (take maxDacl bs)))) ∷ ps))
-        ≡ (if_then_else_ b (nonzero (columnBy firstWord tokenWords n (drop tokenWords ws))) (getD (take tokenWords ws) 0 0 ∷ nonzero (columnBy firstWord tokenWords n (drop tokenWords ws))))
+        ≡ (if_then_else_ b (nonzero (columnBy firstWord tokenWords n (drop tokenWords ws))) (getD (take tokenWords ws) Head.number 0 ∷ nonzero (columnBy firstWord tokenWords n (drop tokenWords ws))))
     by true ih = ih
-    by false ih = ap (λ l. getD (take tokenWords ws) 0 0 ∷ l) ih
+    by false ih = ap (λ l. getD (take tokenWords ws) Head.number 0 ∷ l) ih
 
 -- no station has a token that is not primary
 unfoldable pub primaryIn : List ℕ → Token → Bool
@@ -167,10 +168,10 @@ other-column : (ss : List ℕ) (n : ℕ) (ws bs : List ℕ) → all (primaryIn s
 unfolding readRows columnBy lives slotAt tokenAt identityAt all primaryIn implies
 other-column ss zero ws bs = refl
 other-column ss (suc n) ws bs =
-    by (eqb x 0) (eqb (getD (take tokenWords ws) 4 0 % 256) primary) refl refl (other-column ss n (drop tokenWords ws) (drop maxDacl bs))
+    by (eqb x 0) (eqb (getD (take tokenWords ws) Head.type 0 % 256) primary) refl refl (other-column ss n (drop tokenWords ws) (drop maxDacl bs))
   where
     x : ℕ
-    x = getD (take tokenWords ws) 0 0
+    x = getD (take tokenWords ws) Head.number 0
 
     ps : List (Slot Token)
     ps = readRows slotAt tokenWords maxDacl n (drop tokenWords ws) (drop maxDacl bs)
@@ -184,7 +185,7 @@ other-column ss (suc n) ws bs =
     one true false e = sym (rw e)
     one false false e = sym (rw e)
 
-    by : (b c : Bool) → eqb x 0 ≡ b → eqb (getD (take tokenWords ws) 4 0 % 256) primary ≡ c → all (primaryIn ss) (lives ps) ≡ rest
+    by : (b c : Bool) → eqb x 0 ≡ b → eqb (getD (take tokenWords ws) Head.type 0 % 256) primary ≡ c → all (primaryIn ss) (lives ps) ≡ rest
         → all (primaryIn ss) (lives ((if_then_else_ b free (live (tokenAt (take tokenWords ws) (take maxDacl bs)))) ∷ ps)) ≡ (isOut ss (if_then_else_ c 0 x) && rest)
     by true true e f ih = ih
     by true false e f ih = ih ∙ sym (rw e)

@@ -17,6 +17,7 @@ use Rattle.rules.specs.Token.{Token, maxGroups, maxRestricting, maxDacl, primar
 use Rattle.rules.specs.Create.{validIntegrity}
 use Rattle.rules.specs.AdjustDefaults.{validOwner, validGroup}
 use Rattle.rules.specs.Valid.{isByte, is32, is64, between, identityValid, privilegesValid, groupValid, groupsValid, limitsValid, defaultsValid, tokenValid}
+use Rattle.rules.specs.Head as Head
 use Rattle.rules.specs.Memory.{same, pack, unpack, low32, low8, word32, head, headWords, tokenRow, daclRow, slotRow, slotDacl, slotAt, tokenAt, identityAt, privilegesAt, groupsAt, limitsAt, defaultsAt, tokenWords}
 use Rattle.rules.proofs.Logic.{and-l, and-r}
 use Rattle.rules.proofs.Facts.{between-high}
@@ -86,49 +87,49 @@ shuffle u t l e m n o p s i E I K L M P G O R Z N Y D hk he hi ho hr =
 
 -- the groups' words, as the rules take them
 abbrev groupWords : List ℕ → List ℕ
-groupWords ws = take (getD ws 17 0) (take maxGroups (drop headWords ws))
+groupWords ws = take (getD ws Head.groupCount 0) (take maxGroups (drop headWords ws))
 
 module _ (ws bs : List ℕ) (lw : length ws ≡ tokenWords) (lb : length bs ≡ maxDacl) where
   -- ---- a free slot, a live one
 
-  free-test : getD ws 0 0 ≡ 0 → tokenTest ws bs ≡ (all isZero ws && all isZero bs)
+  free-test : getD ws Head.number 0 ≡ 0 → tokenTest ws bs ≡ (all isZero ws && all isZero bs)
   unfolding tokenTest slotAt slotRow slotDacl slotTest
-  free-test e = rw (eq-eqb (getD ws 0 0) 0 e, and-true) (ap₂ (λ a b. a && b) (same-zeros tokenWords ws lw) (same-zeros maxDacl bs lb))
+  free-test e = rw (eq-eqb (getD ws Head.number 0) 0 e, and-true) (ap₂ (λ a b. a && b) (same-zeros tokenWords ws lw) (same-zeros maxDacl bs lb))
 
-  pub at-live : {r : Bool} → (getD ws 0 0 ≡ 0 → ⊥) → r ≡ liveTest ws bs → r ≡ tokenTest ws bs
+  pub at-live : {r : Bool} → (getD ws Head.number 0 ≡ 0 → ⊥) → r ≡ liveTest ws bs → r ≡ tokenTest ws bs
   unfolding tokenTest liveTest slotAt slotRow slotDacl slotTest
-  at-live h e = e ∙ sym (rw (ne-eqb (getD ws 0 0) 0 h))
+  at-live h e = e ∙ sym (rw (ne-eqb (getD ws Head.number 0) 0 h))
 
-  live-parts : liveTest ws bs ≡ (same (tokenRow (tokenAt ws bs)) ws && same (pad maxDacl (take (getD ws 19 0) bs)) bs && tokenValid (tokenAt ws bs))
+  live-parts : liveTest ws bs ≡ (same (tokenRow (tokenAt ws bs)) ws && same (pad maxDacl (take (getD ws Head.daclLength 0) bs)) bs && tokenValid (tokenAt ws bs))
   unfolding liveTest daclRow tokenAt defaultsAt
   live-parts = refl
 
-  pub at-free : {r q : Bool} → getD ws 0 0 ≡ 0 → r ≡ all isZero ws → q ≡ all isZero bs → (r && q) ≡ tokenTest ws bs
+  pub at-free : {r q : Bool} → getD ws Head.number 0 ≡ 0 → r ≡ all isZero ws → q ≡ all isZero bs → (r && q) ≡ tokenTest ws bs
   at-free e er eq = ap₂ (λ a b. a && b) er eq ∙ sym (free-test e)
 
   -- ---- what the slot is written as
 
   head-same : same (head (tokenAt ws bs)) (take headWords ws)
-      ≡ ((ltb (getD ws 3 0) word32
-      && (ltb (getD ws 4 0) 256
-      && (ltb (getD ws 5 0) 256
-      && (ltb (getD ws 6 0) 256
-      && (ltb (getD ws 7 0) 2
-      && (ltb (getD ws 8 0) 2
-      && (ltb (getD ws 9 0) word32
-      && (ltb (getD ws 10 0) word32
-      && (ltb (getD ws 11 0) word32
-      && ltb (getD ws 12 0) word32)))))))))
-      && (leb (getD ws 17 0) maxGroups && (leb (getD ws 18 0) maxRestricting && leb (getD ws 19 0) maxDacl)))
+      ≡ ((ltb (getD ws Head.user 0) word32
+      && (ltb (getD ws Head.type 0) 256
+      && (ltb (getD ws Head.level 0) 256
+      && (ltb (getD ws Head.elevation 0) 256
+      && (ltb (getD ws Head.writeRestricted 0) 2
+      && (ltb (getD ws Head.userDenyOnly 0) 2
+      && (ltb (getD ws Head.owner 0) word32
+      && (ltb (getD ws Head.primaryGroup 0) word32
+      && (ltb (getD ws Head.scope 0) word32
+      && ltb (getD ws Head.integrity 0) word32)))))))))
+      && (leb (getD ws Head.groupCount 0) maxGroups && (leb (getD ws Head.restrictingCount 0) maxRestricting && leb (getD ws Head.daclLength 0) maxDacl)))
   unfolding same head tokenAt identityAt privilegesAt groupsAt limitsAt defaultsAt
   head-same =
-      let g : eqb (length (map unpack (groupWords ws))) (getD ws 17 0) ≡ leb (getD ws 17 0) maxGroups =
-      ap (λ (n : ℕ). eqb n (getD ws 17 0)) (length-map (groupWords ws) unpack)
-      ∙ cut-count maxGroups (getD ws 17 0) (take maxGroups (drop headWords ws)) (length-take-le maxGroups (drop headWords ws) (simp length-drop (omega arith))) in
-      let s : eqb (length (map low32 (take (getD ws 18 0) (drop groupsEnd ws)))) (getD ws 18 0) ≡ leb (getD ws 18 0) maxRestricting =
-      ap (λ (n : ℕ). eqb n (getD ws 18 0)) (length-map (take (getD ws 18 0) (drop groupsEnd ws)) low32)
-      ∙ cut-count maxRestricting (getD ws 18 0) (drop groupsEnd ws) (simp length-drop (omega arith)) in
-      let d : eqb (length (take (getD ws 19 0) bs)) (getD ws 19 0) ≡ leb (getD ws 19 0) maxDacl = cut-count maxDacl (getD ws 19 0) bs lb in
+      let g : eqb (length (map unpack (groupWords ws))) (getD ws Head.groupCount 0) ≡ leb (getD ws Head.groupCount 0) maxGroups =
+      ap (λ (n : ℕ). eqb n (getD ws Head.groupCount 0)) (length-map (groupWords ws) unpack)
+      ∙ cut-count maxGroups (getD ws Head.groupCount 0) (take maxGroups (drop headWords ws)) (length-take-le maxGroups (drop headWords ws) (simp length-drop (omega arith))) in
+      let s : eqb (length (map low32 (take (getD ws Head.restrictingCount 0) (drop groupsEnd ws)))) (getD ws Head.restrictingCount 0) ≡ leb (getD ws Head.restrictingCount 0) maxRestricting =
+      ap (λ (n : ℕ). eqb n (getD ws Head.restrictingCount 0)) (length-map (take (getD ws Head.restrictingCount 0) (drop groupsEnd ws)) low32)
+      ∙ cut-count maxRestricting (getD ws Head.restrictingCount 0) (drop groupsEnd ws) (simp length-drop (omega arith)) in
+      let d : eqb (length (take (getD ws Head.daclLength 0) bs)) (getD ws Head.daclLength 0) ≡ leb (getD ws Head.daclLength 0) maxDacl = cut-count maxDacl (getD ws Head.daclLength 0) bs lb in
       ap (same (head (tokenAt ws bs))) (sym (named-take headWords 0 ws (omega arith)))
       ∙ simp (eqb-same, cut32, cut8, cut-mark, g, s, d, and-true, and-assoc)
 
@@ -144,24 +145,24 @@ module _ (ws bs : List ℕ) (lw : length ws ≡ tokenWords) (lb : length bs ≡ 
       ∙ ap (λ l. same (pad maxGroups (map pack (groupsAt ws))) (take maxGroups (drop headWords ws)) && same (pad maxRestricting (limitsAt ws .restricting)) l) (drop-drop maxGroups headWords ws))
 
   -- a count beyond its limit
-  bad-count : (getD ws 0 0 ≡ 0 → ⊥) → (leb (getD ws 17 0) maxGroups && (leb (getD ws 18 0) maxRestricting && leb (getD ws 19 0) maxDacl)) ≡ false → false ≡ tokenTest ws bs
+  bad-count : (getD ws Head.number 0 ≡ 0 → ⊥) → (leb (getD ws Head.groupCount 0) maxGroups && (leb (getD ws Head.restrictingCount 0) maxRestricting && leb (getD ws Head.daclLength 0) maxDacl)) ≡ false → false ≡ tokenTest ws bs
   bad-count h e = at-live h (sym (live-parts ∙ rw (row-same, head-same, e, and-false)))
 
-  pub too-many-groups : (getD ws 0 0 ≡ 0 → ⊥) → maxGroups < getD ws 17 0 → false ≡ tokenTest ws bs
-  too-many-groups h e = bad-count h (rw (lt-leb (getD ws 17 0) maxGroups e))
+  pub too-many-groups : (getD ws Head.number 0 ≡ 0 → ⊥) → maxGroups < getD ws Head.groupCount 0 → false ≡ tokenTest ws bs
+  too-many-groups h e = bad-count h (rw (lt-leb (getD ws Head.groupCount 0) maxGroups e))
 
-  pub too-many-sids : (getD ws 0 0 ≡ 0 → ⊥) → maxRestricting < getD ws 18 0 → false ≡ tokenTest ws bs
-  too-many-sids h e = bad-count h (rw (lt-leb (getD ws 18 0) maxRestricting e, and-false))
+  pub too-many-sids : (getD ws Head.number 0 ≡ 0 → ⊥) → maxRestricting < getD ws Head.restrictingCount 0 → false ≡ tokenTest ws bs
+  too-many-sids h e = bad-count h (rw (lt-leb (getD ws Head.restrictingCount 0) maxRestricting e, and-false))
 
-  pub too-many-bytes : (getD ws 0 0 ≡ 0 → ⊥) → maxDacl < getD ws 19 0 → false ≡ tokenTest ws bs
-  too-many-bytes h e = bad-count h (rw (lt-leb (getD ws 19 0) maxDacl e, and-false, and-false))
+  pub too-many-bytes : (getD ws Head.number 0 ≡ 0 → ⊥) → maxDacl < getD ws Head.daclLength 0 → false ≡ tokenTest ws bs
+  too-many-bytes h e = bad-count h (rw (lt-leb (getD ws Head.daclLength 0) maxDacl e, and-false, and-false))
 
   -- the lists' parts, as the code lends them
-  groups-same : getD ws 17 0 ≤ maxGroups → same (pad maxGroups (map pack (groupsAt ws))) (take maxGroups (drop headWords ws))
+  groups-same : getD ws Head.groupCount 0 ≤ maxGroups → same (pad maxGroups (map pack (groupsAt ws))) (take maxGroups (drop headWords ws))
       ≡ all isZero (groupsRest ws)
   unfolding groupsAt
   groups-same h =
-      let n : ℕ = getD ws 17 0 in
+      let n : ℕ = getD ws Head.groupCount 0 in
       let gp : List ℕ = take maxGroups (drop headWords ws) in
       let lg : length gp ≡ maxGroups = length-take-le maxGroups (drop headWords ws) (simp length-drop (omega arith)) in
       ap (λ l. same (pad maxGroups l) gp) (pack-unpacks (take n gp))
@@ -171,11 +172,11 @@ module _ (ws bs : List ℕ) (lw : length ws ≡ tokenWords) (lb : length bs ≡ 
       ∙ drop-take n maxGroups (drop headWords ws)
       ∙ ap₂ (λ (k : ℕ) (l : List ℕ). take k l) {x = maxGroups - n} {y = groupsEnd - (headWords + n)} (omega arith) (drop-drop n headWords ws))
 
-  restricting-same : getD ws 18 0 ≤ maxRestricting → same (pad maxRestricting (limitsAt ws .restricting)) (drop groupsEnd ws)
+  restricting-same : getD ws Head.restrictingCount 0 ≤ maxRestricting → same (pad maxRestricting (limitsAt ws .restricting)) (drop groupsEnd ws)
       ≡ (all isNarrow (sidsPart ws) && all isZero (sidsRest ws))
   unfolding limitsAt
   restricting-same h =
-      let s : ℕ = getD ws 18 0 in
+      let s : ℕ = getD ws Head.restrictingCount 0 in
       let sp : List ℕ = drop groupsEnd ws in
       same-pad low32 maxRestricting s sp (simp length-drop (omega arith)) h
       ∙ ap₂ (λ a b. a && b)
@@ -186,44 +187,44 @@ module _ (ws bs : List ℕ) (lw : length ws ≡ tokenWords) (lb : length bs ≡ 
 
 module _ (ws bs : List ℕ) (kw : (i : ℕ) → getD ws i 0 < 2 ^ 64) (kb : (i : ℕ) → getD bs i 0 < 256) (counted : Counted ws bs) where
   token-tests : tokenValid (tokenAt ws bs)
-      ≡ (between 1 3 (low8 (getD ws 6 0))
-      && (validIntegrity (low32 (getD ws 12 0))
-      && between primary impersonation (low8 (getD ws 4 0))
-      && leb (low8 (getD ws 5 0)) 3
-      && implies (eqb (low8 (getD ws 4 0)) primary) (eqb (low8 (getD ws 5 0)) 0))
+      ≡ (between 1 3 (low8 (getD ws Head.elevation 0))
+      && (validIntegrity (low32 (getD ws Head.integrity 0))
+      && between primary impersonation (low8 (getD ws Head.type 0))
+      && leb (low8 (getD ws Head.level 0)) 3
+      && implies (eqb (low8 (getD ws Head.type 0)) primary) (eqb (low8 (getD ws Head.level 0)) 0))
       && privilegesValid (privilegesAt ws)
       && all groupValid (map unpack (groupWords ws))
-      && (validOwner (map unpack (groupWords ws)) (low32 (getD ws 9 0)) && validGroup (map unpack (groupWords ws)) (low32 (getD ws 10 0))))
+      && (validOwner (map unpack (groupWords ws)) (low32 (getD ws Head.owner 0)) && validGroup (map unpack (groupWords ws)) (low32 (getD ws Head.primaryGroup 0))))
   unfolding tokenValid tokenAt identityValid identityAt groupsValid groupsAt limitsValid limitsAt defaultsValid defaultsAt is64 isByte
   token-tests =
-      let sids : List ℕ = take (getD ws 18 0) (drop groupsEnd ws) in
-      let a : ltb (getD ws 1 0) (2 ^ 64) ≡ true = lt-ltb _ (2 ^ 64) (kw 1) in
-      let b : ltb (getD ws 2 0) (2 ^ 64) ≡ true = lt-ltb _ (2 ^ 64) (kw 2) in
+      let sids : List ℕ = take (getD ws Head.restrictingCount 0) (drop groupsEnd ws) in
+      let a : ltb (getD ws Head.modified 0) (2 ^ 64) ≡ true = lt-ltb _ (2 ^ 64) (kw Head.modified) in
+      let b : ltb (getD ws Head.session 0) (2 ^ 64) ≡ true = lt-ltb _ (2 ^ 64) (kw Head.session) in
       let c : leb (length (map unpack (groupWords ws))) maxGroups ≡ true =
-      le-leb (length (map unpack (groupWords ws))) maxGroups (omega (arith, length-map (groupWords ws) unpack, length-take (getD ws 17 0) (take maxGroups (drop headWords ws)), length-take maxGroups (drop headWords ws))) in
+      le-leb (length (map unpack (groupWords ws))) maxGroups (omega (arith, length-map (groupWords ws) unpack, length-take (getD ws Head.groupCount 0) (take maxGroups (drop headWords ws)), length-take maxGroups (drop headWords ws))) in
       let d : leb (length (map low32 sids)) maxRestricting ≡ true =
-      le-leb (length (map low32 sids)) maxRestricting (omega (arith, length-map sids low32, length-take (getD ws 18 0) (drop groupsEnd ws), length-drop groupsEnd ws)) in
-      let e : leb (length (take (getD ws 19 0) bs)) maxDacl ≡ true = le-leb (length (take (getD ws 19 0) bs)) maxDacl (omega (arith, length-take (getD ws 19 0) bs)) in
+      le-leb (length (map low32 sids)) maxRestricting (omega (arith, length-map sids low32, length-take (getD ws Head.restrictingCount 0) (drop groupsEnd ws), length-drop groupsEnd ws)) in
+      let e : leb (length (take (getD ws Head.daclLength 0) bs)) maxDacl ≡ true = le-leb (length (take (getD ws Head.daclLength 0) bs)) maxDacl (omega (arith, length-take (getD ws Head.daclLength 0) bs)) in
       let f : all is32 (map low32 sids) ≡ true = all-map low32 is32 sids ∙ all-holds (λ w. is32 (low32 w)) is32-low sids in
-      let g : all (λ n. ltb n 256) (take (getD ws 19 0) bs) ≡ true = all-below 256 bs kb (getD ws 19 0) in
+      let g : all (λ n. ltb n 256) (take (getD ws Head.daclLength 0) bs) ≡ true = all-below 256 bs kb (getD ws Head.daclLength 0) in
       simp (a, b, c, d, e, f, g, is32-low, and-true)
 
-  counts-hold : (leb (getD ws 17 0) maxGroups && (leb (getD ws 18 0) maxRestricting && leb (getD ws 19 0) maxDacl)) ≡ true
-  counts-hold = rw (le-leb (getD ws 17 0) maxGroups (counted .groups), le-leb (getD ws 18 0) maxRestricting (counted .restricting), le-leb (getD ws 19 0) maxDacl (counted .dacl))
+  counts-hold : (leb (getD ws Head.groupCount 0) maxGroups && (leb (getD ws Head.restrictingCount 0) maxRestricting && leb (getD ws Head.daclLength 0) maxDacl)) ≡ true
+  counts-hold = rw (le-leb (getD ws Head.groupCount 0) maxGroups (counted .groups), le-leb (getD ws Head.restrictingCount 0) maxRestricting (counted .restricting), le-leb (getD ws Head.daclLength 0) maxDacl (counted .dacl))
 
   lent-groups : groupsPart ws ≡ groupWords ws
   lent-groups =
-      ap (λ (j : ℕ). take j (drop headWords ws)) {x = headWords + getD ws 17 0 - headWords} {y = getD ws 17 0} (omega arith)
-      ∙ sym (take-take (getD ws 17 0) maxGroups (drop headWords ws) (counted .groups))
+      ap (λ (j : ℕ). take j (drop headWords ws)) {x = headWords + getD ws Head.groupCount 0 - headWords} {y = getD ws Head.groupCount 0} (omega arith)
+      ∙ sym (take-take (getD ws Head.groupCount 0) maxGroups (drop headWords ws) (counted .groups))
 
-  long : length (map unpack (groupWords ws)) ≡ getD ws 17 0
-  long = length-map (groupWords ws) unpack ∙ length-take-le (getD ws 17 0) (take maxGroups (drop headWords ws)) (simp (length-take, length-drop) (omega arith))
+  long : length (map unpack (groupWords ws)) ≡ getD ws Head.groupCount 0
+  long = length-map (groupWords ws) unpack ∙ length-take-le (getD ws Head.groupCount 0) (take maxGroups (drop headWords ws)) (simp (length-take, length-drop) (omega arith))
 
   row-tests : (headTest ws
-      && validIntegrity (getD ws 12 0)
+      && validIntegrity (getD ws Head.integrity 0)
       && all groupValid (map unpack (groupWords ws))
-      && validOwner (map unpack (groupWords ws)) (getD ws 9 0)
-      && validGroup (map unpack (groupWords ws)) (getD ws 10 0)
+      && validOwner (map unpack (groupWords ws)) (getD ws Head.owner 0)
+      && validGroup (map unpack (groupWords ws)) (getD ws Head.primaryGroup 0)
       && listsTest ws bs)
       ≡ liveTest ws bs
   unfolding privilegesValid privilegesAt within between
@@ -235,34 +236,34 @@ module _ (ws bs : List ℕ) (kw : (i : ℕ) → getD ws i 0 < 2 ^ 64) (kb : (i :
       let y : Bool = all isZero (sidsRest ws) in
       let d : Bool = all isZero (daclRest ws bs) in
       let image : same (tokenRow (tokenAt ws bs)) ws
-      ≡ ((ltb (w 3) word32 && (ltb (w 4) 256 && (ltb (w 5) 256 && (ltb (w 6) 256 && (ltb (w 7) 2 && (ltb (w 8) 2 && (ltb (w 9) word32 && (ltb (w 10) word32 && (ltb (w 11) word32 && ltb (w 12) word32)))))))))
+      ≡ ((ltb (w Head.user) word32 && (ltb (w Head.type) 256 && (ltb (w Head.level) 256 && (ltb (w Head.elevation) 256 && (ltb (w Head.writeRestricted) 2 && (ltb (w Head.userDenyOnly) 2 && (ltb (w Head.owner) word32 && (ltb (w Head.primaryGroup) word32 && (ltb (w Head.scope) word32 && ltb (w Head.integrity) word32)))))))))
       && (z && (n && y))) = row-same ws bs (counted .words) (counted .bytes) ∙ rw (head-same ws bs (counted .words) (counted .bytes), counts-hold, and-true, groups-same ws bs (counted .words) (counted .bytes) (counted .groups), restricting-same ws bs (counted .words) (counted .bytes) (counted .restricting)) in
       sym
       (live-parts ws bs (counted .words) (counted .bytes)
-      ∙ ap₂ (λ a b. a && b) (ap₂ (λ a b. a && b) image (same-pad-take maxDacl (w 19) bs (counted .bytes) (counted .dacl))) token-tests
+      ∙ ap₂ (λ a b. a && b) (ap₂ (λ a b. a && b) image (same-pad-take maxDacl (w Head.daclLength) bs (counted .bytes) (counted .dacl))) token-tests
       ∙ shuffle
-      (ltb (w 3) word32) (ltb (w 4) 256) (ltb (w 5) 256) (ltb (w 6) 256) (ltb (w 7) 2) (ltb (w 8) 2) (ltb (w 9) word32) (ltb (w 10) word32) (ltb (w 11) word32) (ltb (w 12) word32)
-      (between 1 3 (low8 (w 6))) (validIntegrity (low32 (w 12)))
-      (between primary impersonation (low8 (w 4))) (leb (low8 (w 5)) 3) (implies (eqb (low8 (w 4)) primary) (eqb (low8 (w 5)) 0))
-      (privilegesValid (privilegesAt ws)) (all groupValid gs) (validOwner gs (low32 (w 9))) (validGroup gs (low32 (w 10))) z n y d
-      (kind-level (w 4) (w 5))
-      (sym (uncut 256 (between 1 3) (λ v h. omega (arith, between-high 1 3 v h)) (w 6)))
-      (sym (uncut word32 validIntegrity integrity-below (w 12)))
-      (sym (uncut word32 (validOwner gs) (λ v h. omega (arith, owner-below gs v h, long)) (w 9)))
-      (sym (uncut word32 (validGroup gs) (λ v h. omega (arith, group-below gs v h, long)) (w 10)))
+      (ltb (w Head.user) word32) (ltb (w Head.type) 256) (ltb (w Head.level) 256) (ltb (w Head.elevation) 256) (ltb (w Head.writeRestricted) 2) (ltb (w Head.userDenyOnly) 2) (ltb (w Head.owner) word32) (ltb (w Head.primaryGroup) word32) (ltb (w Head.scope) word32) (ltb (w Head.integrity) word32)
+      (between 1 3 (low8 (w Head.elevation))) (validIntegrity (low32 (w Head.integrity)))
+      (between primary impersonation (low8 (w Head.type))) (leb (low8 (w Head.level)) 3) (implies (eqb (low8 (w Head.type)) primary) (eqb (low8 (w Head.level)) 0))
+      (privilegesValid (privilegesAt ws)) (all groupValid gs) (validOwner gs (low32 (w Head.owner))) (validGroup gs (low32 (w Head.primaryGroup))) z n y d
+      (kind-level (w Head.type) (w Head.level))
+      (sym (uncut 256 (between 1 3) (λ v h. omega (arith, between-high 1 3 v h)) (w Head.elevation)))
+      (sym (uncut word32 validIntegrity integrity-below (w Head.integrity)))
+      (sym (uncut word32 (validOwner gs) (λ v h. omega (arith, owner-below gs v h, long)) (w Head.owner)))
+      (sym (uncut word32 (validGroup gs) (λ v h. omega (arith, group-below gs v h, long)) (w Head.primaryGroup)))
       ∙ simp and-assoc)
 
   -- with what the code has at its end
   pub at-end : {h i g o l : Bool}
       → h ≡ headTest ws
-      → i ≡ validIntegrity (getD ws 12 0)
+      → i ≡ validIntegrity (getD ws Head.integrity 0)
       → g ≡ all groupTest (groupsPart ws)
-      → o ≡ validOwner (map unpack (groupsPart ws)) (getD ws 9 0)
+      → o ≡ validOwner (map unpack (groupsPart ws)) (getD ws Head.owner 0)
       → l ≡ listsTest ws bs
-      → (h && i && g && o && leb (getD ws 10 0) (getD ws 17 0) && l) ≡ liveTest ws bs
+      → (h && i && g && o && leb (getD ws Head.primaryGroup 0) (getD ws Head.groupCount 0) && l) ≡ liveTest ws bs
   unfolding groupTest validGroup
   at-end {h} {i} {g} {o} eh ei eg eo el =
       let a : g ≡ all groupValid (map unpack (groupWords ws)) = eg ∙ ap (all groupTest) lent-groups ∙ sym (all-map unpack groupValid (groupWords ws)) in
-      let b : o ≡ validOwner (map unpack (groupWords ws)) (getD ws 9 0) = eo ∙ ap (λ xs. validOwner (map unpack xs) (getD ws 9 0)) lent-groups in
-      let c : leb (getD ws 10 0) (getD ws 17 0) ≡ leb (getD ws 10 0) (length (map unpack (groupWords ws))) = ap (λ (k : ℕ). leb (getD ws 10 0) k) (sym long) in
+      let b : o ≡ validOwner (map unpack (groupWords ws)) (getD ws Head.owner 0) = eo ∙ ap (λ xs. validOwner (map unpack xs) (getD ws Head.owner 0)) lent-groups in
+      let c : leb (getD ws Head.primaryGroup 0) (getD ws Head.groupCount 0) ≡ leb (getD ws Head.primaryGroup 0) (length (map unpack (groupWords ws))) = ap (λ (k : ℕ). leb (getD ws Head.primaryGroup 0) k) (sym long) in
       cc row-tests

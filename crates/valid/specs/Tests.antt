@@ -16,6 +16,7 @@ use Rattle.rules.specs.Table.{Slot, free, live}
 use Rattle.rules.specs.Handle.{Handle}
 use Rattle.rules.specs.State.{handleNumber, handleToken, tokenSlots, handleSlots, stationCount}
 use Rattle.rules.specs.Valid.{groupValid, tokenValid, handleValid, streamValid}
+use Rattle.rules.specs.Head as Head
 use Rattle.rules.specs.Memory.{Memory, same, slotRow, slotDacl, slotAt, tokenRow, daclRow, tokenAt, stationRow, pendingRow, stationAt, unpack, word32, headWords, tokenWords, stationWords, primaryWord, countWord, brokenWord, nextToken, nextHandle, stationsIn, pendingBytes}
 
 abbrev pub isZero : ℕ → Bool
@@ -35,9 +36,9 @@ slotTest f (live a) = f a
 pub record Counted (ws bs : List ℕ) : Type 0 where
   pub words : length ws ≡ tokenWords
   pub bytes : length bs ≡ maxDacl
-  pub groups : getD ws 17 0 ≤ maxGroups
-  pub restricting : getD ws 18 0 ≤ maxRestricting
-  pub dacl : getD ws 19 0 ≤ maxDacl
+  pub groups : getD ws Head.groupCount 0 ≤ maxGroups
+  pub restricting : getD ws Head.restrictingCount 0 ≤ maxRestricting
+  pub dacl : getD ws Head.daclLength 0 ≤ maxDacl
 
 -- the parts of a row that the code lends: the groups and the zeros past them, the restricting SIDs and the zeros past them, the zeros past the DACL
 
@@ -45,19 +46,19 @@ abbrev pub groupsEnd : ℕ
 groupsEnd = headWords + maxGroups
 
 abbrev pub groupsPart : List ℕ → List ℕ
-groupsPart ws = take (headWords + getD ws 17 0 - headWords) (drop headWords ws)
+groupsPart ws = take (headWords + getD ws Head.groupCount 0 - headWords) (drop headWords ws)
 
 abbrev pub groupsRest : List ℕ → List ℕ
-groupsRest ws = take (groupsEnd - (headWords + getD ws 17 0)) (drop (headWords + getD ws 17 0) ws)
+groupsRest ws = take (groupsEnd - (headWords + getD ws Head.groupCount 0)) (drop (headWords + getD ws Head.groupCount 0) ws)
 
 abbrev pub sidsPart : List ℕ → List ℕ
-sidsPart ws = take (groupsEnd + getD ws 18 0 - groupsEnd) (drop groupsEnd ws)
+sidsPart ws = take (groupsEnd + getD ws Head.restrictingCount 0 - groupsEnd) (drop groupsEnd ws)
 
 abbrev pub sidsRest : List ℕ → List ℕ
-sidsRest ws = take (tokenWords - (groupsEnd + getD ws 18 0)) (drop (groupsEnd + getD ws 18 0) ws)
+sidsRest ws = take (tokenWords - (groupsEnd + getD ws Head.restrictingCount 0)) (drop (groupsEnd + getD ws Head.restrictingCount 0) ws)
 
 abbrev pub daclRest : List ℕ → List ℕ → List ℕ
-daclRest ws bs = take (maxDacl - getD ws 19 0) (drop (getD ws 19 0) bs)
+daclRest ws bs = take (maxDacl - getD ws Head.daclLength 0) (drop (getD ws Head.daclLength 0) bs)
 
 -- the lists end where their counts say, and restricting SIDs are below 2^32
 abbrev pub listsTest : List ℕ → List ℕ → Bool
@@ -81,18 +82,18 @@ carriedTo w = (bitAnd w 0xC000001400000000 + 0x4000000C00000000) % 2 ^ 64
 -- user, type, level, elevation, marks, scope, integrity, privileges
 abbrev pub headTest : List ℕ → Bool
 headTest ws =
-    isNarrow (getD ws 3 0)
-    && (leb 1 (getD ws 4 0) && leb (getD ws 4 0) 2)
-    && leb (getD ws 5 0) 3
-    && (not (eqb (getD ws 4 0) 1) || eqb (getD ws 5 0) 0)
-    && (leb 1 (getD ws 6 0) && leb (getD ws 6 0) 3)
-    && ltb (getD ws 7 0) 2
-    && ltb (getD ws 8 0) 2
-    && isNarrow (getD ws 11 0)
-    && (eqb (bitAnd (getD ws 15 0) (getD ws 13 0)) (getD ws 15 0)
-    && eqb (bitAnd (getD ws 14 0) (getD ws 13 0)) (getD ws 14 0)
-    && eqb (bitAnd (getD ws 13 0) existing) (getD ws 13 0)
-    && eqb (bitAnd (getD ws 16 0) existing) (getD ws 16 0))
+    isNarrow (getD ws Head.user 0)
+    && (leb 1 (getD ws Head.type 0) && leb (getD ws Head.type 0) 2)
+    && leb (getD ws Head.level 0) 3
+    && (not (eqb (getD ws Head.type 0) 1) || eqb (getD ws Head.level 0) 0)
+    && (leb 1 (getD ws Head.elevation 0) && leb (getD ws Head.elevation 0) 3)
+    && ltb (getD ws Head.writeRestricted 0) 2
+    && ltb (getD ws Head.userDenyOnly 0) 2
+    && isNarrow (getD ws Head.scope 0)
+    && (eqb (bitAnd (getD ws Head.byDefault 0) (getD ws Head.present 0)) (getD ws Head.byDefault 0)
+    && eqb (bitAnd (getD ws Head.enabled 0) (getD ws Head.present 0)) (getD ws Head.enabled 0)
+    && eqb (bitAnd (getD ws Head.present 0) existing) (getD ws Head.present 0)
+    && eqb (bitAnd (getD ws Head.used 0) existing) (getD ws Head.used 0))
 
 -- ---- a station's row
 
@@ -114,7 +115,7 @@ columnBy f w zero ws = []
 columnBy f w (suc n) ws = f (take w ws) ∷ columnBy f w n (drop w ws)
 
 abbrev pub firstWord : List ℕ → ℕ
-firstWord row = getD row 0 0
+firstWord row = getD row Head.number 0
 
 -- a station's primary token
 abbrev pub tokenIn : List ℕ → ℕ
@@ -122,7 +123,7 @@ tokenIn row = getD row primaryWord 0
 
 -- the number of a token that is not primary, else 0
 abbrev pub otherWord : List ℕ → ℕ
-otherWord row = if eqb (getD row 4 0 % 256) primary then 0 else getD row 0 0
+otherWord row = if eqb (getD row Head.type 0 % 256) primary then 0 else getD row Head.number 0
 
 -- f of the elements that k gives a number but 0
 unfoldable pub kept : {A : Type 0} → (A → ℕ) → (A → ℕ) → List A → List ℕ
