@@ -1,12 +1,12 @@
 -- Every rule keeps a state valid, and what lasts of its tokens. Assumes nothing.
-use Prim.Native.Nat.{ℕ, _+_, _^_, _<_}
+use Prim.Native.Nat.{ℕ, _+_, _^_, _<_, _≤_}
 use native.Mathlib.Omega.{arith}
 use mathlib.Core.Path.{_≡_, refl, sym, ap, _∙_, subst}
 use mathlib.Core.Bool.{true}
 use mathlib.Core.List.{List, map}
 use lib.Dec.{leb, ltb}
 use lib.ListN.{length, length-map}
-use borrow.Author.Tests.{eqb-true, lt-ltb, ltb-true}
+use borrow.Author.Tests.{eqb-true, lt-ltb, ltb-true, le-leb}
 use Rattle.rules.specs.AdjustDefaults as AdjustDefaults
 use Rattle.rules.specs.AdjustGroups as AdjustGroups
 use Rattle.rules.specs.AdjustPrivileges as AdjustPrivileges
@@ -62,6 +62,10 @@ same-identity d e n f st i j =
     b .follows .identity
     ∙ ap (λ (t : Token). t .identity) (only-one numberOf (d .tokens .slots) (f .loose .tokens .apart) (b .was) (i .was) (sym (b .follows .number) ∙ j .number ∙ sym (i .number)))
 
+-- a live token's number is below the next one
+older : (d : State) (n : ℕ) → StateFacts d → Is d n → tokenOf d n .number ≤ d .tokens .next
+older d n f i = let below = f .loose .tokens .given n (is-number d n i) .1 in let q = i .number in omega arith
+
 next-64 : (d : State) → canIssue d ≡ true → is64 (d .tokens .next) ≡ true
 unfolding canIssue canAddToken canAdd is64
 next-64 d h = let k = ltb-true (d .tokens .next) max64 (and-r (someFree (d .tokens .slots)) _ (and-r (canAddHandle d) _ h)) in lt-ltb (d .tokens .next) (2 ^ 64) (omega arith)
@@ -102,7 +106,7 @@ marks d s t f in8 =
 -- ---- what request 3 makes
 
 created : (n user session integrity present byDefault : ℕ) (gs : List Group) → is64 n ≡ true → is32 user ≡ true → is64 session ≡ true → all sid32 gs ≡ true → Create.validCreate user integrity present byDefault gs ≡ true
-    → TokenFacts (newToken n (primaryOf user session integrity) (granted present byDefault) (map Create.entered gs))
+    → TokenFacts (newToken n (primaryOf n user session integrity) (granted present byDefault) (map Create.entered gs))
 unfolding Create.validCreate primaryOf granted identityValid privilegesValid groupsValid between implies
 created n user session integrity present byDefault gs w wu ws wg ok =
     let level : Create.validIntegrity integrity ≡ true = search (and-l, and-r) in
@@ -110,7 +114,7 @@ created n user session integrity present byDefault gs w wu ws wg ok =
     let known : within present existing ≡ true = search (and-l, and-r) in
     let few : leb (length gs) maxGroups ≡ true = search (and-l, and-r) in
     let each : all (Create.validPair user) gs ≡ true = search (and-l, and-r) in
-    new-facts n (primaryOf user session integrity) (granted present byDefault) (map Create.entered gs) w
+    new-facts n (primaryOf n user session integrity) (granted present byDefault) (map Create.entered gs) (le-leb n n (omega arith)) w
     (and-i (and-i (and-i (and-i (and-i wu ws) level) refl) refl) refl)
     (and-i (and-i (and-i inside inside) known) (none-within existing))
     (and-i (ap (λ (k : ℕ). leb k maxGroups) (length-map gs Create.entered) ∙ few) (all-entered user gs each wg))
@@ -176,7 +180,7 @@ module _ (d : State) (f : StateFacts d) (s : ℕ) (in8 : s < stationCount) where
       let h = handleOf d s n in
       let t = tokenOf d (h .token) in
       let r = duplicate-ok h t type level mask ok in
-      let u = duplicated-made t (d .tokens .next) type level (next-64 d room) (r .0) (token-ok d (h .token) f (k .token)) in
+      let u = duplicated-made t (d .tokens .next) type level (older d (h .token) f (k .token)) (next-64 d room) (r .0) (token-ok d (h .token) f (k .token)) in
       issue-step d s mask (Duplicate.duplicated (d .tokens .next) type level t) f in8 (r .1) room (u .number) (u .facts)
 
   mask-ok : (h : Handle) → Found d h → validMask (h .mask) ≡ true
@@ -191,7 +195,7 @@ module _ (d : State) (f : StateFacts d) (s : ℕ) (in8 : s < stationCount) where
       let t = tokenOf d (h .token) in
       let few = leb (length (Restrict.restrictingTo sids (t .limits .restricting))) maxRestricting in
       let room = and-r few (canIssue d) fits in
-      let u = restricted-made t (d .tokens .next) mark removed deny sids (next-64 d room) (and-l few (canIssue d) fits) w (token-ok d (h .token) f (k .token)) in
+      let u = restricted-made t (d .tokens .next) mark removed deny sids (older d (h .token) f (k .token)) (next-64 d room) (and-l few (canIssue d) fits) w (token-ok d (h .token) f (k .token)) in
       issue-step d s (h .mask) (Restrict.restricted (d .tokens .next) mark removed deny sids t) f in8 (mask-ok h k) room (u .number) (u .facts)
 
   creates : (user session integrity present byDefault : ℕ) (gs : List Group) → is32 user ≡ true → is64 session ≡ true → all sid32 gs ≡ true → Keeps d (Create.create d s user session integrity present byDefault gs)
@@ -201,7 +205,7 @@ module _ (d : State) (f : StateFacts d) (s : ℕ) (in8 : s < stationCount) where
       let e = used createToken s d in
       let m : Marked d e = mark d s createToken f in8 refl in
       let n = d .tokens .next in
-      m .step then issue-step e s allRights (newToken n (primaryOf user session integrity) (granted present byDefault) (map Create.entered gs)) (m .step .facts) in8 refl (marked-room d s createToken room) (sym (marked-next d s createToken))
+      m .step then issue-step e s allRights (newToken n (primaryOf n user session integrity) (granted present byDefault) (map Create.entered gs)) (m .step .facts) in8 refl (marked-room d s createToken room) (sym (marked-next d s createToken))
       (created n user session integrity present byDefault gs (next-64 d room) wu ws wg ok)
 
   installs : (n : ℕ) → Keeps d (Install.install d s n)

@@ -79,36 +79,39 @@ module _ (d : State) (f : StateFacts d) (x : Source) where
   unfolding issued Makes addHandle withHandles addToken withTokens added Fresh
   issues s mask u h v m k = ⊎-elim (λ e. rw e h) (λ i. absurd (given v i k)) (in-placed u (d .tokens .slots) m)
 
-  -- what has the privileges and the limits of its source
-  as-source : (u : Token) → u .privileges ≡ t .privileges → u .limits ≡ t .limits → NoMore x u
+  -- what has the privileges, the limits and the root of its source
+  as-source : (u : Token) → x .stripped ≡ false → u .privileges ≡ t .privileges → u .limits ≡ t .limits → u .identity .root ≡ t .identity .root → NoMore x u
   unfolding t isRestricted
-  as-source u p l = record {
+  as-source u a p l r = record {
     present = rw p (within-refl _);
-    restricted = λ a r. rw l r;
-    restricting = λ a r n m. rw (← l) m;
+    restricted = λ b h. rw l h;
+    restricting = λ b h n m. rw (← l) m;
+    root = rw a r;
   }
 
   duplicated : (n type level : ℕ) → x .stripped ≡ isAnonymous type level → NoMore x (Duplicate.duplicated n type level t)
-  unfolding Duplicate.duplicated Duplicate.copied Duplicate.anonymousCopy newToken onlyUsed isAnonymous t
+  unfolding Duplicate.duplicated Duplicate.copied Duplicate.retyped Duplicate.anonymousCopy Duplicate.nobody newToken onlyUsed isAnonymous t
   duplicated n type level e =
-      on-if (NoMore x) (eqb type primary) _ _ (λ a. as-source _ refl refl)
+      let asked : (p q : Bool) → eqb type primary ≡ p → eqb level 0 ≡ q → x .stripped ≡ (not p && q) = λ p q a b. e ∙ ap₂ (λ p q. not p && q) a b in
+      on-if (NoMore x) (eqb type primary) _ _ (λ a. as-source _ (asked true _ a refl) refl refl refl)
       (λ a.
       on-if (NoMore x) (eqb level 0) _ _
       (λ b.
-      let stripped : x .stripped ≡ true = e ∙ ap₂ (λ p q. not p && q) a b in
       record {
         present = none-within _;
-        restricted = λ c. absurd (not-both stripped c);
-        restricting = λ c. absurd (not-both stripped c);
+        restricted = λ c. absurd (not-both (asked false true a b) c);
+        restricting = λ c. absurd (not-both (asked false true a b) c);
+        root = rw (asked false true a b) refl;
       })
-      (λ b. as-source _ refl refl))
+      (λ b. as-source _ (asked false false a b) refl refl refl))
 
-  restricted : (n mark removed : ℕ) (deny sids : List ℕ) → Restrict.narrows t mark sids ≡ true → NoMore x (Restrict.restricted n mark removed deny sids t)
+  restricted : (n mark removed : ℕ) (deny sids : List ℕ) → x .stripped ≡ false → Restrict.narrows t mark sids ≡ true → NoMore x (Restrict.restricted n mark removed deny sids t)
   unfolding Restrict.restricted remove Restrict.limited isRestricted Restrict.narrows t
-  restricted n mark removed deny sids h = record {
+  restricted n mark removed deny sids a h = record {
     present = without-within (t .privileges .present) removed;
-    restricted = λ a r. stays mark sids (t .limits .restricting) _ r h;
-    restricting = λ a r n m. narrower sids (t .limits .restricting) r m;
+    restricted = λ b r. stays mark sids (t .limits .restricting) _ r h;
+    restricting = λ b r n m. narrower sids (t .limits .restricting) r m;
+    root = rw a refl;
   }
 
   none : {A : Type 0} → _≡_ {A = Slot Source} free (live x) → A
@@ -128,7 +131,7 @@ module _ (d : State) (f : StateFacts d) (x : Source) where
   of-request s (got (Request.duplicate n type level mask) bytes) e =
       on-handle s n _ _ _ e λ b ok room. issues s mask _ (duplicated (d .tokens .next) type level b)
   of-request s (got (Request.restrict n mark removed deny sids) bytes) e =
-      on-handle s n _ _ _ e λ b ok room. issues s (handleOf d s n .mask) _ (restricted (d .tokens .next) mark removed deny sids (search (and-l, and-r)))
+      on-handle s n _ _ _ e λ b ok room. issues s (handleOf d s n .mask) _ (restricted (d .tokens .next) mark removed deny sids b (search (and-l, and-r)))
   of-request s (got (Request.install n) bytes) e = none e
 
 -- ---- every body that is served in a run

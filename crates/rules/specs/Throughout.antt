@@ -16,7 +16,7 @@ use Rattle.rules.specs.Frame.{frame, framed, whole, maxAnswer}
 use Rattle.rules.specs.Valid.{valid}
 use Rattle.rules.specs.Ladder.{Ladder}
 use Rattle.rules.specs.Run.{Call, byte, ofBytes, after, answered, events, afterEvents, answersTo, timed, timedTo, untilUsed, Serving, serves, outcomes, answeredFrom, OneByOne}
-use Rattle.rules.specs.Growth.{Mem, Live, LiveHandle, Follows, Later, HandlesLater, StillHandle, Copying}
+use Rattle.rules.specs.Growth.{Mem, Live, LiveHandle, Follows, Later, HandlesLater, StillHandle, Copying, Rooted}
 
 -- an answer: one valid frame that fits the buffer
 pub record IsAnswer (bytes : List ℕ) : Type 0 where
@@ -80,5 +80,7 @@ pub record Throughout (σ : State) (cs : List Call) : Type 0 where
   -- 'a token made from another begins with no present privilege that its source lacked', and 'a token made from a restricted one by request 10,
   -- or by 9 unless stripped, is restricted, and its list has nothing that the source's lacked'
   pub copies : (x : Serving) → Mem (serves x) (outcomes (events cs σ) σ) → Copying x
+  -- 'every token carries its root: the number of the started or created token it descends from', or 0; it never changes (`lasting`)
+  pub roots : (t : Token) → Live t (after cs σ) → Rooted σ (outcomes (events cs σ) σ) (t .identity .root)
   -- no answer is longer than 1,024 bytes
   pub fit : (a : List ℕ) → Mem a (answered cs σ) → IsAnswer a
