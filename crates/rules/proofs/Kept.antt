@@ -42,7 +42,7 @@ use Rattle.rules.proofs.Changes.{numbersOf, put-numbers, put-room}
 use Rattle.rules.proofs.Widths.{Got, sid32, Fits, parsed}
 use Rattle.rules.proofs.GroupsKept.{all-entered}
 use Rattle.rules.proofs.TokensKept.{After, used-after, privileges-after, groups-after, scope-after, defaults-after, new-facts, duplicated-made, restricted-made}
-use Rattle.rules.proofs.Steps.{Advance, stays, _then_, Is, token-ok, is-live, is-caller, change, open-step, issue-step, close-step, token-step, Keeps, Found, on-handle, finished}
+use Rattle.rules.proofs.Steps.{Advance, stays, _then_, Is, token-ok, is-live, is-caller, change, open-step, issue-step, close-step, token-step, Ends, Keeps, ended, Found, on-handle}
 
 -- ---- the token of a number, over a step
 
@@ -126,40 +126,40 @@ module _ (d : State) (f : StateFacts d) (s : ℕ) (in8 : s < stationCount) where
   adjust h g k a = change d (h .token) g f (k .token) (a .facts) (a .follows)
 
   opens : (mask : ℕ) → Keeps d (OpenClose.openOwn d s mask)
-  unfolding OpenClose.openOwn Keeps
+  unfolding OpenClose.openOwn Ends
   opens mask m room = open-step d s (callerNumber d s) mask f in8 m room (is-caller d s f in8)
 
   closes : (n : ℕ) → Keeps d (OpenClose.close d s n)
-  unfolding OpenClose.close Keeps
+  unfolding OpenClose.close Ends
   closes n known = close-step d s n f
 
   queries : (n class capacity : ℕ) → Keeps d (Query.query d s n class capacity)
-  unfolding Query.query Keeps
+  unfolding Query.query Ends
   queries n class capacity = on-handle d s n _ _ f λ k ok fits. stays f
 
   adjusts-privileges : (n : ℕ) (es : List Entry) → Keeps d (AdjustPrivileges.adjust d s n es)
-  unfolding AdjustPrivileges.adjust Keeps
+  unfolding AdjustPrivileges.adjust Ends
   adjusts-privileges n es =
       on-handle d s n _ _ f λ k ok.
       let h = handleOf d s n in
       adjust h (AdjustPrivileges.adjustedToken es) k (privileges-after (tokenOf d (h .token)) es ok (token-ok d (h .token) f (k .token)))
 
   adjusts-groups : (n : ℕ) (es : List Entry) → Keeps d (AdjustGroups.adjust d s n es)
-  unfolding AdjustGroups.adjust Keeps
+  unfolding AdjustGroups.adjust Ends
   adjusts-groups n es =
       on-handle d s n _ _ f λ k ok may.
       let h = handleOf d s n in
       adjust h (AdjustGroups.adjustedToken es) k (groups-after (tokenOf d (h .token)) es may (token-ok d (h .token) f (k .token)))
 
   defaults : (n owner group flag : ℕ) (bytes : List ℕ) → all isByte bytes ≡ true → Keeps d (AdjustDefaults.adjust d s n owner group flag bytes)
-  unfolding AdjustDefaults.adjust Keeps
+  unfolding AdjustDefaults.adjust Ends
   defaults n owner group flag bytes b =
       on-handle d s n _ _ f λ k ok.
       let h = handleOf d s n in
       adjust h (AdjustDefaults.adjustedToken owner group flag bytes) k (defaults-after (tokenOf d (h .token)) owner group flag bytes ok b (token-ok d (h .token) f (k .token)))
 
   scopes : (n v : ℕ) → is32 v ≡ true → Keeps d (AdjustScope.scope d s n v)
-  unfolding AdjustScope.scope Keeps has
+  unfolding AdjustScope.scope Ends has
   scopes n v w =
       on-handle d s n _ _ f λ k ok.
       let h = handleOf d s n in
@@ -174,7 +174,7 @@ module _ (d : State) (f : StateFacts d) (s : ℕ) (in8 : s < stationCount) where
   duplicate-ok h t type level mask ok = search (and-l, and-r)
 
   duplicates : (n type level mask : ℕ) → Keeps d (Duplicate.duplicate d s n type level mask)
-  unfolding Duplicate.duplicate issued Keeps
+  unfolding Duplicate.duplicate issued Ends
   duplicates n type level mask =
       on-handle d s n _ _ f λ k ok room.
       let h = handleOf d s n in
@@ -188,7 +188,7 @@ module _ (d : State) (f : StateFacts d) (s : ℕ) (in8 : s < stationCount) where
   mask-ok h k = and-r (ltb (h .station) stationCount) _ (f .loose .eachHandle h (k .was))
 
   restricts : (n mark removed : ℕ) (deny sids : List ℕ) → all is32 sids ≡ true → Keeps d (Restrict.restrict d s n mark removed deny sids)
-  unfolding Restrict.restrict issued Keeps
+  unfolding Restrict.restrict issued Ends
   restricts n mark removed deny sids w =
       on-handle d s n _ _ f λ k ok fits.
       let h = handleOf d s n in
@@ -199,7 +199,7 @@ module _ (d : State) (f : StateFacts d) (s : ℕ) (in8 : s < stationCount) where
       issue-step d s (h .mask) (Restrict.restricted (d .tokens .next) mark removed deny sids t) f in8 (mask-ok h k) room (u .number) (u .facts)
 
   creates : (user session integrity present byDefault : ℕ) (gs : List Group) → is32 user ≡ true → is64 session ≡ true → all sid32 gs ≡ true → Keeps d (Create.create d s user session integrity present byDefault gs)
-  unfolding Create.create issued Keeps has validMask within newToken
+  unfolding Create.create issued Ends has validMask within newToken
   creates user session integrity present byDefault gs wu ws wg =
       λ may ok room.
       let e = used createToken s d in
@@ -209,7 +209,7 @@ module _ (d : State) (f : StateFacts d) (s : ℕ) (in8 : s < stationCount) where
       (created n user session integrity present byDefault gs (next-64 d room) wu ws wg ok)
 
   installs : (n : ℕ) → Keeps d (Install.install d s n)
-  unfolding Install.install Keeps
+  unfolding Install.install Ends
   installs n =
       on-handle d s n _ _ f λ k may ok match.
       let h = handleOf d s n in
@@ -235,10 +235,10 @@ module _ (d : State) (f : StateFacts d) (s : ℕ) (in8 : s < stationCount) where
   by-rule (Request.install n) w = installs n
 
   by-read : (r : Read Request) → Got Fits r → Keeps d (decided d s r)
-  unfolding decided Keeps Got
+  unfolding decided Ends Got
   by-read bad w = λ h. absurd (not-both h refl)
   by-read (got r rest) w = by-rule r (w .0)
 
   pub serve-step : (body : List ℕ) → all isByte body ≡ true → Advance d (serve d s body .state)
   unfolding serve decision
-  serve-step body b = finished d (decision d s body) f (by-read (parse body) (parsed body b))
+  serve-step body b = ended (Advance d) d (decision d s body) (stays f) (by-read (parse body) (parsed body b))
