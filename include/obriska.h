@@ -36,7 +36,7 @@ extern "C" {
 #define OBRISKA_HANDLES 32 /* live handles at most, of all stations together */
 
 #define OBRISKA_MAX_GROUPS 64      /* of a token */
-#define OBRISKA_MAX_RESTRICTING 16 /* restricting SIDs of a token */
+#define OBRISKA_MAX_RESTRICTING 16 /* restricting SIDs of a token; with any it is restricted */
 #define OBRISKA_MAX_DACL 256       /* bytes of a token's default DACL */
 
 #define OBRISKA_ANSWER_LEN 1024 /* the shortest answer buffer, and the longest answer */
@@ -159,12 +159,14 @@ enum obriska_refusal {
     OBRISKA_REFUSED_HANDLE = 2,     /* not a live handle of this station */
     OBRISKA_REFUSED_RIGHT = 3,      /* the handle lacks the right */
     OBRISKA_REFUSED_PRIVILEGE = 4,  /* the privilege is not enabled on the station's token */
-    OBRISKA_REFUSED_FIELD = 5,      /* a bad field or entry, an unknown class, or installing a token
-                                       that is not primary */
+    OBRISKA_REFUSED_FIELD = 5,      /* a bad field or entry, an unknown class, installing a token that
+                                       is not primary, or restricting a restricted one by none of
+                                       its SIDs or, without the mark, to writes only */
     OBRISKA_REFUSED_PROTECTED = 6,  /* an entry names a mandatory, deny-only or logon group, or
                                        disables one with the user's SID */
     OBRISKA_REFUSED_MISMATCH = 7,   /* installing a token of another user or session */
-    OBRISKA_REFUSED_FULL = 8,       /* no free slot, no number left, or too many restricting SIDs */
+    OBRISKA_REFUSED_FULL = 8,       /* no free slot, no number left, or too many restricting SIDs for
+                                       an unrestricted token */
     OBRISKA_REFUSED_CAPACITY = 9,   /* the report is larger than the capacity; its size follows */
     OBRISKA_REFUSED_BROKEN = 10,    /* a bad length: the stream is broken until a reconnect */
     OBRISKA_REFUSED_STATION = 11,   /* there is no such station */

@@ -6,7 +6,7 @@ use mathlib.Core.Path.{_≡_, refl, sym, ap, ap₂, _∙_, subst}
 use mathlib.Core.Bool.{Bool, true, false, _||_, or-assoc, or-true, or-false}
 use mathlib.Core.List.{List, [], _∷_, _++_, map, append-nil, append-assoc}
 use lib.Dec.{eqb}
-use lib.ListN.{length, take, drop, getD, set, replicate, length-append, length-take, length-drop, length-set}
+use lib.ListN.{length, take, drop, getD, set, replicate, length-append, length-take, length-set}
 use lib.Seq.{append-snoc, take-suc, take-length, drop-length, take-at, getD-append-add, set-append-seam}
 use borrow.Author.Tests.{eq-eqb, ne-eqb}
 use borrow.Rule.Slice.PartMut.{putMid, post-is}
@@ -273,16 +273,13 @@ restricted-row t sids =
     (ap (take sidsAt) (sym (append-assoc (head t) gs rs)) ∙ take-at (head t ++ gs) rs sidsAt size)
     ∙ ap (λ (l : List ℕ). set l Head.restrictingCount (length sids)) (append-assoc (head t) gs (pad maxRestricting sids))
 
-module _ (list : Sids) (ws : List ℕ) (long : length ws ≡ tokenWords) (size : length (list .words) ≡ maxRestricting) where
-  pub room-for : length (take (length ws - sidsAt) (drop sidsAt ws)) ≡ length (list .words)
-  room-for = simp (length-take, length-drop) (omega arith)
-
-  pub restricts-to : {ys : List ℕ} → ys ≡ list .words → RestrictedTo list ws (set (putMid sidsAt (length ws - sidsAt) ws ys) Head.restrictingCount (list .count))
-  restricts-to {ys} e =
-      let put : putMid sidsAt (length ws - sidsAt) ws ys ≡ take sidsAt ws ++ list .words =
-      ap₂ (λ (l r : List ℕ). take sidsAt ws ++ (l ++ r)) e (post-is sidsAt (length ws) ws (omega arith) ∙ drop-length ws)
-      ∙ ap (λ (l : List ℕ). take sidsAt ws ++ l) (append-nil (list .words)) in
-      subst (λ (l : List ℕ). RestrictedTo list ws (set l Head.restrictingCount (list .count))) (sym put) (record {
-        long = simp (length-set, length-append, length-take) (omega arith);
-        made = λ sids l few t q. (λ i. set (take sidsAt (q i) ++ l .words few i) Head.restrictingCount (l .count i)) ∙ restricted-row t sids;
-      })
+pub restricts-to : (list : Sids) (ws : List ℕ) → length ws ≡ tokenWords → length (list .words) ≡ maxRestricting → {ys : List ℕ} → ys ≡ list .words
+    → RestrictedTo list ws (set (putMid sidsAt (length ws - sidsAt) ws ys) Head.restrictingCount (list .count))
+restricts-to list ws long size {ys} e =
+    let put : putMid sidsAt (length ws - sidsAt) ws ys ≡ take sidsAt ws ++ list .words =
+    ap₂ (λ (l r : List ℕ). take sidsAt ws ++ (l ++ r)) e (post-is sidsAt (length ws) ws (omega arith) ∙ drop-length ws)
+    ∙ ap (λ (l : List ℕ). take sidsAt ws ++ l) (append-nil (list .words)) in
+    subst (λ (l : List ℕ). RestrictedTo list ws (set l Head.restrictingCount (list .count))) (sym put) (record {
+      long = simp (length-set, length-append, length-take) (omega arith);
+      made = λ sids l few t q. (λ i. set (take sidsAt (q i) ++ l .words few i) Head.restrictingCount (l .count i)) ∙ restricted-row t sids;
+    })

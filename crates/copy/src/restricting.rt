@@ -114,7 +114,6 @@ pub fn restrict_to(words: &mut [u64], list: Sids)
     requires { ⌜ length (now words) ≡ tokenWords ⌝ }
     ensures { λ _. ⌜ RestrictedTo list (now (words .entry)) (now (words .exit)) ⌝ }
 {
-    let sids = list.words;
-    slices::copy_words(&sids, &mut words[GROUPS_END..]);
+    slices::copy_words(&list.words, &mut words[GROUPS_END..]);
     words[RESTRICTING_COUNT] = list.count;
 }

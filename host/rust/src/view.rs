@@ -102,7 +102,8 @@ pub struct Token {
     pub privileges: Privileges,
     /// The groups, at most [`MAX_GROUPS`](crate::MAX_GROUPS).
     pub groups: Vec<Group>,
-    /// The restricting SIDs, at most [`MAX_RESTRICTING`](crate::MAX_RESTRICTING).
+    /// The restricting SIDs, at most [`MAX_RESTRICTING`](crate::MAX_RESTRICTING); with any the token
+    /// is restricted, and so are its copies but an anonymous one, by no other SIDs.
     pub restricting: Vec<u32>,
     /// The default DACL, at most [`MAX_DACL`](crate::MAX_DACL) bytes.
     pub dacl: Vec<u8>,

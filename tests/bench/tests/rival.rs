@@ -8,10 +8,11 @@ use model::Model;
 #[test]
 fn lists_of_calls() {
     let mut counts = Counts::default();
-    lists::compare::<Rival>(0..200, &mut counts);
+    lists::compare::<Rival>(0..480, &mut counts);
     if one_seed().is_none() {
         counts.check_statuses(5);
         counts.check_groups(5);
+        counts.check_restrictions(5);
         counts.check_refusals(5);
     }
 }

@@ -59,6 +59,28 @@ pub fn with_groups() -> Model {
     model
 }
 
+/// A start at which every other station has made two copies of its token: restricted by a list with
+/// repeats, with the mark and without it; by the longest, with the mark; and marked without SIDs.
+pub fn with_restrictions() -> Model {
+    let mut model = Model::start();
+    let repeats = vec![50, 60, 50, 18];
+    let most: Vec<u32> = (50..).take(MAX_RESTRICTING).collect();
+    let lists = [(0, repeats.clone()), (1, vec![]), (1, repeats), (1, most)];
+    let mut lists = lists.into_iter().cycle();
+    for station in (0..STATIONS).step_by(2) {
+        let handle = ask(&mut model, station, &Request::Open { mask: Mask::ALL.0 });
+        for (write_restricted, sids) in lists.by_ref().take(2) {
+            let (remove, deny) = (0, vec![]);
+            ask(
+                &mut model,
+                station,
+                &Request::Restrict { handle, write_restricted, remove, deny, sids },
+            );
+        }
+    }
+    model
+}
+
 /// Makes a request; gives the handle that it answers.
 fn ask(model: &mut Model, station: usize, request: &Request) -> u32 {
     let fed = model.feed(station as u32, &framed(&flat(&fields(request))), MIN_BUFFER);
@@ -155,7 +177,7 @@ fn random_token(rng: &mut Rng, number: u64) -> Token {
             default: rng.bits() & present,
             used: rng.bits() & ALL_PRIVILEGES,
         },
-        restricting: small_list(rng, MAX_RESTRICTING).iter().map(|_| rng.word() as u32).collect(),
+        restricting: small_list(rng, MAX_RESTRICTING).iter().map(|_| random_sid(rng)).collect(),
         write_restricted: rng.percent(30),
         user_deny_only: rng.percent(30),
         dacl: small_list(rng, MAX_DACL).iter().map(|_| rng.word() as u8).collect(),
@@ -177,6 +199,12 @@ fn small_list(rng: &mut Rng, most: usize) -> Vec<()> {
         _ => rng.below(6),
     };
     vec![(); count]
+}
+
+/// A restricting SID, one that may come again in its list or not.
+fn random_sid(rng: &mut Rng) -> u32 {
+    let any = rng.word() as u32;
+    rng.pick(&[18, 50, 60, 0, u32::MAX, any, any, any])
 }
 
 fn random_group(rng: &mut Rng) -> Group {

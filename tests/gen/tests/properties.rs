@@ -1,16 +1,21 @@
-//! Demand 3 on the model itself: what never grows, what stays, and that cuts change nothing. And
-//! that request 5 reports what was before.
+//! Demand 3 on the model itself: what never grows, what stays, and that cuts change nothing. That a
+//! second restriction never widens. And that request 5 reports what was before.
 
 use std::cell::RefCell;
 use std::collections::BTreeMap;
+use std::fmt::Debug;
 
-use gen::{each_seed, one_seed, run, state, Call, Step};
-use model::{Group, Model, Reader, Request, Token, RESET_PRIVILEGES, STATIONS};
+use gen::{each_seed, one_seed, run, state, with_restrictions, Call, Step};
+use model::{
+    Group, Level, Model, Reader, Request, Token, TokenType, DISABLE, ENABLE, REMOVE,
+    RESET_PRIVILEGES, STATIONS,
+};
 
 /// Many scripts, from the start and from random states.
 fn run_all(check: impl Fn(&Step) + Copy) {
     each_seed(0..20, |seed, _| run(seed, Model::start(), 500, check));
     each_seed(100..200, |seed, rng| run(seed, state(rng), 100, check));
+    each_seed(200..240, |seed, _| run(seed, with_restrictions(), 200, check));
 }
 
 fn tokens(model: &Model) -> impl Iterator<Item = &Token> {
@@ -92,23 +97,110 @@ fn token_of(model: &Model, station: usize, handle: u32) -> Option<&Token> {
     model.token(live.token)
 }
 
+/// The request that made a copy, its source and the copy.
+fn copied<'a>(step: &Step<'a>) -> Option<(Request, &'a Token, &'a Token)> {
+    let (station, request) = ended_request(step)?;
+    let (Request::Duplicate { handle, .. } | Request::Restrict { handle, .. }) = request else {
+        return None;
+    };
+    if step.status() != Some(0) {
+        return None;
+    }
+    let source = token_of(step.before, station, handle).expect("a success has a source");
+    let copy = step.after.token(step.before.next_token).expect("a success has a copy");
+    Some((request, source, copy))
+}
+
 #[test]
 fn a_copy_begins_with_no_privilege_that_its_source_lacked() {
     run_all(|step| {
-        let (before, after) = (step.before, step.after);
-        let Some((station, request)) = ended_request(step) else { return };
-        let (Request::Duplicate { handle, .. } | Request::Restrict { handle, .. }) = request else {
-            return;
-        };
-        if step.status() != Some(0) {
-            return;
-        }
-        let source = token_of(before, station, handle).expect("a success has a source");
-        let copy = after.token(before.next_token).expect("a success has a copy");
+        let Some((_, source, copy)) = copied(step) else { return };
         assert_eq!(copy.privileges.present & !source.privileges.present, 0);
         assert_eq!(copy.privileges.used, source.privileges.used);
-        assert_eq!(source, after.token(source.number).expect("the source stays"));
+        assert_eq!(source, step.after.token(source.number).expect("the source stays"));
     });
+}
+
+/// Each case came so often at least, unless one seed alone is run.
+fn check_counts<C: Ord + Debug>(seen: &BTreeMap<C, usize>, cases: impl IntoIterator<Item = C>) {
+    for case in cases {
+        let count = seen.get(&case).copied().unwrap_or(0);
+        assert!(one_seed().is_some() || count >= 20, "{case:?}: {count}");
+    }
+}
+
+#[test]
+fn a_copy_of_a_restricted_token_is_restricted_by_nothing_that_its_source_lacked() {
+    let seen = RefCell::new(BTreeMap::new());
+    run_all(|step| {
+        let Some((request, source, copy)) = copied(step) else { return };
+        let is_anonymous = copy.kind == TokenType::Impersonation && copy.level == Level::Anonymous;
+        let by = match request {
+            Request::Duplicate { .. } if is_anonymous => return,
+            Request::Duplicate { .. } => "duplicate",
+            Request::Restrict { sids, .. } if sids.is_empty() => "restrict by none",
+            _ => "restrict",
+        };
+        if source.is_restricted() {
+            assert!(copy.is_restricted(), "{:?}", step.call);
+            let lacked = |sid: &u32| !source.restricting.contains(sid);
+            assert!(!copy.restricting.iter().any(lacked), "{:?}", step.call);
+            assert_eq!(copy.write_restricted, source.write_restricted, "{:?}", step.call);
+            *seen.borrow_mut().entry(by).or_insert(0) += 1;
+        }
+    });
+    check_counts(&seen.borrow(), ["duplicate", "restrict by none", "restrict"]);
+}
+
+/// Whether the items stand in the list in their order.
+fn are_in_order(items: &[u32], list: &[u32]) -> bool {
+    let mut list = list.iter();
+    items.iter().all(|item| list.any(|other| other == item))
+}
+
+#[test]
+fn a_restriction_keeps_each_sid_that_is_also_given_as_often_as_it_was() {
+    let seen = RefCell::new(BTreeMap::new());
+    run_all(|step| {
+        let Some((Request::Restrict { sids, .. }, source, copy)) = copied(step) else { return };
+        if !source.is_restricted() || sids.is_empty() {
+            let kept = if sids.is_empty() { &source.restricting } else { &sids };
+            assert_eq!(copy.restricting, *kept, "{:?}", step.call);
+            return;
+        }
+        let (had, kept) = (&source.restricting, &copy.restricting);
+        assert!(are_in_order(kept, had), "{:?}", step.call);
+        let count = |list: &[u32], sid| list.iter().filter(|&&other| other == sid).count();
+        for &sid in had.iter().chain(&sids) {
+            let expected = if sids.contains(&sid) { count(had, sid) } else { 0 };
+            assert_eq!(count(kept, sid), expected, "{:?}", step.call);
+            let case = (count(had, sid).min(2), count(&sids, sid).min(2));
+            *seen.borrow_mut().entry(case).or_insert(0) += 1;
+        }
+    });
+    // None, one or more in the source, and none, one or more given.
+    let cases = (0..3).flat_map(|had| (0..3).map(move |given| (had, given)));
+    check_counts(&seen.borrow(), cases.filter(|&case| case != (0, 0)));
+}
+
+#[test]
+fn second_and_third_restrictions_come() {
+    let mut seen = BTreeMap::new();
+    each_seed(300..700, |seed, _| {
+        let mut depths = BTreeMap::new();
+        run(seed, with_restrictions(), 250, |step| {
+            let Some((request, source, copy)) = copied(step) else { return };
+            let first = u32::from(source.is_restricted());
+            let depth = depths.get(&source.number).copied().unwrap_or(first);
+            let narrows = matches!(request, Request::Restrict { sids, .. } if !sids.is_empty());
+            let depth = if copy.is_restricted() { depth + u32::from(narrows) } else { 0 };
+            depths.insert(copy.number, depth);
+            if narrows {
+                *seen.entry(depth).or_insert(0) += 1;
+            }
+        });
+    });
+    check_counts(&seen, [1, 2, 3]);
 }
 
 #[test]
@@ -210,9 +302,7 @@ fn request_5_reports_how_each_named_privilege_was() {
     });
     // Absent, disabled and enabled ones, each with all that may be asked of it.
     let [absent, disabled, enabled] = [(0, 0), (1, 0), (1, 1)];
-    let whatever = [disabled, enabled].into_iter().flat_map(|was| [0, 2, 4].map(|to| (was, to)));
-    for case in whatever.chain([(absent, 0), (absent, 4)]) {
-        let count = seen.borrow().get(&case).copied().unwrap_or(0);
-        assert!(one_seed().is_some() || count >= 10, "{case:?}: {count}");
-    }
+    let actions = [DISABLE, ENABLE, REMOVE];
+    let whatever = [disabled, enabled].into_iter().flat_map(|was| actions.map(|to| (was, to)));
+    check_counts(&seen.borrow(), whatever.chain([(absent, DISABLE), (absent, REMOVE)]));
 }

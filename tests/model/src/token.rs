@@ -217,6 +217,11 @@ impl Token {
         }
     }
 
+    /// Whether it has restricting SIDs; the marks alone restrict nothing.
+    pub fn is_restricted(&self) -> bool {
+        !self.restricting.is_empty()
+    }
+
     /// The group that an index of owner or primary group names; `None` for the user.
     fn group_at(&self, index: u16) -> Option<&Group> {
         self.groups.get(usize::from(index).checked_sub(1)?)

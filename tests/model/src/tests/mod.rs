@@ -15,6 +15,7 @@ mod numbers;
 mod privileges;
 mod program;
 mod query;
+mod restrictions;
 mod slips;
 mod streams;
 

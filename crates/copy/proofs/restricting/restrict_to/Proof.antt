@@ -1,6 +1,6 @@
 -- The last words, and their count. Assumes nothing.
 use borrow.Author.Needs.{needs}
-use Rattle.copy.proofs.RestrictingSids.{room-for, restricts-to}
+use Rattle.copy.proofs.RestrictingSids.{restricts-to}
 use Rattle.copy.proofs.restricting.restrict_to.Statement.{statement}
 use Rattle.copy.proofs.restricting.restrict_to.Tie as tie
 
@@ -11,8 +11,7 @@ restrict-to-spec =
     (λ c. search needs)
     (λ c. search needs)
     (λ c. search needs)
-    (λ c. search needs)
-    (λ c κs. search (needs, room-for))
+    (λ c κs. search needs)
     (λ c. search needs)
     (λ c. search needs)
     (λ c. search (needs, restricts-to)))
