@@ -5,7 +5,7 @@ use std::collections::BTreeMap;
 use std::fmt;
 
 use model::{Level, Model, Request, Token, TokenType, NO_ROOT};
-use Root::{Gone, Live, NoRoot, Own};
+use Root::{Gone, Live, Own, Without};
 use Way::{Anonymous, Create, Impersonation, Primary, Restrict, Statistics};
 
 /// The class of request 4 that tells the root.
@@ -21,14 +21,14 @@ enum Root {
     /// Another, freed since.
     Gone,
     /// It is an anonymous copy, or made from one.
-    NoRoot,
+    Without,
 }
 
-const ROOTS: [Root; 4] = [Own, Live, Gone, NoRoot];
+const ROOTS: [Root; 4] = [Own, Live, Gone, Without];
 
 fn kind(model: &Model, token: &Token) -> Root {
     match token.root {
-        NO_ROOT => NoRoot,
+        NO_ROOT => Without,
         root if root == token.number => Own,
         root if model.token(root).is_some() => Live,
         _ => Gone,
