@@ -45,8 +45,8 @@ pub record Follows (t u : Token) : Type 0 where
   -- each group keeps its index, its SID and its deny-only mark
   pub sids : map sidOf (u .groups) ≡ map sidOf (t .groups)
   pub denied : (i : ℕ) → isDenyOnly (getD (t .groups) i noGroup) ≡ true → isDenyOnly (getD (u .groups) i noGroup) ≡ true
-  -- the user keeps the deny-only mark
-  pub userDenied : t .limits .userDenyOnly ≡ true → u .limits .userDenyOnly ≡ true
+  -- restricting SIDs, the write-restricted mark and the user's deny-only mark stay
+  pub limits : u .limits ≡ t .limits
 
 -- the token u was there before, in the table x
 pub record Before (x : Table Token) (u : Token) : Type 0 where
