@@ -55,6 +55,10 @@ primary = 1
 abbrev pub impersonation : ℕ
 impersonation = 2
 
+-- a token of no root
+abbrev pub noRoot : ℕ
+noRoot = 0
+
 abbrev pub anonymous : ℕ
 anonymous = 7
 
