@@ -67,6 +67,7 @@ enum obriska_token_word {
     OBRISKA_TOKEN_GROUP_COUNT = 17,
     OBRISKA_TOKEN_RESTRICTING_COUNT = 18,
     OBRISKA_TOKEN_DACL_LENGTH = 19,
+    OBRISKA_TOKEN_ROOT = 20, /* whom it descends from, or OBRISKA_NO_ROOT */
     OBRISKA_TOKEN_GROUPS, /* the first group: SID in the low half, attributes in the high */
     OBRISKA_TOKEN_RESTRICTING = OBRISKA_TOKEN_GROUPS + OBRISKA_MAX_GROUPS /* the first SID */
 };
@@ -180,7 +181,8 @@ enum obriska_refusal {
  * byte, low bits first, the top bit set on all bytes but the last:
  *
  *   1, 3, 9, 10  the number of the new handle;
- *   4            the report of the class, in which a DACL's bytes are plain;
+ *   4            the report of the class, in which a DACL's bytes are plain. Class 9 has number,
+ *                session, modified number, type and root;
  *   5            two words of before the change, at the bits of the named privileges: which were
  *                present, then which were enabled. In both 0, a privilege was absent; in the first
  *                alone 1, it was disabled. A reset answers both words whole;
@@ -208,6 +210,11 @@ enum obriska_refusal {
 #define OBRISKA_GROUP_OWNER 0x08u
 #define OBRISKA_GROUP_DENY_ONLY 0x10u
 #define OBRISKA_GROUP_LOGON_ID 0xC0000000u
+
+/* A token's root is the number of the started or created token that it descends from, which may be
+ * gone; its own number for those. It never changes. An anonymous copy (impersonation at level 0) has
+ * none, and so has all that is made from one, a primary token too. */
+#define OBRISKA_NO_ROOT 0u
 
 /* ---- the calls ------------------------------------------------------------------------------ */
 

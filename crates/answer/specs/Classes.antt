@@ -25,7 +25,7 @@ privilegeWords ws = getD ws Head.present 0 ∷ getD ws Head.enabled 0 ∷ getD w
 
 -- class 9
 abbrev pub statistics : List ℕ → List ℕ
-statistics ws = getD ws Head.number 0 ∷ getD ws Head.session 0 ∷ getD ws Head.modified 0 ∷ low8 (getD ws Head.type 0) ∷ []
+statistics ws = getD ws Head.number 0 ∷ getD ws Head.session 0 ∷ getD ws Head.modified 0 ∷ low8 (getD ws Head.type 0) ∷ getD ws Head.root 0 ∷ []
 
 -- class 10
 abbrev pub sidNumbers : List ℕ → List ℕ

@@ -89,6 +89,7 @@ fn statistics_size(words: &[u64]) -> usize
         words[SESSION],
         words[MODIFIED],
         words[KIND] % 256,
+        words[ROOT],
     ];
     number::sizes(&fields)
 }

@@ -101,6 +101,7 @@ fn put_statistics(words: &[u64], out: &mut [u8]) -> usize
         words[SESSION],
         words[MODIFIED],
         words[KIND] % 256,
+        words[ROOT],
     ];
     put_all(&fields, out)
 }

@@ -84,14 +84,14 @@ first-dacls = flat-zeros slotDacl maxDacl free refl tokenSlots
 
 -- and no groups: its row is a head and zeros
 pub tokens-begun : (p : Privileges) {zs bs ws : List ℕ} → zs ≡ replicate (tokenSlots * tokenWords) 0 → bs ≡ replicate (tokenSlots * maxDacl) 0
-    → privilegesOf p ≡ granted existing existing → Headed 1 (primaryOf system 999 16384) (privilegesOf p) 0 (take tokenWords zs) ws
+    → privilegesOf p ≡ granted existing existing → Headed 1 (primaryOf 1 system 999 16384) (privilegesOf p) 0 (take tokenWords zs) ws
     → FirstTokens (ws ++ drop tokenWords zs) bs
 unfolding put-record slotRow startToken
 tokens-begun p {zs} {bs} {ws} hz hb e h = record {
   tokens = record {
     words =
         ap (λ (r : List ℕ). put-record tokenWords 0 r zs)
-        (h .row [] (first-row hz ∙ no-groups) refl ∙ ap (λ (q : privileges.Privileges). tokenRow (newToken 1 (primaryOf system 999 16384) q [])) e)
+        (h .row [] (first-row hz ∙ no-groups) refl ∙ ap (λ (q : privileges.Privileges). tokenRow (newToken 1 (primaryOf 1 system 999 16384) q [])) e)
         ∙ stored-first hz;
     bytes = hb ∙ sym first-dacls;
   };

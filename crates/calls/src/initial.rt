@@ -29,6 +29,7 @@ fn write_tokens(tokens: &mut [u64], dacls: &mut [u8])
         kind: Identity::PRIMARY,
         level: 0,
         integrity: 16384,
+        root: 1,
     };
     let privileges = Privileges::granted(Privileges::EXISTING, Privileges::EXISTING);
     row::set_head(&mut tokens[0..TOKEN_WORDS], 1, identity, privileges, 0);

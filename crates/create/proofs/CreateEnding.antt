@@ -47,7 +47,7 @@ use Rattle.create.specs.Create.{RowMade, RowCreated, CreateCarried}
 
 pub row-made : (n user session integrity present byDefault : ℕ) (s : List ℕ) (at count : ℕ) {a b c : Bool} (g : Groups) (p : Privileges) {ws ws′ : List ℕ}
     → GroupsRead user s at count ws g → a ≡ validIntegrity integrity → b ≡ within byDefault present → c ≡ within present existing
-    → privilegesOf p ≡ granted present byDefault → Headed n (primaryOf user session integrity) (privilegesOf p) (g .count) ws ws′
+    → privilegesOf p ≡ granted present byDefault → Headed n (primaryOf n user session integrity) (privilegesOf p) (g .count) ws ws′
     → RowMade n user session integrity present byDefault s at count ws′ (a && b && c && g .ok)
 unfolding validCreate
 row-made n user session integrity present byDefault s at count {a} {b} {c} g p r ea eb ec ep w = record {
@@ -56,7 +56,7 @@ row-made n user session integrity present byDefault s at count {a} {b} {c} g p r
   made = λ gs later h ok.
       let good = and-r (a && b && c) (g .ok) ok in
       w .row (map entered gs) (r .given gs later h good) (r .counted gs later h good)
-      ∙ ap (λ (q : privileges.Privileges). tokenRow (newToken n (primaryOf user session integrity) q (map entered gs))) ep;
+      ∙ ap (λ (q : privileges.Privileges). tokenRow (newToken n (primaryOf n user session integrity) q (map entered gs))) ep;
 }
 
 -- ---- issued in the state where the used bit is set
@@ -110,7 +110,7 @@ module _ (s user session integrity present byDefault : ℕ) (body : List ℕ) (a
     unfolding create newToken noDefaults
     creates k next c = record {
       carried = λ gs later q.
-          let made : ℕ → rules.Token = λ (j : ℕ). newToken j (primaryOf user session integrity) (granted present byDefault) (map entered gs) in
+          let made : ℕ → rules.Token = λ (j : ℕ). newToken j (primaryOf j user session integrity) (granted present byDefault) (map entered gs) in
           carried-as (λ σ v p.
           holds (held σ s createToken) σ privilegeNotHeld _ (is-held f σ v p)
           ∙ holds (validCreate user integrity present byDefault gs) σ badField _ (ap not (sym (g .valid gs later q)) ∙ k)

@@ -24,7 +24,7 @@ pub record RowMade (n user session integrity present byDefault : ℕ) (s : List 
   pub long : length ws ≡ tokenWords
   pub valid : (gs : List Group) (later : List ℕ) → times count group (drop at s) ≡ got gs later → ok ≡ validCreate user integrity present byDefault gs
   pub made : (gs : List Group) (later : List ℕ) → times count group (drop at s) ≡ got gs later → ok ≡ true
-      → ws ≡ tokenRow (newToken n (primaryOf user session integrity) (granted present byDefault) (map entered gs))
+      → ws ≡ tokenRow (newToken n (primaryOf n user session integrity) (granted present byDefault) (map entered gs))
 
 -- whatever token without a DACL the row is of
 pub record RowCreated (s : ℕ) (ws ts ds : List ℕ) (hs : List Handle) (cs ts′ ds′ cs′ : List ℕ) (r : Outcome) : Type 0 where

@@ -41,6 +41,7 @@ fn make(n: u64, f: CreateFields, s: &[u8], row: &mut [u64]) -> bool
         kind: Identity::PRIMARY,
         level: 0,
         integrity: f.integrity,
+        root: n,
     };
     let granted = Privileges::granted(f.present, f.by_default);
     row::set_head(row, n, identity, granted, read.count);

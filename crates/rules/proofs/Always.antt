@@ -2,7 +2,7 @@
 use Prim.Native.Nat.{ℕ, suc, _+_, _*_, _-_, _≤_, _<_}
 use native.Mathlib.Omega.{arith}
 use mathlib.Core.Path.{_≡_, refl, sym, ap, _∙_, subst}
-use mathlib.Core.Bool.{true, _||_}
+use mathlib.Core.Bool.{Bool, true, false, _||_}
 use mathlib.Core.Logic.{⊎-elim}
 use mathlib.Core.List.{List, [], _∷_, _++_, map}
 use lib.Dec.{eqb, leb, ltb}
@@ -16,7 +16,7 @@ use Rattle.rules.specs.Handle.{Handle}
 use Rattle.rules.specs.Number.{max32, max64}
 use Rattle.rules.specs.Model.{joined, byteAt, step, refused, fedFrom, feed, Step, Result, silent, answers}
 use Rattle.rules.specs.Refusal.{noStation, shortBuffer}
-use Rattle.rules.specs.Run.{returned, after, answered, ofBytes, eventsOf, events, happens, stateOf, told, afterEvents, answersTo, Call, Event, feeds, reconnects, byte, reconnected}
+use Rattle.rules.specs.Run.{returned, after, answered, ofBytes, eventsOf, events, happens, stateOf, told, afterEvents, answersTo, outcomeOf, outcomeAt, outcomes, servedBy, Call, Event, Serving, feeds, reconnects, byte, reconnected, serves}
 use Rattle.rules.specs.State.{stationCount, start, withStations, stationAt, changeStation, numberOf, handleNumber, stationToken, State}
 use Rattle.rules.specs.Station.{startStation, withPending, cleared, brokenOff, Station}
 use Rattle.rules.specs.Token.{Token}
@@ -87,44 +87,83 @@ keeps : (p : State) (s : ℕ) (bytes : List ℕ) → all isByte bytes ≡ true �
 unfolding withPending stationToken streamValid implies isPart
 keeps p s bytes b e f = streams p s (withPending bytes) (λ x. refl) (λ x. and-i (and-i b (ap isPart e)) refl) f
 
+-- a body is served on a valid state, and is a step from it
+pub record Onward (x : Serving) : Type 0 where
+  pub facts : StateFacts (x .before)
+  pub step : Advance (x .before) (servedBy x .state)
+
+onward : (p : State) (s : ℕ) (body : List ℕ) → all isByte body ≡ true → s < stationCount → StateFacts p → Onward (record { before = changeStation s cleared p; station = s; body = body })
+unfolding servedBy
+onward p s body o in8 f = let g = clears p s f .facts in record { facts = g; step = serve-step (changeStation s cleared p) g s in8 body o }
+
 joins : (p : State) (s : ℕ) (bytes : List ℕ) (x : Framed) → framed bytes ≡ x → OfBytes x → all isByte bytes ≡ true → s < stationCount → StateFacts p → Advance p (stateOf (joined p s bytes x))
-unfolding joined stateOf OfBytes
+unfolding joined stateOf OfBytes servedBy
 joins p s bytes part e o b in8 f = keeps p s bytes b e f
 joins p s bytes broken e o b in8 f = breaks p s f
-joins p s bytes (whole body) e o b in8 f =
-    let c = clears p s f in c then serve-step (changeStation s cleared p) (c .facts) s in8 body o
+joins p s bytes (whole body) e o b in8 f = clears p s f then onward p s body o in8 f .step
 
 pending-bytes : (x : Station) → streamValid x ≡ true → all isByte (x .pending) ≡ true
 unfolding streamValid
 pending-bytes x h = search (and-l, and-r)
 
+-- a station's stream with the next byte
+stream-bytes : (p : State) (s b : ℕ) → s < stationCount → isByte b ≡ true → StateFacts p → all isByte (stationAt p s .pending ++ (b ∷ [])) ≡ true
+unfolding all stationAt
+stream-bytes p s b in8 w f =
+    let x = stationAt p s in
+    let ok = f .loose .eachStation x (getD-mem (p .stations) s startStation (rw (f .loose .stations) in8)) in
+    all-append isByte (x .pending) (b ∷ []) (pending-bytes x ok) (and-i w refl)
+
 byte-step : (p : State) (s b : ℕ) → s < stationCount → isByte b ≡ true → StateFacts p → Advance p (stateOf (step p s b))
-unfolding step byteAt stateOf all stationAt
+unfolding step byteAt stateOf
 byte-step p s b in8 w f =
     let x = stationAt p s in
     let bytes = x .pending ++ (b ∷ []) in
-    let ok = f .loose .eachStation x (getD-mem (p .stations) s startStation (rw (f .loose .stations) in8)) in
-    let all-bytes = all-append isByte (x .pending) (b ∷ []) (pending-bytes x ok) (and-i w refl) in
+    let all-bytes = stream-bytes p s b in8 w f in
     on-if (λ (y : Step). Advance p (stateOf y)) (x .isBroken) (silent p) (joined p s bytes (framed bytes)) (λ t. stays f)
     (λ t. joins p s bytes (framed bytes) refl (in-frame bytes all-bytes) all-bytes in8 f)
 
 -- ---- events
 
-unfoldable pub Happens : Event → Type 0
+unfoldable Happens : Event → Type 0
 Happens (byte s b) = (s < stationCount) × (isByte b ≡ true)
 Happens (reconnected s) = Unit {0}
 
-pub event-step : (p : State) (e : Event) → Happens e → StateFacts p → Advance p (stateOf (happens p e))
+event-step : (p : State) (e : Event) → Happens e → StateFacts p → Advance p (stateOf (happens p e))
 unfolding happens Happens stateOf
 event-step p (byte s b) h f = byte-step p s b (h .0) (h .1) f
 event-step p (reconnected s) h f = clears p s f
 
-pub events-step : (es : List Event) (p : State) → ((e : Event) → Mem e es → Happens e) → StateFacts p → Advance p (afterEvents es p)
+events-step : (es : List Event) (p : State) → ((e : Event) → Mem e es → Happens e) → StateFacts p → Advance p (afterEvents es p)
 unfolding afterEvents
 events-step [] p h f = stays f
 events-step (e ∷ es) p h f =
     let a = event-step p e (h e (here refl)) f in
     a then (events-step es (stateOf (happens p e)) (λ x m. h x (there m)) (a .facts))
+
+-- every body that events bring is served on a valid state
+event-serves : (p : State) (e : Event) → Happens e → StateFacts p → (x : Serving) → Mem (serves x) (outcomeAt p e) → Onward x
+unfolding outcomeAt outcomeOf Happens OfBytes
+event-serves p (reconnected s) h f x m = absurd (mem-none m)
+event-serves p (byte s b) h f x m =
+    let bytes = stationAt p s .pending ++ (b ∷ []) in
+    go (stationAt p s .isBroken) (framed bytes) (in-frame bytes (stream-bytes p s b (h .0) (h .1) f)) m
+  where
+    go : (t : Bool) (y : Framed) → OfBytes y → Mem (serves x) (if t then [] else outcomeOf p s y) → Onward x
+    go true y o m = absurd (mem-none m)
+    go false part o m = absurd (mem-none m)
+    go false broken o (here e) = absurd (let z : _≡_ {A = ℕ} 0 1 = cc in omega arith)
+    go false broken o (there m) = absurd (mem-none m)
+    go false (whole body) o (here e) = subst Onward (let q : record { before = changeStation s cleared p; station = s; body = body } ≡ x = cc in q) (onward p s body o (h .0) f)
+    go false (whole body) o (there m) = absurd (mem-none m)
+
+events-serve : (es : List Event) (p : State) → ((e : Event) → Mem e es → Happens e) → StateFacts p → (x : Serving) → Mem (serves x) (outcomes es p) → Onward x
+unfolding outcomes
+events-serve [] p h f x m = absurd (mem-none m)
+events-serve (e ∷ es) p h f x m =
+    ⊎-elim (event-serves p e (h e (here refl)) f x)
+    (events-serve es (stateOf (happens p e)) (λ y k. h y (there k)) (event-step p e (h e (here refl)) f .facts) x)
+    (mem-append (outcomeAt p e) m)
 
 -- ---- calls: only bytes, and only of the stations
 
@@ -150,11 +189,14 @@ call-happens p (reconnects s) w = on-if (λ es. (e : Event) → Mem e es → Hap
     rejoins e (here q) = subst Happens (sym q) tt
     rejoins e (there m) = absurd (mem-none m)
 
-pub run-happens : (cs : List Call) (p : State) → all ofBytes cs ≡ true → (e : Event) → Mem e (events cs p) → Happens e
+run-happens : (cs : List Call) (p : State) → all ofBytes cs ≡ true → (e : Event) → Mem e (events cs p) → Happens e
 unfolding events all
 run-happens [] p w e m = absurd (mem-none m)
 run-happens (c ∷ cs) p w e m =
     ⊎-elim (call-happens p c (and-l (ofBytes c) (all ofBytes cs) w) e) (run-happens cs (returned p c .after) (and-r (ofBytes c) (all ofBytes cs) w) e) (mem-append (eventsOf p c) m)
+
+pub run-serves : (cs : List Call) (p : State) → all ofBytes cs ≡ true → StateFacts p → (x : Serving) → Mem (serves x) (outcomes (events cs p) p) → Onward x
+run-serves cs p w f = events-serve (events cs p) p (run-happens cs p w) f
 
 pub run-step : (cs : List Call) (p : State) → all ofBytes cs ≡ true → StateFacts p → Advance p (after cs p)
 run-step cs p w f = rw (run-end cs p) (events-step (events cs p) p (run-happens cs p w) f)

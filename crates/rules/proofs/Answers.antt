@@ -66,6 +66,10 @@ many w k h (n ∷ ns) f =
     let rest = many w k h ns (λ m i. f m (there i)) in
     simp length-append (omega arith)
 
+five : (a b c d e : ℕ) → a < 2 ^ 64 → b < 2 ^ 64 → c < 2 ^ 64 → d < 2 ^ 64 → e < 2 ^ 64 → length (encodeAll (a ∷ b ∷ c ∷ d ∷ e ∷ [])) ≤ 50
+unfolding encodeAll
+five a b c d e ha hb hc hd he = simp length-append (omega (arith, word a ha, word b hb, word c hc, word d hd, word e he))
+
 four : (a b c d : ℕ) → a < 2 ^ 64 → b < 2 ^ 64 → c < 2 ^ 64 → d < 2 ^ 64 → length (encodeAll (a ∷ b ∷ c ∷ d ∷ [])) ≤ 40
 unfolding encodeAll
 four a b c d ha hb hc hd = simp length-append (omega (arith, word a ha, word b hb, word c hc, word d hd))
@@ -179,8 +183,8 @@ module _ (t : Token) (number : t .number < 2 ^ 64) (f : TokenFacts t) where
       let inside : (w : ℕ) → within w (t .privileges .present) ≡ true → within w existing ≡ true = λ w h. within-trans w _ existing h (s .present) in
       four _ _ _ _ (known _ (s .present)) (known _ (inside _ (s .enabled))) (known _ (inside _ (s .byDefault))) (known _ (s .used))
 
-  of-numbers : length (encodeAll (t .number ∷ t .identity .session ∷ t .modified ∷ t .identity .type ∷ [])) ≤ 40
-  of-numbers = four _ _ _ _ number (numbers .session) (lt64 (t .modified) (f .modified)) (numbers .type)
+  of-numbers : length (encodeAll (t .number ∷ t .identity .session ∷ t .modified ∷ t .identity .type ∷ t .identity .root ∷ [])) ≤ 50
+  of-numbers = five _ _ _ _ _ number (numbers .session) (lt64 (t .modified) (f .modified)) (numbers .type) (omega (arith, leb-true (t .identity .root) (t .number) (f .root)))
 
   of-dacl : length (encode (length (t .defaults .dacl)) ++ t .defaults .dacl) ≤ 266
   unfolding defaultsValid

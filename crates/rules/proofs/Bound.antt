@@ -21,18 +21,18 @@ use Rattle.rules.proofs.Steps.{Is, is-live}
 use Rattle.rules.proofs.Always.{run-step, lasts, handle-kept}
 
 -- a handle that is found is live, and has the number
-record Here (d : State) (s n : ℕ) (h : Handle) : Type 0 where
-  was : Mem h (lives (d .handles .slots))
-  is : isHandle s n h ≡ true
-  number : h .number ≡ n
+pub record Here (d : State) (s n : ℕ) (h : Handle) : Type 0 where
+  pub was : Mem h (lives (d .handles .slots))
+  pub is : isHandle s n h ≡ true
+  pub number : h .number ≡ n
 
-found-here : (d : State) (s n : ℕ) (h : Handle) → findHandle d s n ≡ live h → Here d s n h
+pub found-here : (d : State) (s n : ℕ) (h : Handle) → findHandle d s n ≡ live h → Here d s n h
 unfolding findHandle isHandle
 found-here d s n h e =
     let r = found-in (isHandle s n) (d .handles .slots) e in
     record { was = r .0; is = r .1; number = eqb-true (h .number) n (and-l (eqb (h .number) n) (eqb (h .station) s) (r .1)) }
 
-token-here : (d : State) (h : Handle) → StateFacts d → Mem h (lives (d .handles .slots)) → Is d (h .token)
+pub token-here : (d : State) (h : Handle) → StateFacts d → Mem h (lives (d .handles .slots)) → Is d (h .token)
 unfolding handleToken
 token-here d h f m = is-live d (h .token) (f .loose .live (h .token) (by-handle d (map-mem handleToken m)))
 

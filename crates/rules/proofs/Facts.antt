@@ -35,6 +35,7 @@ pub record TokenFacts (t : Token) : Type 0 where
   pub modified : is64 (t .modified) ≡ true
   pub elevation : between 1 3 (t .elevation) ≡ true
   pub scope : is32 (t .scope) ≡ true
+  pub root : leb (t .identity .root) (t .number) ≡ true
   pub identity : identityValid (t .identity) ≡ true
   pub privileges : privilegesValid (t .privileges) ≡ true
   pub groups : groupsValid (t .groups) ≡ true
@@ -43,12 +44,12 @@ pub record TokenFacts (t : Token) : Type 0 where
 
 pub token-facts : (t : Token) → tokenValid t ≡ true → TokenFacts t
 unfolding tokenValid
-token-facts t h = search (and-l, and-r) depth 8
+token-facts t h = search (and-l, and-r) depth 9
 
 pub facts-token : (t : Token) → TokenFacts t → tokenValid t ≡ true
 unfolding tokenValid
 facts-token t f =
-    and-i (and-i (and-i (and-i (and-i (and-i (and-i (f .modified) (f .elevation)) (f .scope)) (f .identity)) (f .privileges)) (f .groups)) (f .limits)) (f .defaults)
+    and-i (and-i (and-i (and-i (and-i (and-i (and-i (and-i (f .modified) (f .elevation)) (f .scope)) (f .root)) (f .identity)) (f .privileges)) (f .groups)) (f .limits)) (f .defaults)
 
 -- ---- a table
 

@@ -1,12 +1,12 @@
 -- Every rule keeps a state valid, and what lasts of its tokens. Assumes nothing.
-use Prim.Native.Nat.{ℕ, _+_, _^_, _<_}
+use Prim.Native.Nat.{ℕ, _+_, _^_, _<_, _≤_}
 use native.Mathlib.Omega.{arith}
 use mathlib.Core.Path.{_≡_, refl, sym, ap, _∙_, subst}
 use mathlib.Core.Bool.{true}
 use mathlib.Core.List.{List, map}
 use lib.Dec.{leb, ltb}
 use lib.ListN.{length, length-map}
-use borrow.Author.Tests.{eqb-true, lt-ltb, ltb-true}
+use borrow.Author.Tests.{eqb-true, lt-ltb, ltb-true, le-leb}
 use Rattle.rules.specs.AdjustDefaults as AdjustDefaults
 use Rattle.rules.specs.AdjustGroups as AdjustGroups
 use Rattle.rules.specs.AdjustPrivileges as AdjustPrivileges
@@ -42,7 +42,7 @@ use Rattle.rules.proofs.Changes.{numbersOf, put-numbers, put-room}
 use Rattle.rules.proofs.Widths.{Got, sid32, Fits, parsed}
 use Rattle.rules.proofs.GroupsKept.{all-entered}
 use Rattle.rules.proofs.TokensKept.{After, used-after, privileges-after, groups-after, scope-after, defaults-after, new-facts, duplicated-made, restricted-made}
-use Rattle.rules.proofs.Steps.{Advance, stays, _then_, Is, token-ok, is-live, is-caller, change, open-step, issue-step, close-step, token-step, Keeps, Found, on-handle, finished}
+use Rattle.rules.proofs.Steps.{Advance, stays, _then_, Is, token-ok, is-live, is-caller, change, open-step, issue-step, close-step, token-step, Ends, Keeps, ended, Found, on-handle}
 
 -- ---- the token of a number, over a step
 
@@ -61,6 +61,10 @@ same-identity d e n f st i j =
     let b = st .later .old (tokenOf e n) (j .was) (let q = j .number in omega arith) in
     b .follows .identity
     ∙ ap (λ (t : Token). t .identity) (only-one numberOf (d .tokens .slots) (f .loose .tokens .apart) (b .was) (i .was) (sym (b .follows .number) ∙ j .number ∙ sym (i .number)))
+
+-- a live token's number is below the next one
+older : (d : State) (n : ℕ) → StateFacts d → Is d n → tokenOf d n .number ≤ d .tokens .next
+older d n f i = let below = f .loose .tokens .given n (is-number d n i) .1 in let q = i .number in omega arith
 
 next-64 : (d : State) → canIssue d ≡ true → is64 (d .tokens .next) ≡ true
 unfolding canIssue canAddToken canAdd is64
@@ -102,7 +106,7 @@ marks d s t f in8 =
 -- ---- what request 3 makes
 
 created : (n user session integrity present byDefault : ℕ) (gs : List Group) → is64 n ≡ true → is32 user ≡ true → is64 session ≡ true → all sid32 gs ≡ true → Create.validCreate user integrity present byDefault gs ≡ true
-    → TokenFacts (newToken n (primaryOf user session integrity) (granted present byDefault) (map Create.entered gs))
+    → TokenFacts (newToken n (primaryOf n user session integrity) (granted present byDefault) (map Create.entered gs))
 unfolding Create.validCreate primaryOf granted identityValid privilegesValid groupsValid between implies
 created n user session integrity present byDefault gs w wu ws wg ok =
     let level : Create.validIntegrity integrity ≡ true = search (and-l, and-r) in
@@ -110,7 +114,7 @@ created n user session integrity present byDefault gs w wu ws wg ok =
     let known : within present existing ≡ true = search (and-l, and-r) in
     let few : leb (length gs) maxGroups ≡ true = search (and-l, and-r) in
     let each : all (Create.validPair user) gs ≡ true = search (and-l, and-r) in
-    new-facts n (primaryOf user session integrity) (granted present byDefault) (map Create.entered gs) w
+    new-facts n (primaryOf n user session integrity) (granted present byDefault) (map Create.entered gs) (le-leb n n (omega arith)) w
     (and-i (and-i (and-i (and-i (and-i wu ws) level) refl) refl) refl)
     (and-i (and-i (and-i inside inside) known) (none-within existing))
     (and-i (ap (λ (k : ℕ). leb k maxGroups) (length-map gs Create.entered) ∙ few) (all-entered user gs each wg))
@@ -122,40 +126,40 @@ module _ (d : State) (f : StateFacts d) (s : ℕ) (in8 : s < stationCount) where
   adjust h g k a = change d (h .token) g f (k .token) (a .facts) (a .follows)
 
   opens : (mask : ℕ) → Keeps d (OpenClose.openOwn d s mask)
-  unfolding OpenClose.openOwn Keeps
+  unfolding OpenClose.openOwn Ends
   opens mask m room = open-step d s (callerNumber d s) mask f in8 m room (is-caller d s f in8)
 
   closes : (n : ℕ) → Keeps d (OpenClose.close d s n)
-  unfolding OpenClose.close Keeps
+  unfolding OpenClose.close Ends
   closes n known = close-step d s n f
 
   queries : (n class capacity : ℕ) → Keeps d (Query.query d s n class capacity)
-  unfolding Query.query Keeps
+  unfolding Query.query Ends
   queries n class capacity = on-handle d s n _ _ f λ k ok fits. stays f
 
   adjusts-privileges : (n : ℕ) (es : List Entry) → Keeps d (AdjustPrivileges.adjust d s n es)
-  unfolding AdjustPrivileges.adjust Keeps
+  unfolding AdjustPrivileges.adjust Ends
   adjusts-privileges n es =
       on-handle d s n _ _ f λ k ok.
       let h = handleOf d s n in
       adjust h (AdjustPrivileges.adjustedToken es) k (privileges-after (tokenOf d (h .token)) es ok (token-ok d (h .token) f (k .token)))
 
   adjusts-groups : (n : ℕ) (es : List Entry) → Keeps d (AdjustGroups.adjust d s n es)
-  unfolding AdjustGroups.adjust Keeps
+  unfolding AdjustGroups.adjust Ends
   adjusts-groups n es =
       on-handle d s n _ _ f λ k ok may.
       let h = handleOf d s n in
       adjust h (AdjustGroups.adjustedToken es) k (groups-after (tokenOf d (h .token)) es may (token-ok d (h .token) f (k .token)))
 
   defaults : (n owner group flag : ℕ) (bytes : List ℕ) → all isByte bytes ≡ true → Keeps d (AdjustDefaults.adjust d s n owner group flag bytes)
-  unfolding AdjustDefaults.adjust Keeps
+  unfolding AdjustDefaults.adjust Ends
   defaults n owner group flag bytes b =
       on-handle d s n _ _ f λ k ok.
       let h = handleOf d s n in
       adjust h (AdjustDefaults.adjustedToken owner group flag bytes) k (defaults-after (tokenOf d (h .token)) owner group flag bytes ok b (token-ok d (h .token) f (k .token)))
 
   scopes : (n v : ℕ) → is32 v ≡ true → Keeps d (AdjustScope.scope d s n v)
-  unfolding AdjustScope.scope Keeps has
+  unfolding AdjustScope.scope Ends has
   scopes n v w =
       on-handle d s n _ _ f λ k ok.
       let h = handleOf d s n in
@@ -170,13 +174,13 @@ module _ (d : State) (f : StateFacts d) (s : ℕ) (in8 : s < stationCount) where
   duplicate-ok h t type level mask ok = search (and-l, and-r)
 
   duplicates : (n type level mask : ℕ) → Keeps d (Duplicate.duplicate d s n type level mask)
-  unfolding Duplicate.duplicate issued Keeps
+  unfolding Duplicate.duplicate issued Ends
   duplicates n type level mask =
       on-handle d s n _ _ f λ k ok room.
       let h = handleOf d s n in
       let t = tokenOf d (h .token) in
       let r = duplicate-ok h t type level mask ok in
-      let u = duplicated-made t (d .tokens .next) type level (next-64 d room) (r .0) (token-ok d (h .token) f (k .token)) in
+      let u = duplicated-made t (d .tokens .next) type level (older d (h .token) f (k .token)) (next-64 d room) (r .0) (token-ok d (h .token) f (k .token)) in
       issue-step d s mask (Duplicate.duplicated (d .tokens .next) type level t) f in8 (r .1) room (u .number) (u .facts)
 
   mask-ok : (h : Handle) → Found d h → validMask (h .mask) ≡ true
@@ -184,28 +188,28 @@ module _ (d : State) (f : StateFacts d) (s : ℕ) (in8 : s < stationCount) where
   mask-ok h k = and-r (ltb (h .station) stationCount) _ (f .loose .eachHandle h (k .was))
 
   restricts : (n mark removed : ℕ) (deny sids : List ℕ) → all is32 sids ≡ true → Keeps d (Restrict.restrict d s n mark removed deny sids)
-  unfolding Restrict.restrict issued Keeps
+  unfolding Restrict.restrict issued Ends
   restricts n mark removed deny sids w =
       on-handle d s n _ _ f λ k ok fits.
       let h = handleOf d s n in
       let t = tokenOf d (h .token) in
       let few = leb (length (Restrict.restrictingTo sids (t .limits .restricting))) maxRestricting in
       let room = and-r few (canIssue d) fits in
-      let u = restricted-made t (d .tokens .next) mark removed deny sids (next-64 d room) (and-l few (canIssue d) fits) w (token-ok d (h .token) f (k .token)) in
+      let u = restricted-made t (d .tokens .next) mark removed deny sids (older d (h .token) f (k .token)) (next-64 d room) (and-l few (canIssue d) fits) w (token-ok d (h .token) f (k .token)) in
       issue-step d s (h .mask) (Restrict.restricted (d .tokens .next) mark removed deny sids t) f in8 (mask-ok h k) room (u .number) (u .facts)
 
   creates : (user session integrity present byDefault : ℕ) (gs : List Group) → is32 user ≡ true → is64 session ≡ true → all sid32 gs ≡ true → Keeps d (Create.create d s user session integrity present byDefault gs)
-  unfolding Create.create issued Keeps has validMask within newToken
+  unfolding Create.create issued Ends has validMask within newToken
   creates user session integrity present byDefault gs wu ws wg =
       λ may ok room.
       let e = used createToken s d in
       let m : Marked d e = mark d s createToken f in8 refl in
       let n = d .tokens .next in
-      m .step then issue-step e s allRights (newToken n (primaryOf user session integrity) (granted present byDefault) (map Create.entered gs)) (m .step .facts) in8 refl (marked-room d s createToken room) (sym (marked-next d s createToken))
+      m .step then issue-step e s allRights (newToken n (primaryOf n user session integrity) (granted present byDefault) (map Create.entered gs)) (m .step .facts) in8 refl (marked-room d s createToken room) (sym (marked-next d s createToken))
       (created n user session integrity present byDefault gs (next-64 d room) wu ws wg ok)
 
   installs : (n : ℕ) → Keeps d (Install.install d s n)
-  unfolding Install.install Keeps
+  unfolding Install.install Ends
   installs n =
       on-handle d s n _ _ f λ k may ok match.
       let h = handleOf d s n in
@@ -231,10 +235,10 @@ module _ (d : State) (f : StateFacts d) (s : ℕ) (in8 : s < stationCount) where
   by-rule (Request.install n) w = installs n
 
   by-read : (r : Read Request) → Got Fits r → Keeps d (decided d s r)
-  unfolding decided Keeps Got
+  unfolding decided Ends Got
   by-read bad w = λ h. absurd (not-both h refl)
   by-read (got r rest) w = by-rule r (w .0)
 
   pub serve-step : (body : List ℕ) → all isByte body ≡ true → Advance d (serve d s body .state)
   unfolding serve decision
-  serve-step body b = finished d (decision d s body) f (by-read (parse body) (parsed body b))
+  serve-step body b = ended (Advance d) d (decision d s body) (stays f) (by-read (parse body) (parsed body b))

@@ -22,6 +22,7 @@ pub mod Sources
 pub mod Released
 pub mod Bound
 pub mod Served
+pub mod Roots
 pub mod Throughout
 pub mod Same
 pub mod Rows

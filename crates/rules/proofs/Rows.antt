@@ -122,6 +122,7 @@ identity-back t h =
       type = cut 256 2 (omega arith) (leb-true (x .type) 2 (search (and-l, and-r))) i;
       level = cut 256 3 (omega arith) (leb-true (x .level) 3 (search (and-l, and-r))) i;
       integrity = cut32 (x .integrity) (integrity32 (x .integrity) (search (and-l, and-r))) i;
+      root = x .root;
     }
 
 groups-back : (t : Token) → groupsValid (t .groups) ≡ true → groupsAt (tokenRow t) ≡ t .groups

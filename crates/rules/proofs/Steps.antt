@@ -105,11 +105,21 @@ token-step d s t f m p =
       handles = handles-refl (d .handles);
     }
 
--- ---- how a request is decided: where its checks pass, its effect is a step
+-- ---- how a request is decided
 
-unfoldable pub Keeps : State → Decision → Type 0
-Keeps d (need_else_then_ b r rest) = b ≡ true → Keeps d rest
-Keeps d (success e bytes) = Advance d e
+-- the state that the effect leads to, where the checks pass, has the property
+unfoldable pub Ends : (State → Type 0) → Decision → Type 0
+Ends P (need_else_then_ b r rest) = b ≡ true → Ends P rest
+Ends P (success e bytes) = P e
+
+pub ended : (P : State → Type 0) (d : State) (x : Decision) → P d → Ends P x → P (carriedOut d x .state)
+unfolding carriedOut Ends
+ended P d (need_else_then_ true r rest) p k = ended P d rest p (k refl)
+ended P d (need_else_then_ false r rest) p k = p
+ended P d (success e bytes) p k = k
+
+abbrev pub Keeps : State → Decision → Type 0
+Keeps d = Ends (Advance d)
 
 -- a handle that is found, and its token
 pub record Found (d : State) (h : Handle) : Type 0 where
@@ -124,11 +134,5 @@ found-handle d s n f known =
 
 pub on-handle : (d : State) (s n right : ℕ) (go : Handle → Token → Decision) → StateFacts d
     → (Found d (handleOf d s n) → Keeps d (go (handleOf d s n) (tokenOf d (handleOf d s n .token)))) → Keeps d (withHandle d s n right go)
-unfolding withHandle Keeps
+unfolding withHandle Ends
 on-handle d s n right go f k known permitted = k (found-handle d s n f known)
-
-pub finished : (d : State) (x : Decision) → StateFacts d → Keeps d x → Advance d (carriedOut d x .state)
-unfolding carriedOut Keeps
-finished d (need_else_then_ true r rest) f k = finished d rest f (k refl)
-finished d (need_else_then_ false r rest) f k = stays f
-finished d (success e bytes) f k = k

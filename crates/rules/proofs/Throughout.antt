@@ -18,6 +18,7 @@ use Rattle.rules.proofs.Bound.{bound, closed}
 use Rattle.rules.proofs.Ladder.{ladder}
 use Rattle.rules.proofs.Sources.{no-more}
 use Rattle.rules.proofs.Served.{answers-served, one-by-one}
+use Rattle.rules.proofs.Roots.{creations, roots}
 
 after-append : (cs ds : List Call) (σ : State) → after (cs ++ ds) σ ≡ after ds (after cs σ)
 unfolding after
@@ -30,12 +31,13 @@ throughout σ v cs w =
     let f = valid-facts σ v in
     let τ = after cs σ in
     let g = run-step cs σ w f .facts in
+    let ordered : OneByOne σ (outcomes (events cs σ) σ) τ = subst (OneByOne σ (outcomes (events cs σ) σ)) (sym (run-end cs σ)) (one-by-one (events cs σ) σ) in
     record {
       end = run-end cs σ;
       answers = run-answers cs σ;
       atTheirBytes = run-timed 0 cs σ;
       served = run-timed 0 cs σ ∙ answers-served 0 (events cs σ) σ;
-      oneByOne = subst (OneByOne σ (outcomes (events cs σ) σ)) (sym (run-end cs σ)) (one-by-one (events cs σ) σ);
+      oneByOne = ordered;
       ladder = λ x m. ladder (x .before) (x .station) (x .body);
       alike = λ ds e. cutting ds cs σ e;
       usedUp = λ s a bufferLength h k. used-up (length a) τ s a bufferLength h k (le-refl _);
@@ -52,5 +54,7 @@ throughout σ v cs w =
       enabled = enabled-present τ g;
       byDefault = default-present τ g;
       copies = no-more cs σ w f;
+      creations = creations cs σ w f;
+      roots = roots cs σ w f ordered;
       fit = all-fit cs σ w f;
     }

@@ -1,5 +1,5 @@
 -- Valid tokens, and what lasts of them, for each change that a request makes to a token and each new token. Assumes nothing.
-use Prim.Native.Nat.{ℕ, _+_, _%_, _^_}
+use Prim.Native.Nat.{ℕ, _+_, _%_, _^_, _≤_}
 use native.Mathlib.Nat.{mod-lt}
 use native.Mathlib.Omega.{arith}
 use mathlib.Core.Path.{_≡_, refl, ap, _∙_}
@@ -8,7 +8,7 @@ use mathlib.Core.Logic.{⊎-elim}
 use mathlib.Core.List.{List, []}
 use lib.Dec.{eqb, leb}
 use lib.ListN.{length}
-use borrow.Author.Tests.{eqb-true, lt-ltb, le-leb}
+use borrow.Author.Tests.{eqb-true, lt-ltb, le-leb, leb-true}
 use Rattle.rules.specs.AdjustDefaults as AdjustDefaults
 use Rattle.rules.specs.AdjustDefaults.{noChange, validOwner, validGroup, validDacl, validDefaults, orKept}
 use Rattle.rules.specs.AdjustGroups as AdjustGroups
@@ -146,30 +146,35 @@ retyped-ok i type level b l m h =
     let integrity : validIntegrity (i .integrity) ≡ true = search (and-l, and-r) in
     and-i (and-i (and-i (and-i (and-i user session) integrity) b) l) m
 
-copied-made : (t : Token) (n type level : ℕ) → is64 n ≡ true → between primary impersonation type ≡ true → leb level 3 ≡ true → implies (eqb type primary) (eqb level 0) ≡ true → TokenFacts t → Made n t (copied n type level t)
-unfolding copied between
-copied-made t n type level w b l m f =
+-- a copy's number is above its source's, and so above its root
+root-ok : (t : Token) (n : ℕ) → t .number ≤ n → TokenFacts t → leb (t .identity .root) n ≡ true
+root-ok t n h f = le-leb (t .identity .root) n (omega (arith, leb-true (t .identity .root) (t .number) (f .root)))
+
+copied-made : (t : Token) (n type level : ℕ) → t .number ≤ n → is64 n ≡ true → between primary impersonation type ≡ true → leb level 3 ≡ true → implies (eqb type primary) (eqb level 0) ≡ true → TokenFacts t → Made n t (copied n type level t)
+unfolding copied between retyped
+copied-made t n type level o w b l m f =
+    let root = root-ok t n o f in
     let new = retyped-ok (t .identity) type level b l m (f .identity) in record { number = refl; facts = search; present = within-refl _ }
 
 no-defaults : (gs : List Group) → defaultsValid gs noDefaults ≡ true
 unfolding defaultsValid noDefaults validOwner validGroup all
 no-defaults gs = and-i (and-i (and-i refl (le-leb 0 (length gs) (omega arith))) refl) refl
 
-pub new-facts : (n : ℕ) (i : Identity) (p : Privileges) (gs : List Group) → is64 n ≡ true → identityValid i ≡ true → privilegesValid p ≡ true → groupsValid gs ≡ true → TokenFacts (newToken n i p gs)
+pub new-facts : (n : ℕ) (i : Identity) (p : Privileges) (gs : List Group) → leb (i .root) n ≡ true → is64 n ≡ true → identityValid i ≡ true → privilegesValid p ≡ true → groupsValid gs ≡ true → TokenFacts (newToken n i p gs)
 unfolding newToken between is32 limitsValid noLimits all
-new-facts n i p gs w hi hp hg = let none = no-defaults gs in search
+new-facts n i p gs r w hi hp hg = let none = no-defaults gs in search
 
 stripped-made : (t : Token) (n : ℕ) → is64 n ≡ true → TokenFacts t → Made n t (anonymousCopy n t)
 unfolding anonymousCopy newToken nobody identityValid is32 is64 validIntegrity member between implies groupsValid all
 stripped-made t n w f =
     let k = P.emptied (t .privileges) (sound _ (f .privileges)) in
-    record { number = refl; facts = new-facts n nobody (onlyUsed (t .privileges)) [] w refl (order _ (k .sound)) refl; present = k .present }
+    record { number = refl; facts = new-facts n nobody (onlyUsed (t .privileges)) [] (le-leb 0 n (omega arith)) w refl (order _ (k .sound)) refl; present = k .present }
 
-pub duplicated-made : (t : Token) (n type level : ℕ) → is64 n ≡ true → leb level 3 ≡ true → TokenFacts t → Made n t (duplicated n type level t)
+pub duplicated-made : (t : Token) (n type level : ℕ) → t .number ≤ n → is64 n ≡ true → leb level 3 ≡ true → TokenFacts t → Made n t (duplicated n type level t)
 unfolding duplicated between implies
-duplicated-made t n type level w l f =
-    on-if (Made n t) (eqb type primary) _ _ (λ p. copied-made t n primary 0 w refl refl refl f)
-    (λ p. on-if (Made n t) (eqb level 0) _ _ (λ z. stripped-made t n w f) (λ z. copied-made t n impersonation level w refl l refl f))
+duplicated-made t n type level o w l f =
+    on-if (Made n t) (eqb type primary) _ _ (λ p. copied-made t n primary 0 o w refl refl refl f)
+    (λ p. on-if (Made n t) (eqb level 0) _ _ (λ z. stripped-made t n w f) (λ z. copied-made t n impersonation level o w refl l refl f))
 
 limited-ok : (mark : ℕ) (sids : List ℕ) (x : Limits) → leb (length (restrictingTo sids (x .restricting))) maxRestricting ≡ true → all is32 sids ≡ true → limitsValid x ≡ true
     → limitsValid (limited mark sids x) ≡ true
@@ -178,9 +183,10 @@ limited-ok mark sids x h w k =
     let own = and-r (leb (length (x .restricting)) maxRestricting) _ k in
     and-i h (mem-all is32 _ (λ n m. ⊎-elim (all-mem is32 sids w) (all-mem is32 (x .restricting) own) (from-either sids (x .restricting) m)))
 
-pub restricted-made : (t : Token) (n mark removed : ℕ) (deny sids : List ℕ) → is64 n ≡ true → leb (length (restrictingTo sids (t .limits .restricting))) maxRestricting ≡ true → all is32 sids ≡ true → TokenFacts t → Made n t (restricted n mark removed deny sids t)
+pub restricted-made : (t : Token) (n mark removed : ℕ) (deny sids : List ℕ) → t .number ≤ n → is64 n ≡ true → leb (length (restrictingTo sids (t .limits .restricting))) maxRestricting ≡ true → all is32 sids ≡ true → TokenFacts t → Made n t (restricted n mark removed deny sids t)
 unfolding restricted between
-restricted-made t n mark removed deny sids w l s f =
+restricted-made t n mark removed deny sids o w l s f =
+    let root = root-ok t n o f in
     let k = P.removed removed (t .privileges) (sound _ (f .privileges)) in
     let g = G.all-denied deny (t .groups) (each-group (t .groups) (f .groups)) in
     let fewer = order _ (k .sound) in

@@ -47,5 +47,5 @@ create σ s user session integrity present byDefault gs =
     need validCreate user integrity present byDefault gs else badField then
     need canIssue σ else tableFull then
     issued s allRights
-    (newToken (σ .tokens .next) (primaryOf user session integrity) (granted present byDefault) (map entered gs))
+    (newToken (σ .tokens .next) (primaryOf (σ .tokens .next) user session integrity) (granted present byDefault) (map entered gs))
     (used createToken s σ)

@@ -4,17 +4,19 @@ use mathlib.Core.Path.{_≡_}
 use mathlib.Core.Bool.{Bool, true, false}
 use mathlib.Core.List.{List, _∷_, map}
 use lib.ListN.{getD}
+use Rattle.rules.specs.Basic.{if_then_else_}
 use Rattle.rules.specs.Number.{Read, got, bad}
 use Rattle.rules.specs.Bits.{within}
 use Rattle.rules.specs.Group.{Group, noGroup, isDenyOnly}
-use Rattle.rules.specs.Token.{Token, isRestricted}
+use Rattle.rules.specs.Token.{Token, noRoot, isRestricted}
 use Rattle.rules.specs.Table.{Slot, free, live, Table, lives}
 use Rattle.rules.specs.Handle.{Handle}
 use Rattle.rules.specs.State.{State, tokenOf, findHandle}
 use Rattle.rules.specs.Request.{Request, parse}
-use Rattle.rules.specs.Duplicate.{isAnonymous}
+use Rattle.rules.specs.Duplicate as Duplicate
 use Rattle.rules.specs.Serve.{serve}
-use Rattle.rules.specs.Run.{Serving}
+use Rattle.rules.specs.Ladder.{status}
+use Rattle.rules.specs.Run.{Serving, Outcome, serves, servedBy}
 
 -- a is in the list
 pub data Mem {A : Type 0} (a : A) : List A → Type 0 where
@@ -35,6 +37,7 @@ LiveHandle h σ = Mem h (lives (σ .handles .slots))
 -- u can be the token t at a later time
 pub record Follows (t u : Token) : Type 0 where
   pub number : u .number ≡ t .number
+  -- user, session, type, level, integrity and root
   pub identity : u .identity ≡ t .identity
   -- present privileges don't grow, used marks stay
   pub present : within (u .privileges .present) (t .privileges .present) ≡ true
@@ -72,12 +75,12 @@ pub record StillHandle (σ τ : State) (s n : ℕ) (h : Handle) : Type 0 where
 pub record Source : Type 0 where
   pub token : Token
   -- the copy is anonymous
-  pub stripped : Bool
+  pub isAnonymous : Bool
 
 -- the token of a handle
 unfoldable pub sourceAt : State → Bool → Slot Handle → Slot Source
-sourceAt σ stripped free = free
-sourceAt σ stripped (live h) = live (record { token = tokenOf σ h.token; stripped = stripped })
+sourceAt σ b free = free
+sourceAt σ b (live h) = live (record { token = tokenOf σ h.token; isAnonymous = b })
 
 unfoldable pub sourceOf : State → ℕ → Read Request → Slot Source
 sourceOf σ s bad = free
@@ -89,17 +92,19 @@ sourceOf σ s (got (Request.privileges n es) bytes) = free
 sourceOf σ s (got (Request.groups n es) bytes) = free
 sourceOf σ s (got (Request.scope n v) bytes) = free
 sourceOf σ s (got (Request.defaults n owner group flag dacl) bytes) = free
-sourceOf σ s (got (Request.duplicate n type level mask) bytes) = sourceAt σ (isAnonymous type level) (findHandle σ s n)
+sourceOf σ s (got (Request.duplicate n type level mask) bytes) = sourceAt σ (Duplicate.isAnonymous type level) (findHandle σ s n)
 sourceOf σ s (got (Request.restrict n mark removed deny sids) bytes) = sourceAt σ false (findHandle σ s n)
 sourceOf σ s (got (Request.install n) bytes) = free
 
--- u, just made, has no more than its source
-pub record NoMore (x : Source) (u : Token) : Type 0 where
+-- u, just made, and its source: it has no more, and the source's root
+pub record FromSource (x : Source) (u : Token) : Type 0 where
   pub present : within (u .privileges .present) (x .token .privileges .present) ≡ true
   -- a restricted token's copy is restricted, unless it is anonymous, and its list has nothing that the source's lacked
-  pub restricted : x .stripped ≡ false → isRestricted (x .token) ≡ true → isRestricted u ≡ true
-  pub restricting : x .stripped ≡ false → isRestricted (x .token) ≡ true
+  pub restricted : x .isAnonymous ≡ false → isRestricted (x .token) ≡ true → isRestricted u ≡ true
+  pub restricting : x .isAnonymous ≡ false → isRestricted (x .token) ≡ true
       → (n : ℕ) → Mem n (u .limits .restricting) → Mem n (x .token .limits .restricting)
+  -- it has the source's root, or none where it is anonymous
+  pub root : u .identity .root ≡ (if x .isAnonymous then noRoot else x .token .identity .root)
 
 -- of a body that is served: a token that it makes from another
 unfoldable pub Copying : Serving → Type 0
@@ -108,4 +113,36 @@ Copying x =
     → sourceOf (x .before) (x .station) (parse (x .body)) ≡ live t
     → Mem u (lives (serve (x .before) (x .station) (x .body) .state .tokens .slots))
     → x .before .tokens .next ≤ u .number
-    → NoMore t u
+    → FromSource t u
+
+-- ---- where a root comes from
+
+-- the request makes a token that is its own root
+unfoldable pub makesRoot : Read Request → Bool
+makesRoot bad = false
+makesRoot (got (Request.openOwn mask) bytes) = false
+makesRoot (got (Request.close n) bytes) = false
+makesRoot (got (Request.create user session integrity present byDefault gs) bytes) = true
+makesRoot (got (Request.query n class capacity) bytes) = false
+makesRoot (got (Request.privileges n es) bytes) = false
+makesRoot (got (Request.groups n es) bytes) = false
+makesRoot (got (Request.scope n v) bytes) = false
+makesRoot (got (Request.defaults n owner group flag dacl) bytes) = false
+makesRoot (got (Request.duplicate n type level mask) bytes) = false
+makesRoot (got (Request.restrict n mark removed deny sids) bytes) = false
+makesRoot (got (Request.install n) bytes) = false
+
+-- of a body that is served: a token that it makes of none is its own root
+unfoldable pub Creating : Serving → Type 0
+Creating x =
+    (u : Token)
+    → makesRoot (parse (x .body)) ≡ true
+    → Live u (servedBy x .state)
+    → x .before .tokens .next ≤ u .number
+    → u .identity .root ≡ u .number
+
+-- the root n of a token, after what xs serves from σ on: 0, or the root of a token that was there, or the number that was given to a created one
+pub data Rooted (σ : State) (xs : List Outcome) (n : ℕ) : Type 0 where
+  none : n ≡ noRoot → Rooted σ xs n
+  old : (t : Token) → Live t σ → t .identity .root ≡ n → Rooted σ xs n
+  created : (x : Serving) → Mem (serves x) xs → makesRoot (parse (x .body)) ≡ true → status (servedBy x) ≡ 0 → x .before .tokens .next ≡ n → Rooted σ xs n

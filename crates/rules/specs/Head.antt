@@ -60,3 +60,6 @@ restrictingCount = 18
 
 abbrev pub daclLength : ℕ
 daclLength = 19
+
+abbrev pub root : ℕ
+root = 20

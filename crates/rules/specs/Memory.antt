@@ -33,7 +33,7 @@ pub record Memory : Type 0 where
 
 -- a token's row: its scalars and counts, then its groups, then its restricting SIDs
 abbrev pub headWords : ℕ
-headWords = 20
+headWords = 21
 
 abbrev pub tokenWords : ℕ
 tokenWords = headWords + maxGroups + maxRestricting
@@ -134,7 +134,7 @@ head t =
     ∷ mark (t .limits .writeRestricted) ∷ mark (t .limits .userDenyOnly)
     ∷ t .defaults .owner ∷ t .defaults .primaryGroup ∷ t.scope ∷ t .identity .integrity
     ∷ t .privileges .present ∷ t .privileges .enabled ∷ t .privileges .byDefault ∷ t .privileges .used
-    ∷ length t.groups ∷ length (t .limits .restricting) ∷ length (t .defaults .dacl) ∷ []
+    ∷ length t.groups ∷ length (t .limits .restricting) ∷ length (t .defaults .dacl) ∷ t .identity .root ∷ []
 
 unfoldable pub tokenRow : Token → List ℕ
 tokenRow t = head t ++ (pad maxGroups (map pack t.groups) ++ pad maxRestricting (t .limits .restricting))
@@ -190,6 +190,7 @@ identityAt ws =
       type = low8 (getD ws Head.type 0);
       level = low8 (getD ws Head.level 0);
       integrity = low32 (getD ws Head.integrity 0);
+      root = getD ws Head.root 0;
     }
 
 unfoldable pub privilegesAt : List ℕ → Privileges

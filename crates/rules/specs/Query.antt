@@ -31,7 +31,7 @@ classes t =
     ∷ (encode (length (t .defaults .dacl)) ++ t .defaults .dacl)
     ∷ encode (t .identity .type)
     ∷ encode (t .identity .level)
-    ∷ encodeAll (t.number ∷ t .identity .session ∷ t.modified ∷ t .identity .type ∷ [])
+    ∷ encodeAll (t.number ∷ t .identity .session ∷ t.modified ∷ t .identity .type ∷ t .identity .root ∷ [])
     ∷ encodeAll (length (t .limits .restricting) ∷ t .limits .restricting)
     ∷ encode t.scope
     ∷ encode t.elevation

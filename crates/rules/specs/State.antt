@@ -64,7 +64,7 @@ unfoldable pub isNumbered : ℕ → Token → Bool
 isNumbered n t = eqb t.number n
 
 unfoldable pub noToken : Token
-noToken = newToken 0 (primaryOf 0 0 0) (granted 0 0) []
+noToken = newToken 0 (primaryOf 0 0 0 0) (granted 0 0) []
 
 -- the live token of a number
 unfoldable pub tokenOf : State → ℕ → Token

@@ -14,6 +14,8 @@ pub record Identity : Type 0 where
   pub type : ℕ
   pub level : ℕ
   pub integrity : ℕ
+  -- the number of the started or created token that it descends from; 0 for an anonymous copy and whatever is made from one
+  pub root : ℕ
 
 -- what request 10 limits a copy by
 pub record Limits : Type 0 where
@@ -53,6 +55,10 @@ primary = 1
 abbrev pub impersonation : ℕ
 impersonation = 2
 
+-- a token of no root
+abbrev pub noRoot : ℕ
+noRoot = 0
+
 abbrev pub anonymous : ℕ
 anonymous = 7
 
@@ -70,8 +76,9 @@ isRestricted t = not (isEmpty (t .limits .restricting))
 
 -- ---- new tokens
 
-unfoldable pub primaryOf : ℕ → ℕ → ℕ → Identity
-primaryOf user session integrity = record { user = user; session = session; type = primary; level = 0; integrity = integrity }
+-- of token n, its own root
+unfoldable pub primaryOf : ℕ → ℕ → ℕ → ℕ → Identity
+primaryOf n user session integrity = record { user = user; session = session; type = primary; level = 0; integrity = integrity; root = n }
 
 unfoldable pub noLimits : Limits
 noLimits = record { restricting = []; writeRestricted = false; userDenyOnly = false }
@@ -85,7 +92,7 @@ newToken n i p gs =
     record { number = n; modified = n; elevation = 1; identity = i; privileges = p; groups = gs; limits = noLimits; defaults = noDefaults; scope = 0 }
 
 unfoldable pub startToken : Token
-startToken = newToken 1 (primaryOf system 999 16384) (granted existing existing) []
+startToken = newToken 1 (primaryOf 1 system 999 16384) (granted existing existing) []
 
 -- ---- changes
 

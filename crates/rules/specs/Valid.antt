@@ -66,7 +66,7 @@ defaultsValid gs x = validOwner gs x.owner && validGroup gs x.primaryGroup && le
 
 unfoldable pub tokenValid : Token → Bool
 tokenValid t =
-    is64 t.modified && between 1 3 t.elevation && is32 t.scope
+    is64 t.modified && between 1 3 t.elevation && is32 t.scope && leb (t .identity .root) t.number
     && identityValid t.identity
     && privilegesValid t.privileges
     && groupsValid t.groups

@@ -34,7 +34,7 @@ module _ {i : ℕ} {ts : List ℕ} where
     };
   }
 
-  pub no-identity : tokenSlots ≤ i → IdentityAt i ts (record { user = 0; session = 0; kind = 1; level = 0; integrity = 0 })
+  pub no-identity : tokenSlots ≤ i → IdentityAt i ts (record { user = 0; session = 0; kind = 1; level = 0; integrity = 0; root = 0 })
   unfolding noToken newToken primaryOf
   no-identity l = record { given = λ n at. record { identity = λ σ v h. sym (ap (λ (t : Token). t .identity) (no-token n at v h l)) } }
 

@@ -38,6 +38,7 @@ pub fn identity_at(slot: usize, tokens: &[u64]) -> Identity
         kind: Identity::PRIMARY,
         level: 0,
         integrity: 0,
+        root: 0,
     }
 }
 

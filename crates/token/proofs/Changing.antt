@@ -36,7 +36,7 @@ module _ {ws : List ℕ} where
 
 -- ---- the words of a token's groups
 
--- what `&words[20..20 + n]` is, and what `&mut words[20..20 + n]` comes back as
+-- what `&words[HEAD_WORDS..HEAD_WORDS + n]` is, and what `&mut words[HEAD_WORDS..HEAD_WORDS + n]` comes back as
 abbrev pub groupWords : ℕ → List ℕ → List ℕ
 groupWords n ws = take (headWords + n - headWords) (drop headWords ws)
 

@@ -64,7 +64,7 @@ module _ (n : ℕ) (i : Identity) (p : Privileges) where
       let identity : List ℕ = set (set (set (set numbers Head.session (i .session)) Head.user (i .user)) Head.type (i .kind)) Head.level (i .level) in
       let integrity : List ℕ = set (set identity Head.elevation 1) Head.integrity (i .integrity) in
       let privileges : List ℕ = set (set (set (set integrity Head.present (p .present)) Head.enabled (p .enabled)) Head.byDefault (p .«by_default»)) Head.used (p .used) in
-      set privileges Head.groupCount count
+      set (set privileges Head.groupCount count) Head.root (i .root)
 
   pub head-set : {count : ℕ} {ws : List ℕ} → Headed n (identityOf i) (privilegesOf p) count ws (headed count ws)
   unfolding headless tokenRow head newToken noLimits noDefaults mark

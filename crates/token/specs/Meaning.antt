@@ -15,7 +15,7 @@ abbrev pub groupOf : Group → Group-rules.Group
 groupOf g = record { sid = g .sid; attributes = g .attributes }
 
 abbrev pub identityOf : Identity → Rules.Identity
-identityOf i = record { user = i .user; session = i .session; type = i .kind; level = i .level; integrity = i .integrity }
+identityOf i = record { user = i .user; session = i .session; type = i .kind; level = i .level; integrity = i .integrity; root = i .root }
 
 -- the slots that a table of rows stands for
 abbrev pub slotsOf : List ℕ → List ℕ → List (Slot Rules.Token)

@@ -22,6 +22,7 @@ identityIn ws =
       kind = low8 (getD ws Head.type 0);
       level = low8 (getD ws Head.level 0);
       integrity = low32 (getD ws Head.integrity 0);
+      root = getD ws Head.root 0;
     }
 
 abbrev pub privilegesIn : List ℕ → Privileges

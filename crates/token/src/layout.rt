@@ -8,7 +8,7 @@ pub const MAX_RESTRICTING: usize = 16;
 pub const MAX_DACL: usize = 256;
 
 // A token's row: its head, its groups, its restricting SIDs; beside it the row of its DACL.
-pub const HEAD_WORDS: usize = 20;
+pub const HEAD_WORDS: usize = 21;
 
 pub const GROUPS_END: usize = HEAD_WORDS + MAX_GROUPS;
 
@@ -54,3 +54,5 @@ pub const GROUP_COUNT: usize = 17;
 pub const RESTRICTING_COUNT: usize = 18;
 
 pub const DACL_COUNT: usize = 19;
+
+pub const ROOT: usize = 20;

@@ -20,6 +20,7 @@ pub struct Identity {
     pub kind: u8,
     pub level: u8,
     pub integrity: u32,
+    pub root: u64,
 }
 
 impl Identity {

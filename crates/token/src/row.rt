@@ -1,4 +1,4 @@
-// A token's row in lent memory: 100 words and the 256 bytes of its DACL.
+// A token's row in lent memory: its words, and the bytes of its DACL.
 ghost use mathlib.Core.Path.{_≡_};
 ghost use Prim.Native.Nat.{_<_, min};
 ghost use lib.ListN.{length, getD};
@@ -27,6 +27,7 @@ pub fn identity_in(words: &[u64]) -> Identity
         kind: (words[KIND] % 256) as u8,
         level: (words[LEVEL] % 256) as u8,
         integrity: (words[INTEGRITY] % WORD_32) as u32,
+        root: words[ROOT],
     }
 }
 
@@ -106,6 +107,7 @@ pub fn set_head(
     words[BY_DEFAULT] = p.by_default;
     words[USED] = p.used;
     words[GROUP_COUNT] = group_count as u64;
+    words[ROOT] = identity.root;
 }
 
 // ---- changes in place

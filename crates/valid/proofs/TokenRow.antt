@@ -71,18 +71,18 @@ kind-level t l =
 
 -- ---- the tests of a row, as they stand in the rules and as they stand in the code
 
-shuffle : (u t l e m n o p s i E I K L M P G O R Z N Y D : Bool) {KLM E′ I′ O′ R′ : Bool}
+shuffle : (u t l e m n o p s i E Q I K L M P G O R Z N Y D : Bool) {KLM E′ I′ O′ R′ : Bool}
     → KLM ≡ (t && (K && (l && (L && M)))) → E′ ≡ (e && E) → I′ ≡ (i && I) → O′ ≡ (o && O) → R′ ≡ (p && R)
-    → ((u && (t && (l && (e && (m && (n && (o && (p && (s && i))))))))) && (Z && (N && Y)) && D && (E && (I && K && L && M) && P && G && (O && R)))
-    ≡ (u && KLM && E′ && m && n && s && P && I′ && G && O′ && R′ && Z && N && Y && D)
+    → ((u && (t && (l && (e && (m && (n && (o && (p && (s && i))))))))) && (Z && (N && Y)) && D && (E && Q && (I && K && L && M) && P && G && (O && R)))
+    ≡ (u && KLM && E′ && m && n && s && Q && P && I′ && G && O′ && R′ && Z && N && Y && D)
 unfolding all member
-shuffle u t l e m n o p s i E I K L M P G O R Z N Y D hk he hi ho hr =
+shuffle u t l e m n o p s i E Q I K L M P G O R Z N Y D hk he hi ho hr =
     simp (hk, he, hi, ho, hr, and-assoc)
     (simp and-true at
     (same-tests
-    (u ∷ t ∷ l ∷ e ∷ m ∷ n ∷ o ∷ p ∷ s ∷ i ∷ Z ∷ N ∷ Y ∷ D ∷ E ∷ I ∷ K ∷ L ∷ M ∷ P ∷ G ∷ O ∷ R ∷ [])
-    (0 ∷ 1 ∷ 2 ∷ 3 ∷ 4 ∷ 5 ∷ 6 ∷ 7 ∷ 8 ∷ 9 ∷ 10 ∷ 11 ∷ 12 ∷ 13 ∷ 14 ∷ 15 ∷ 16 ∷ 17 ∷ 18 ∷ 19 ∷ 20 ∷ 21 ∷ 22 ∷ [])
-    (0 ∷ 1 ∷ 16 ∷ 2 ∷ 17 ∷ 18 ∷ 3 ∷ 14 ∷ 4 ∷ 5 ∷ 8 ∷ 19 ∷ 9 ∷ 15 ∷ 20 ∷ 6 ∷ 21 ∷ 7 ∷ 22 ∷ 10 ∷ 11 ∷ 12 ∷ 13 ∷ [])
+    (u ∷ t ∷ l ∷ e ∷ m ∷ n ∷ o ∷ p ∷ s ∷ i ∷ Z ∷ N ∷ Y ∷ D ∷ E ∷ I ∷ K ∷ L ∷ M ∷ P ∷ G ∷ O ∷ R ∷ Q ∷ [])
+    (0 ∷ 1 ∷ 2 ∷ 3 ∷ 4 ∷ 5 ∷ 6 ∷ 7 ∷ 8 ∷ 9 ∷ 10 ∷ 11 ∷ 12 ∷ 13 ∷ 14 ∷ 23 ∷ 15 ∷ 16 ∷ 17 ∷ 18 ∷ 19 ∷ 20 ∷ 21 ∷ 22 ∷ [])
+    (0 ∷ 1 ∷ 16 ∷ 2 ∷ 17 ∷ 18 ∷ 3 ∷ 14 ∷ 4 ∷ 5 ∷ 8 ∷ 23 ∷ 19 ∷ 9 ∷ 15 ∷ 20 ∷ 6 ∷ 21 ∷ 7 ∷ 22 ∷ 10 ∷ 11 ∷ 12 ∷ 13 ∷ [])
     refl refl))
 
 -- the groups' words, as the rules take them
@@ -188,6 +188,7 @@ module _ (ws bs : List ℕ) (lw : length ws ≡ tokenWords) (lb : length bs ≡ 
 module _ (ws bs : List ℕ) (kw : (i : ℕ) → getD ws i 0 < 2 ^ 64) (kb : (i : ℕ) → getD bs i 0 < 256) (counted : Counted ws bs) where
   token-tests : tokenValid (tokenAt ws bs)
       ≡ (between 1 3 (low8 (getD ws Head.elevation 0))
+      && leb (getD ws Head.root 0) (getD ws Head.number 0)
       && (validIntegrity (low32 (getD ws Head.integrity 0))
       && between primary impersonation (low8 (getD ws Head.type 0))
       && leb (low8 (getD ws Head.level 0)) 3
@@ -243,7 +244,7 @@ module _ (ws bs : List ℕ) (kw : (i : ℕ) → getD ws i 0 < 2 ^ 64) (kb : (i :
       ∙ ap₂ (λ a b. a && b) (ap₂ (λ a b. a && b) image (same-pad-take maxDacl (w Head.daclLength) bs (counted .bytes) (counted .dacl))) token-tests
       ∙ shuffle
       (ltb (w Head.user) word32) (ltb (w Head.type) 256) (ltb (w Head.level) 256) (ltb (w Head.elevation) 256) (ltb (w Head.writeRestricted) 2) (ltb (w Head.userDenyOnly) 2) (ltb (w Head.owner) word32) (ltb (w Head.primaryGroup) word32) (ltb (w Head.scope) word32) (ltb (w Head.integrity) word32)
-      (between 1 3 (low8 (w Head.elevation))) (validIntegrity (low32 (w Head.integrity)))
+      (between 1 3 (low8 (w Head.elevation))) (leb (w Head.root) (w Head.number)) (validIntegrity (low32 (w Head.integrity)))
       (between primary impersonation (low8 (w Head.type))) (leb (low8 (w Head.level)) 3) (implies (eqb (low8 (w Head.type)) primary) (eqb (low8 (w Head.level)) 0))
       (privilegesValid (privilegesAt ws)) (all groupValid gs) (validOwner gs (low32 (w Head.owner))) (validGroup gs (low32 (w Head.primaryGroup))) z n y d
       (kind-level (w Head.type) (w Head.level))

@@ -90,6 +90,7 @@ headTest ws =
     && ltb (getD ws Head.writeRestricted 0) 2
     && ltb (getD ws Head.userDenyOnly 0) 2
     && isNarrow (getD ws Head.scope 0)
+    && leb (getD ws Head.root 0) (getD ws Head.number 0)
     && (eqb (bitAnd (getD ws Head.byDefault 0) (getD ws Head.present 0)) (getD ws Head.byDefault 0)
     && eqb (bitAnd (getD ws Head.enabled 0) (getD ws Head.present 0)) (getD ws Head.enabled 0)
     && eqb (bitAnd (getD ws Head.present 0) existing) (getD ws Head.present 0)

@@ -83,6 +83,7 @@ fn head_valid(w: &[u64]) -> bool
         & (w[WRITE_RESTRICTED] < 2)
         & (w[USER_DENY_ONLY] < 2)
         & (w[SCOPE] < WORD_32)
+        & (w[ROOT] <= w[NUMBER])
         & (((w[BY_DEFAULT] & present) == w[BY_DEFAULT])
             & ((w[ENABLED] & present) == w[ENABLED])
             & ((present & Privileges::EXISTING) == present)

@@ -16,7 +16,7 @@ fn print(text: &str) {
 #[test]
 fn lists_of_calls() {
     let mut counts = Counts::default();
-    lists::compare::<Lent>(0..600, &mut counts);
+    lists::compare::<Lent>(0..700, &mut counts);
     print(&format!(
         "\nstatuses of the requests that the broker and the model served alike:\n{counts}"
     ));
@@ -24,6 +24,7 @@ fn lists_of_calls() {
         counts.check_statuses(20);
         counts.check_groups(10);
         counts.check_restrictions(10);
+        counts.check_roots(10);
         counts.check_refusals(20);
     }
 }

@@ -1,5 +1,5 @@
 //! How often each refusal came, each status of each request, what request 6 did to each kind of
-//! group, and request 10 to each kind of list.
+//! group, request 10 to each kind of list, and what was made from each kind of token.
 
 use std::collections::BTreeMap;
 use std::fmt;
@@ -9,6 +9,7 @@ use model::{Fed, Model, Reader, Refusal, LAST_REQUEST};
 use crate::broker::{status, Step};
 use crate::groups::GroupCounts;
 use crate::restrictions::RestrictionCounts;
+use crate::roots::RootCounts;
 
 /// The statuses that each request can get; 0 stands for unknown requests.
 const POSSIBLE: [(u32, &[u8]); LAST_REQUEST as usize + 1] = [
@@ -34,6 +35,7 @@ pub struct Counts {
     refusals: BTreeMap<u32, usize>,
     groups: GroupCounts,
     restrictions: RestrictionCounts,
+    roots: RootCounts,
 }
 
 impl Counts {
@@ -64,6 +66,7 @@ impl Counts {
             *self.statuses.entry((request_number(body), status)).or_default() += 1;
             self.groups.request(before, station, body, status);
             self.restrictions.request(before, station, body, status);
+            self.roots.request(before, station, body, status);
         }
     }
 
@@ -92,6 +95,11 @@ impl Counts {
     /// Each case of request 10's restricting SIDs came so often at least, and got its status.
     pub fn check_restrictions(&self, least: usize) {
         self.restrictions.check(least);
+    }
+
+    /// Tokens of each kind of root were copied in each way, and asked for it, so often at least.
+    pub fn check_roots(&self, least: usize) {
+        self.roots.check(least);
     }
 
     /// Each refusal came so often at least.
@@ -128,6 +136,7 @@ impl fmt::Display for Counts {
         }
         writeln!(f, "  in {} calls", self.calls)?;
         writeln!(f, "{}", self.groups)?;
-        self.restrictions.fmt(f)
+        writeln!(f, "{}", self.restrictions)?;
+        self.roots.fmt(f)
     }
 }

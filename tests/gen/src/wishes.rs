@@ -10,6 +10,7 @@ use model::{
 use crate::fields::{fields, flat};
 use crate::groups::{kind, Kind};
 use crate::rng::Rng;
+use crate::roots::STATISTICS;
 
 /// What a request is drawn from.
 pub(crate) struct Wish<'a> {
@@ -48,6 +49,7 @@ const RIGHTS: [Mask; LAST_REQUEST as usize + 1] = [
 fn suits(kind: usize, token: &Token) -> bool {
     match kind {
         6 | 8 => !token.groups.is_empty(),
+        9 => token.root != token.number,
         10 => token.is_restricted() || token.write_restricted,
         11 => token.kind == TokenType::Primary,
         _ => true,
@@ -204,6 +206,7 @@ impl Wish<'_> {
     fn query(&mut self, handle: u32) -> Request {
         let class = match self.rng.below(25) {
             0 => self.rng.pick(&[0, LAST_CLASS + 1, LAST_CLASS + 2, 128, u32::MAX]),
+            1..=5 => STATISTICS,
             _ => 1 + self.rng.below(LAST_CLASS as usize) as u32,
         };
         let capacity = match self.rng.below(4) {
@@ -349,7 +352,8 @@ impl Wish<'_> {
             }
             _ => Level::Delegation as usize,
         };
-        let mut level = self.rng.below(highest + 1) as u32;
+        let any_level = self.rng.below(highest + 1) as u32;
+        let mut level = if self.rng.percent(12) { Level::Anonymous as u32 } else { any_level };
         match self.rng.below(25) {
             0 => kind = self.rng.pick(&[0, 3, u32::MAX]),
             1 => level = self.rng.pick(&[4, 5, u32::MAX]),

@@ -50,6 +50,6 @@ pub use rights::Mask;
 pub use state::{Handle, Model, Station, HANDLES, STATIONS, TOKENS};
 pub use token::{
     Elevation, Group, Level, Token, TokenType, ANONYMOUS_SID, INTEGRITY_LEVELS, MAX_DACL,
-    MAX_GROUPS, MAX_RESTRICTING, SYSTEM_SID,
+    MAX_GROUPS, MAX_RESTRICTING, NO_ROOT, SYSTEM_SID,
 };
 pub use valid::{Rule, RULES};

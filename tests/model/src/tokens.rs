@@ -9,7 +9,7 @@ use crate::rights::Mask;
 use crate::state::Model;
 use crate::token::{
     Elevation, Group, Level, Token, TokenType, ANONYMOUS_SID, INTEGRITY_LEVELS, MAX_GROUPS,
-    MAX_RESTRICTING,
+    MAX_RESTRICTING, NO_ROOT,
 };
 
 impl Model {
@@ -51,7 +51,8 @@ impl Model {
             .map(|&(sid, attributes)| new_group(Group { sid, attributes }, user))
             .collect::<Result<_, _>>()?;
         let privileges = Privileges::new(present, default);
-        let token = Token { privileges, groups, integrity, ..Token::bare(0, user, session) };
+        let bare = Token::bare(self.next_token, user, session);
+        let token = Token { privileges, groups, integrity, ..bare };
         let handle = self.add_token(station, token, Mask::ALL.0)?;
         self.mark_used(station, CREATE_TOKEN);
         Ok(handle)
@@ -155,9 +156,10 @@ fn impersonation_copy(source: &Token, level: Level) -> Token {
     Token { kind: TokenType::Impersonation, level, elevation: Elevation::Default, ..source.clone() }
 }
 
-/// An impersonation token with nothing of its source but the used privileges.
+/// An impersonation token with nothing of its source but the used privileges, its root no more.
 fn anonymous_copy(source: &Token) -> Token {
     Token {
+        root: NO_ROOT,
         kind: TokenType::Impersonation,
         privileges: Privileges { used: source.privileges.used, ..Privileges::default() },
         ..Token::bare(0, ANONYMOUS_SID, 0)

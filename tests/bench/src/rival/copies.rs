@@ -52,6 +52,7 @@ impl Memory<'_> {
         row[word::GROUP_COUNT] = count.into();
         row[GROUPS].copy_from_slice(&groups);
         let number = self.number_token(slot);
+        self.tokens[slot][word::ROOT] = number;
         out.number(self.place_handle(place, station, number, right::ALL));
         self.tokens[own][word::USED] |= 1 << CREATE_TOKEN;
         Ok(())

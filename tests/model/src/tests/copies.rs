@@ -53,6 +53,7 @@ fn an_anonymous_copy_keeps_only_the_used_bits() {
     let copy = handle(&mut model, 0, &[9, made, 2, 0, 0x1EF]);
     let expected = Token {
         number: 3,
+        root: 0,
         modified: 3,
         session: 0,
         user: 7,

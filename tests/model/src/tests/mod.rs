@@ -16,6 +16,7 @@ mod privileges;
 mod program;
 mod query;
 mod restrictions;
+mod roots;
 mod slips;
 mod streams;
 

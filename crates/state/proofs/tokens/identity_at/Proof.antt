@@ -1,4 +1,4 @@
--- Five words, or none. Assumes nothing.
+-- Six words, or none. Assumes nothing.
 use borrow.Author.Needs.{needs}
 use Rattle.state.proofs.TokenScalars.{identity-at, no-identity}
 use Rattle.state.proofs.tokens.identity_at.Statement.{statement}
