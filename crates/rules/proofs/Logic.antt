@@ -1,5 +1,5 @@
 -- Tests of Bool, and membership of lists. Assumes nothing.
-use Prim.Native.Nat.{ℕ, zero, suc, _<_}
+use Prim.Native.Nat.{ℕ, zero, suc, _<_, _≤_}
 use native.Mathlib.Omega.{arith}
 use mathlib.Core.Path.{_≡_, refl, sym, ap, ap₂, _∙_}
 use mathlib.Core.Bool.{Bool, true, false, not, _&&_, _||_, or-true}
@@ -7,8 +7,8 @@ use mathlib.Core.Logic.{_⊎_, inl, inr, ⊎-elim}
 use mathlib.Core.List.{List, [], _∷_, _++_, map}
 use lib.Dec.{eqb}
 use lib.ListN.{length, getD, set}
-use borrow.Author.Tests.{eqb-true, eq-eqb}
-use Rattle.rules.specs.Basic.{all, member, distinct, implies, changeAt}
+use borrow.Author.Tests.{eqb-true, eqb-false, eq-eqb, ne-eqb}
+use Rattle.rules.specs.Basic.{if_then_else_, all, member, distinct, nonZero, implies, changeAt}
 use Rattle.rules.specs.Growth.{Mem, here, there}
 
 -- ---- tests
@@ -167,3 +167,41 @@ pub all-append : {A : Type 0} (f : A → Bool) (xs ys : List A) → all f xs ≡
 unfolding all
 all-append f [] ys h k = k
 all-append f (x ∷ xs) ys h k = and-i (and-l (f x) (all f xs) h) (all-append f xs ys (and-r (f x) (all f xs) h) k)
+
+-- the numbers that are not 0
+pub mem-nonZero : {n : ℕ} (ns : List ℕ) → Mem n (nonZero ns) → Mem n ns × (1 ≤ n)
+unfolding nonZero
+mem-nonZero {n} (k ∷ ns) m = go (eqb k 0) refl m (λ i. mem-nonZero ns i)
+  where
+    go : (b : Bool) → eqb k 0 ≡ b → Mem n (if b then nonZero ns else k ∷ nonZero ns) → (Mem n (nonZero ns) → Mem n ns × (1 ≤ n)) → Mem n (k ∷ ns) × (1 ≤ n)
+    go true e m rest = let r = rest m in (there (r .0), r .1)
+    go false e (here q) rest = (here q, let z = eqb-false k 0 e in omega (arith, z))
+    go false e (there m) rest = let r = rest m in (there (r .0), r .1)
+
+pub nonZero-mem : {n : ℕ} (ns : List ℕ) → Mem n ns → 1 ≤ n → Mem n (nonZero ns)
+unfolding nonZero
+nonZero-mem (k ∷ ns) (here q) h = rw (ne-eqb k 0 (λ z. omega arith)) (here q)
+nonZero-mem {n} (k ∷ ns) (there m) h = go (eqb k 0) (nonZero-mem ns m h)
+  where
+    go : (b : Bool) → Mem n (nonZero ns) → Mem n (if b then nonZero ns else k ∷ nonZero ns)
+    go true i = i
+    go false i = there i
+
+-- whether a number is among them: 0 never is
+pub member-nonZero : (n : ℕ) (ns : List ℕ) → 1 ≤ n → member n (nonZero ns) ≡ member n ns
+unfolding member nonZero
+member-nonZero n [] h = refl
+member-nonZero n (k ∷ ns) h = go (eqb k 0) refl (member-nonZero n ns h)
+  where
+    go : (b : Bool) → eqb k 0 ≡ b → member n (nonZero ns) ≡ member n ns → member n (if b then nonZero ns else k ∷ nonZero ns) ≡ (eqb n k || member n ns)
+    go true e ih = let z = eqb-true k 0 e in ih ∙ sym (ap (λ (b : Bool). b || member n ns) (ne-eqb n k (λ q. omega arith)))
+    go false e ih = ap (λ (b : Bool). eqb n k || b) ih
+
+pub zero-nonZero : (ns : List ℕ) → member 0 (nonZero ns) ≡ false
+unfolding member nonZero
+zero-nonZero [] = refl
+zero-nonZero (k ∷ ns) = go (eqb k 0) refl (zero-nonZero ns)
+  where
+    go : (b : Bool) → eqb k 0 ≡ b → member 0 (nonZero ns) ≡ false → member 0 (if b then nonZero ns else k ∷ nonZero ns) ≡ false
+    go true e ih = ih
+    go false e ih = ap (λ (b : Bool). b || member 0 (nonZero ns)) (ne-eqb 0 k (λ q. eqb-false k 0 e (sym q))) ∙ ih

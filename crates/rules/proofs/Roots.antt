@@ -2,7 +2,7 @@
 use Prim.Native.Nat.{ℕ, _≤_}
 use native.Mathlib.Omega.{arith}
 use mathlib.Core.Path.{_≡_, refl, sym, ap, _∙_}
-use mathlib.Core.Bool.{Bool, true, false}
+use mathlib.Core.Bool.{Bool, true, false, not, _&&_}
 use mathlib.Core.Logic.{⊎-elim}
 use mathlib.Core.List.{List, [], _∷_}
 use lib.Dec.{eqb, ltb}
@@ -19,10 +19,12 @@ use Rattle.rules.specs.Duplicate.{isAnonymous}
 use Rattle.rules.specs.Group.{Group}
 use Rattle.rules.specs.Growth.{Live, Mem, here, there, Source, sourceAt, sourceOf, Copying, makesRoot, Rooted, none, old, created}
 use Rattle.rules.specs.Handle.{Handle}
+use Rattle.rules.specs.Impersonate as Impersonate
 use Rattle.rules.specs.Install as Install
 use Rattle.rules.specs.Ladder.{status}
 use Rattle.rules.specs.Number.{Read, got, bad}
 use Rattle.rules.specs.OpenClose as OpenClose
+use Rattle.rules.specs.Privileges as Privileges
 use Rattle.rules.specs.Privileges.{createToken, assignPrimaryToken, tcb}
 use Rattle.rules.specs.Query as Query
 use Rattle.rules.specs.Request as Request
@@ -30,7 +32,7 @@ use Rattle.rules.specs.Request.{parse, Request}
 use Rattle.rules.specs.Restrict as Restrict
 use Rattle.rules.specs.Run.{Call, Outcome, Serving, serves, breaks, servedBy, after, ofBytes, events, outcomes, OneByOne}
 use Rattle.rules.specs.Serve.{rule, decided, decision, serve}
-use Rattle.rules.specs.State.{State, withTokens, withHandles, withStations, changeStation, setToken, numberOf, caller, putToken, changeToken, used, findHandle, addHandle, dropHandle, released}
+use Rattle.rules.specs.State.{State, withTokens, withHandles, withStations, changeStation, setToken, setClient, numberOf, caller, held, putToken, changeToken, used, findHandle, addHandle, dropHandle, released}
 use Rattle.rules.specs.Table.{Slot, free, live, isLive, withSlots}
 use Rattle.rules.specs.Token.{Token, newToken, primaryOf}
 use Rattle.rules.proofs.Logic.{not-both, either, map-mem}
@@ -82,8 +84,14 @@ module _ (d : State) (f : StateFacts d) (s : ℕ) where
   unfolding Install.marked SameNext used changeToken putToken withTokens withSlots
   marks t = let once = used assignPrimaryToken s d in on-if (SameNext d) (Install.matches t (caller d s)) once (used tcb s once) (λ e. refl) (λ e. refl)
 
+  -- request 12's mark
+  client-marks : (t : Token) → SameNext d (Impersonate.marked s t d)
+  unfolding Impersonate.marked SameNext used changeToken putToken withTokens withSlots
+  client-marks t =
+      on-if (SameNext d) (not (Impersonate.alike (caller d s) t) && held d s Privileges.impersonate) (used Privileges.impersonate s d) d (λ e. refl) (λ e. refl)
+
   gives : (r : Read Request) → Gives d s r
-  unfolding decided rule sourceOf makesRoot Ends SameNext withHandle OpenClose.openOwn OpenClose.close Query.query AdjustPrivileges.adjust AdjustGroups.adjust AdjustScope.scope AdjustDefaults.adjust Duplicate.duplicate Restrict.restrict Install.install released addHandle dropHandle setToken changeStation withStations withHandles withTokens withSlots used changeToken putToken
+  unfolding decided rule sourceOf makesRoot Ends SameNext withHandle OpenClose.openOwn OpenClose.close Query.query AdjustPrivileges.adjust AdjustGroups.adjust AdjustScope.scope AdjustDefaults.adjust Duplicate.duplicate Restrict.restrict Install.install Impersonate.impersonate Impersonate.revert released addHandle dropHandle setToken setClient changeStation withStations withHandles withTokens withSlots used changeToken putToken
   gives bad = nothing (λ h. absurd (not-both h refl))
   gives (got (Request.openOwn mask) bytes) = nothing (λ ok room. refl)
   gives (got (Request.close n) bytes) = nothing (λ known. refl)
@@ -96,6 +104,8 @@ module _ (d : State) (f : StateFacts d) (s : ℕ) where
   gives (got (Request.duplicate n type level mask) bytes) = of-handle n (isAnonymous type level) _ refl (λ no known. absurd (no known))
   gives (got (Request.restrict n mark removed deny sids) bytes) = of-handle n false _ refl (λ no known. absurd (no known))
   gives (got (Request.install n) bytes) = nothing (λ known may held ok match. marks _)
+  gives (got (Request.impersonate n) bytes) = nothing (λ known may ok gate. client-marks _)
+  gives (got Request.revert bytes) = nothing refl
 
 -- ---- one body
 

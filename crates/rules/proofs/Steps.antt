@@ -10,15 +10,15 @@ use Rattle.rules.specs.Decision.{carriedOut, withHandle, canIssue, Decis
 use Rattle.rules.specs.Growth.{Mem, Follows, Later, HandlesLater, here}
 use Rattle.rules.specs.Handle.{noHandle, isHandle, Handle}
 use Rattle.rules.specs.Mask.{validMask}
-use Rattle.rules.specs.State.{stationCount, withHandles, withStations, stationAt, changeStation, setToken, numberOf, isNumbered, tokenOf, callerNumber, putToken, withTokens, changeToken, canAddToken, addToken, findHandle, handleOf, canAddHandle, addHandle, dropHandle, handleToken, stationToken, references, released, State}
-use Rattle.rules.specs.Station.{startStation}
+use Rattle.rules.specs.State.{stationCount, withHandles, withStations, stationAt, changeStation, setToken, setClient, numberOf, isNumbered, tokenOf, callerNumber, putToken, withTokens, changeToken, canAddToken, addToken, findHandle, handleOf, canAddHandle, addHandle, dropHandle, handleToken, stationToken, references, released, State}
+use Rattle.rules.specs.Station.{startStation, Client}
 use Rattle.rules.specs.Table.{isLive, orElse, lives, found, live}
 use Rattle.rules.specs.Token.{primary, Token}
 use Rattle.rules.specs.Valid.{handleValid}
 use Rattle.rules.proofs.Logic.{and-l, and-r, and-i, getD-mem, map-mem}
 use Rattle.rules.proofs.Tables.{live-slot, found-in, found-some}
 use Rattle.rules.proofs.Facts.{TokenFacts, Loose, StateFacts}
-use Rattle.rules.proofs.Changes.{later-refl, later-trans, handles-refl, handles-trans, handle-later, drop-later, numbersOf, by-handle, by-station, put-loose, put-later, put-reached, add-loose, add-later, handle-loose, handle-reached, drop-loose, token-loose, release-facts, release-later, add-reached, add-there, add-room}
+use Rattle.rules.proofs.Changes.{later-refl, later-trans, handles-refl, handles-trans, handle-later, drop-later, numbersOf, by-handle, by-station, put-loose, put-later, put-reached, add-loose, add-later, handle-loose, handle-reached, drop-loose, token-loose, MayAct, client-loose, release-facts, release-later, add-reached, add-there, add-room}
 
 pub record Advance (d e : State) : Type 0 where
   pub facts : StateFacts e
@@ -102,6 +102,15 @@ token-step d s t f m p =
     record {
       facts = release-facts (setToken s (t .number) d) (token-loose d s t m p (f .loose));
       later = release-later (setToken s (t .number) d);
+      handles = handles-refl (d .handles);
+    }
+
+pub client-step : (d : State) (s : ℕ) (c : Client) → StateFacts d → MayAct d c → Advance d (released (setClient s c d))
+unfolding setClient changeStation withStations released withTokens
+client-step d s c f may =
+    record {
+      facts = release-facts (setClient s c d) (client-loose d s c may (f .loose));
+      later = release-later (setClient s c d);
       handles = handles-refl (d .handles);
     }
 

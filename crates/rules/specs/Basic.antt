@@ -36,6 +36,11 @@ unfoldable pub distinct : List ℕ → Bool
 distinct [] = true
 distinct (x ∷ xs) = not (member x xs) && distinct xs
 
+-- those that are not 0
+unfoldable pub nonZero : List ℕ → List ℕ
+nonZero [] = []
+nonZero (n ∷ ns) = if eqb n 0 then nonZero ns else n ∷ nonZero ns
+
 unfoldable pub isEmpty : {A : Type 0} → List A → Bool
 isEmpty [] = true
 isEmpty (x ∷ xs) = false

@@ -95,6 +95,8 @@ sourceOf σ s (got (Request.defaults n owner group flag dacl) bytes) = free
 sourceOf σ s (got (Request.duplicate n type level mask) bytes) = sourceAt σ (isAnonymous type level) (findHandle σ s n)
 sourceOf σ s (got (Request.restrict n mark removed deny sids) bytes) = sourceAt σ false (findHandle σ s n)
 sourceOf σ s (got (Request.install n) bytes) = free
+sourceOf σ s (got (Request.impersonate n) bytes) = free
+sourceOf σ s (got Request.revert bytes) = free
 
 -- u, just made, has no more than its source
 pub record NoMore (x : Source) (u : Token) : Type 0 where
@@ -131,6 +133,8 @@ makesRoot (got (Request.defaults n owner group flag dacl) bytes) = false
 makesRoot (got (Request.duplicate n type level mask) bytes) = false
 makesRoot (got (Request.restrict n mark removed deny sids) bytes) = false
 makesRoot (got (Request.install n) bytes) = false
+makesRoot (got (Request.impersonate n) bytes) = false
+makesRoot (got Request.revert bytes) = false
 
 -- the root n of a token, after what xs serves from σ on: 0, or the root of a token that was there, or the number that was given to a created one
 pub data Rooted (σ : State) (xs : List Outcome) (n : ℕ) : Type 0 where

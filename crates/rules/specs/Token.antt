@@ -55,6 +55,10 @@ primary = 1
 abbrev pub impersonation : ℕ
 impersonation = 2
 
+-- a level
+abbrev pub identification : ℕ
+identification = 1
+
 abbrev pub anonymous : ℕ
 anonymous = 7
 
