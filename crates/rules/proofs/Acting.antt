@@ -45,11 +45,11 @@ use Rattle.rules.proofs.Ladder.{ladder}
 -- ---- on a valid state
 
 module _ (σ : State) (l : Loose σ) where
-  Acts : Client → Type 0
-  Acts c = (c ≡ noClient) ⊎ ActsFor σ c
+  unfoldable NoneOrLive : Client → Type 0
+  NoneOrLive c = (c ≡ noClient) ⊎ ActsFor σ c
 
-  of-station : (x : Station) → Mem x (σ .stations) → Acts (x .client)
-  unfolding Acts clientToken noClient Live numberOf
+  of-station : (x : Station) → Mem x (σ .stations) → NoneOrLive (x .client)
+  unfolding NoneOrLive clientToken noClient Live numberOf
   of-station x m =
       ⊎-elim (λ e. let none = eqb-true (x .client .token) 0 e in inl (λ i. record { token = none i; level = l .idle x m none i }))
       (λ e. let some = eqb-false (x .client .token) 0 e in
@@ -58,14 +58,14 @@ module _ (σ : State) (l : Loose σ) where
       inr (record { token = r .0; live = r .1; number = sym (r .2); type = a .type; level = a .level }))
       (either (eqb (x .client .token) 0))
 
-  at-index : (xs : List Station) (i : ℕ) → ((x : Station) → Mem x xs → Acts (x .client)) → Acts (getD xs i startStation .client)
-  unfolding startStation Acts
+  at-index : (xs : List Station) (i : ℕ) → ((x : Station) → Mem x xs → NoneOrLive (x .client)) → NoneOrLive (getD xs i startStation .client)
+  unfolding startStation NoneOrLive
   at-index [] i h = inl refl
   at-index (x ∷ xs) zero h = h x (here refl)
   at-index (x ∷ xs) (suc i) h = at-index xs i (λ y m. h y (there m))
 
   pub acting : (s : ℕ) → (clientAt σ s ≡ noClient) ⊎ ActsFor σ (clientAt σ s)
-  unfolding clientAt stationAt Acts
+  unfolding clientAt stationAt NoneOrLive
   acting s = at-index (σ .stations) s of-station
 
 -- ---- one request

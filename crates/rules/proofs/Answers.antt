@@ -271,13 +271,16 @@ module _ (σ : State) (f : StateFacts σ) (s : ℕ) where
   unfolding withHandle Fits refusal
   on-handle n right go k = (omega arith, λ known. (omega arith, λ permitted. k (found-handle σ s n f known)))
 
-  number-64 : (n : ℕ) → Found σ (handleOf σ s n) → tokenOf σ (handleOf σ s n .token) .number < 2 ^ 64
-  unfolding numberOf
-  number-64 n k =
-      let t = tokenOf σ (handleOf σ s n .token) in
-      let below = f .loose .tokens .given (t .number) (map-mem numberOf (k .token .was)) .1 in
+  live-64 : (t : Token) → Live t σ → t .number < 2 ^ 64
+  unfolding Live numberOf
+  live-64 t m =
+      let below = f .loose .tokens .given (t .number) (map-mem numberOf m) .1 in
       let high = f .loose .tokens .high in
       omega arith
+
+  number-64 : (n : ℕ) → Found σ (handleOf σ s n) → tokenOf σ (handleOf σ s n .token) .number < 2 ^ 64
+  unfolding Live
+  number-64 n k = live-64 (tokenOf σ (handleOf σ s n .token)) (k .token .was)
 
   queries : (n class capacity : ℕ) → Fits (Query.query σ s n class capacity)
   unfolding Query.query Fits refusal capacityBelow
@@ -307,29 +310,25 @@ module _ (σ : State) (f : StateFacts σ) (s : ℕ) where
   unfolding AdjustGroups.adjust Fits refusal
   adjusts-groups n es = on-handle n _ _ λ k. (omega arith, λ ok. (omega arith, λ may. words-fit (tokenOf σ (handleOf σ s n .token) .groups)))
 
-  -- a level of a token that is found
-  level-64 : (t : Token) → t .number < 2 ^ 64 → TokenFacts t → (n : ℕ) → n ≤ t .identity .level → n < 2 ^ 64
-  level-64 t l g n h = let k = numbers t l g .level in omega arith
+  -- a level up to that of a live token
+  level-64 : (t : Token) → Live t σ → (n : ℕ) → n ≤ t .identity .level → n < 2 ^ 64
+  unfolding Live
+  level-64 t m n h = let k = numbers t (live-64 t m) (f .loose .eachToken t m) .level in omega arith
 
   impersonates : (n : ℕ) → Fits (Impersonate.impersonate σ s n)
-  unfolding Impersonate.impersonate Fits refusal
+  unfolding Impersonate.impersonate Fits refusal Live
   impersonates n = on-handle n _ _ λ k.
       let t = tokenOf σ (handleOf σ s n .token) in
       let level = Impersonate.inForce σ s t in
-      let l = word level (level-64 t (number-64 n k) (token-ok σ (handleOf σ s n .token) f (k .token)) level (in-force σ s t)) in
-      (omega arith, λ ok. (omega arith, λ passed. omega arith))
+      let l = word level (level-64 t (k .token .was) level (in-force σ s t)) in
+      (omega arith, λ ok. (omega arith, λ gate. omega arith))
 
   -- the number and the level that request 13 answers
   client-64 : (c : Client) → (c ≡ noClient) ⊎ ActsFor σ c → (c .token < 2 ^ 64) × (c .level < 2 ^ 64)
-  unfolding noClient Live numberOf
+  unfolding noClient
   client-64 c w =
       ⊎-elim (λ e. rw e (omega arith, omega arith))
-      (λ a. let t = a .token in
-      let e = a .number in
-      let below = f .loose .tokens .given (t .number) (map-mem numberOf (a .live)) .1 in
-      let high = f .loose .tokens .high in
-      let small : t .number < 2 ^ 64 = omega arith in
-      (omega arith, level-64 t small (f .loose .eachToken t (a .live)) (c .level) (a .level)))
+      (λ a. let below = live-64 (a .token) (a .live) in let e = a .number in (omega arith, level-64 (a .token) (a .live) (c .level) (a .level)))
       w
 
   reverts : Fits (Impersonate.revert σ s)

@@ -38,11 +38,11 @@ setsClient (got (Request.impersonate n) bytes) = true
 setsClient (got Request.revert bytes) = true
 
 -- the body is a request 12 or 13 of station k, and succeeds
-pub record SetsClient (x : Serving) (k : ℕ) : Type 0 where
+pub record SetBy (x : Serving) (k : ℕ) : Type 0 where
   pub station : k ≡ x .station
   pub request : setsClient (parse (x .body)) ≡ true
   pub succeeds : status (servedBy x) ≡ 0
 
 -- of a body that is served: nothing else changes what station k acts for
 unfoldable pub ClientKept : Serving → ℕ → Type 0
-ClientKept x k = (clientAt (servedBy x .state) k ≡ clientAt (x .before) k) ⊎ SetsClient x k
+ClientKept x k = (clientAt (servedBy x .state) k ≡ clientAt (x .before) k) ⊎ SetBy x k

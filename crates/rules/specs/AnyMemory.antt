@@ -61,8 +61,8 @@ pub record AnyMemory (m : Memory) (c : Call) : Type 0 where
   pub listed : Mem (doneBy m c .refusal) (0 ∷ noStation ∷ shortBuffer ∷ invalidMemory ∷ [])
   -- a call that is refused alters, uses and answers nothing
   pub refused : (doneBy m c .refusal ≡ 0 → ⊥) → doneBy m c ≡ refusedOn (doneBy m c .refusal) m
-  -- 'a refusal alters no token, no handle and no counter', and not what a station is or acts for: nor does a part, a break or a reconnect. Only a
-  -- request that is answered 0 does
+  -- 'a refusal alters no token, no handle and no counter', and no station's primary token or client: nor does a part, a break or a
+  -- reconnect. Only a request that is answered 0 does
   pub leftAlone : (Mem 0 (statuses (doneBy m c .answer)) → ⊥) → LeftAlone m (doneBy m c .after)
   -- memory in order stays in order
   pub order : valid m ≡ true → ofBytes c ≡ true → valid (doneBy m c .after) ≡ true

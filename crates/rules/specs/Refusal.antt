@@ -25,7 +25,7 @@ rightMissing = refusal 3
 abbrev pub privilegeNotHeld : Refusal
 privilegeNotHeld = refusal 4
 
--- a field or entry bad, unknown class, installing a non-primary token
+-- a field or entry bad, unknown class, installing a token that is not primary, or acting for one that is
 abbrev pub badField : Refusal
 badField = refusal 5
 

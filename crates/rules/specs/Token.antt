@@ -55,7 +55,7 @@ primary = 1
 abbrev pub impersonation : ℕ
 impersonation = 2
 
--- a level
+-- a level, of Anonymous (0), Identification, Impersonation and Delegation (3)
 abbrev pub identification : ℕ
 identification = 1
 
