@@ -1,5 +1,5 @@
 -- Every rule keeps a state valid, and what lasts of its tokens. Assumes nothing.
-use Prim.Native.Nat.{ℕ, _+_, _^_, _<_, _≤_, min}
+use Prim.Native.Nat.{ℕ, _+_, _^_, _<_, _≤_}
 use native.Mathlib.Omega.{arith}
 use mathlib.Core.Path.{_≡_, refl, sym, ap, _∙_, subst}
 use mathlib.Core.Bool.{true, not, _&&_}
@@ -35,7 +35,7 @@ use Rattle.rules.specs.Serve.{rule, decided, decision, serve}
 use Rattle.rules.specs.State.{stationCount, withTokens, setToken, setClient, held, numberOf, tokenOf, callerNumber, caller, putToken, changeToken, usedOn, used, canAddToken, handleOf, canAddHandle, released, State}
 use Rattle.rules.specs.Station.{noClient}
 use Rattle.rules.specs.Table.{someFree, withSlots, canAdd}
-use Rattle.rules.specs.Token.{maxGroups, maxRestricting, primary, impersonation, identification, primaryOf, newToken, Token}
+use Rattle.rules.specs.Token.{maxGroups, maxRestricting, primary, impersonation, primaryOf, newToken, Token}
 use Rattle.rules.specs.Valid.{isByte, is32, is64, between, identityValid, privilegesValid, groupsValid, handleValid}
 use Rattle.rules.proofs.Logic.{and-l, and-r, and-i, not-both, mem-by}
 use Rattle.rules.proofs.Bits.{none-within}
@@ -118,8 +118,7 @@ client-marks d s t f in8 =
 pub in-force : (d : State) (s : ℕ) (t : Token) → Impersonate.inForce d s t ≤ t .identity .level
 unfolding Impersonate.inForce
 in-force d s t =
-    let own = t .identity .level in
-    on-if (λ n. n ≤ own) (Impersonate.passes d s t && leb (t .identity .integrity) (caller d s .identity .integrity)) own (min own identification)
+    on-if (λ n. n ≤ t .identity .level) (Impersonate.passes d s t && leb (t .identity .integrity) (caller d s .identity .integrity)) _ _
     (λ e. omega arith) (λ e. omega arith)
 
 -- ---- what request 3 makes
