@@ -80,24 +80,22 @@ numbersOf d = map numberOf (lives (d .tokens .slots))
 -- a handle's token, a station's, and the one that it acts for are referred to
 pub by-handle : (d : State) {n : ℕ} → Mem n (map handleToken (lives (d .handles .slots))) → Mem n (references d)
 unfolding references
-by-handle d m = mem-left (nonZero (map clientToken (d .stations))) (mem-left (map stationToken (d .stations)) m)
+by-handle d m = mem-left _ (mem-left _ m)
 
 pub by-station : (d : State) {n : ℕ} → Mem n (map stationToken (d .stations)) → Mem n (references d)
 unfolding references
-by-station d m = mem-left (nonZero (map clientToken (d .stations))) (mem-right (map handleToken (lives (d .handles .slots))) m)
+by-station d m = mem-left _ (mem-right (map handleToken (lives (d .handles .slots))) m)
 
 pub by-client : (d : State) {n : ℕ} → Mem n (map clientToken (d .stations)) → 1 ≤ n → Mem n (references d)
 unfolding references
-by-client d m h = mem-right (map handleToken (lives (d .handles .slots)) ++ map stationToken (d .stations)) (nonZero-mem (map clientToken (d .stations)) m h)
+by-client d m h = mem-right (map handleToken (lives (d .handles .slots)) ++ map stationToken (d .stations)) (nonZero-mem _ m h)
 
 -- whatever is referred to is so by one of them
 pub by-any : (d : State) {n : ℕ} {P : Type 0} → (Mem n (map handleToken (lives (d .handles .slots))) → P) → (Mem n (map stationToken (d .stations)) → P)
     → (Mem n (map clientToken (d .stations)) → 1 ≤ n → P) → Mem n (references d) → P
 unfolding references
 by-any d h s c m =
-    ⊎-elim (λ a. ⊎-elim h s (mem-append (map handleToken (lives (d .handles .slots))) a))
-    (λ b. let r = mem-nonZero (map clientToken (d .stations)) b in c (r .0) (r .1))
-    (mem-append (map handleToken (lives (d .handles .slots)) ++ map stationToken (d .stations)) m)
+    ⊎-elim (λ a. ⊎-elim h s (mem-append _ a)) (λ b. let r = mem-nonZero _ b in c (r .0) (r .1)) (mem-append _ m)
 
 put-in : (d : State) (u : Token) {v : Token} → Mem v (lives (putToken u d .tokens .slots)) → (v ≡ u) ⊎ Mem v (lives (d .tokens .slots))
 unfolding putToken withTokens withSlots

@@ -4,27 +4,17 @@ use mathlib.Core.Path.{_≡_, refl}
 use mathlib.Core.Bool.{Bool, true, false, not}
 use mathlib.Core.Logic.{_⊎_, inl, inr}
 use mathlib.Core.List.{List, [], _∷_}
-use Rattle.rules.specs.Basic.{if_then_else_, filter, isEmpty}
+use Rattle.rules.specs.Basic.{isEmpty}
 use Rattle.rules.specs.Growth.{Mem, here, there}
 use Rattle.rules.specs.Restrict.{restrictingTo}
-use Rattle.rules.proofs.Logic.{not-both}
-
-mem-filter : (f : ℕ → Bool) (xs : List ℕ) {n : ℕ} → Mem n (filter f xs) → Mem n xs
-unfolding filter
-mem-filter f [] m = m
-mem-filter f (x ∷ xs) {n} m = go (f x) (mem-filter f xs) m
-  where
-    go : (b : Bool) → (Mem n (filter f xs) → Mem n xs) → Mem n (if b then x ∷ filter f xs else filter f xs) → Mem n (x ∷ xs)
-    go true k (here e) = here e
-    go true k (there m) = there (k m)
-    go false k m = there (k m)
+use Rattle.rules.proofs.Logic.{not-both, mem-filter}
 
 -- a restricted token's copy has nothing that the token lacked
 pub narrower : (given own : List ℕ) → not (isEmpty own) ≡ true → {n : ℕ} → Mem n (restrictingTo given own) → Mem n own
 unfolding restrictingTo isEmpty
 narrower given [] r m = absurd (not-both r refl)
 narrower [] (x ∷ xs) r m = m
-narrower (y ∷ ys) (x ∷ xs) r m = mem-filter _ (x ∷ xs) m
+narrower (y ∷ ys) (x ∷ xs) r m = mem-filter _ (x ∷ xs) m .0
 
 pub from-either : (given own : List ℕ) {n : ℕ} → Mem n (restrictingTo given own) → (Mem n given) ⊎ (Mem n own)
 unfolding restrictingTo isEmpty

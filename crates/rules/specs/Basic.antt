@@ -36,10 +36,8 @@ unfoldable pub distinct : List ℕ → Bool
 distinct [] = true
 distinct (x ∷ xs) = not (member x xs) && distinct xs
 
--- those that are not 0
 unfoldable pub nonZero : List ℕ → List ℕ
-nonZero [] = []
-nonZero (n ∷ ns) = if eqb n 0 then nonZero ns else n ∷ nonZero ns
+nonZero ns = filter (λ n. not (eqb n 0)) ns
 
 unfoldable pub isEmpty : {A : Type 0} → List A → Bool
 isEmpty [] = true
