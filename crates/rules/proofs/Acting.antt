@@ -2,7 +2,7 @@
 use Prim.Native.Nat.{ℕ, zero, suc}
 use native.Mathlib.Omega.{arith}
 use mathlib.Core.Path.{_≡_, refl, sym, ap, _∙_}
-use mathlib.Core.Bool.{true, not, _&&_}
+use mathlib.Core.Bool.{true}
 use mathlib.Core.Logic.{_⊎_, inl, inr, ⊎-elim}
 use mathlib.Core.List.{List, [], _∷_}
 use lib.Dec.{eqb}
@@ -23,23 +23,20 @@ use Rattle.rules.specs.Install as Install
 use Rattle.rules.specs.Ladder.{status}
 use Rattle.rules.specs.Number.{Read, got, bad}
 use Rattle.rules.specs.OpenClose as OpenClose
-use Rattle.rules.specs.Privileges as Privileges
-use Rattle.rules.specs.Privileges.{assignPrimaryToken, tcb}
 use Rattle.rules.specs.Query as Query
 use Rattle.rules.specs.Request as Request
 use Rattle.rules.specs.Request.{parse, Request}
 use Rattle.rules.specs.Restrict as Restrict
 use Rattle.rules.specs.Run.{Serving, servedBy}
 use Rattle.rules.specs.Serve.{rule, decided, decision, serve}
-use Rattle.rules.specs.State.{State, withTokens, withHandles, withStations, stationAt, changeStation, setToken, clientAt, setClient, numberOf, caller, held, putToken, changeToken, used, addToken, addHandle, dropHandle, clientToken, released}
+use Rattle.rules.specs.State.{State, withTokens, withHandles, withStations, stationAt, changeStation, setToken, clientAt, setClient, numberOf, putToken, changeToken, used, addToken, addHandle, dropHandle, clientToken, released}
 use Rattle.rules.specs.Station.{Station, Client, noClient, startStation, withToken, withClient}
 use Rattle.rules.specs.Table.{lives}
 use Rattle.rules.specs.Token.{Token}
 use Rattle.rules.proofs.Logic.{not-both, either, map-mem, mem-map}
-use Rattle.rules.proofs.Tables.{on-if}
 use Rattle.rules.proofs.Facts.{Loose}
 use Rattle.rules.proofs.Changes.{by-client}
-use Rattle.rules.proofs.Steps.{Ends, ended}
+use Rattle.rules.proofs.Steps.{Ends, ended, install-marked, client-marked}
 use Rattle.rules.proofs.Ladder.{ladder}
 
 -- ---- on a valid state
@@ -96,14 +93,12 @@ module _ (d : State) (s : ℕ) where
 
   -- used marks change no station
   install-marks : (t : Token) → SameStations (Install.marked s t d)
-  unfolding Install.marked SameStations used changeToken putToken withTokens
-  install-marks t = let once = used assignPrimaryToken s d in on-if SameStations (Install.matches t (caller d s)) once (used tcb s once) (λ e. refl) (λ e. refl)
+  unfolding SameStations used changeToken putToken withTokens
+  install-marks t = install-marked SameStations d s t refl refl
 
   client-marks : (t : Token) → SameStations (Impersonate.marked s t d)
-  unfolding Impersonate.marked SameStations used changeToken putToken withTokens
-  client-marks t =
-      on-if SameStations (not (Impersonate.alike (caller d s) t) && held d s Privileges.impersonate) (used Privileges.impersonate s d) d
-      (λ e. refl) (λ e. refl)
+  unfolding SameStations used changeToken putToken withTokens
+  client-marks t = client-marked SameStations d s t refl refl
 
   installs : (t : Token) (n k : ℕ) → clientAt (released (setToken s n (Install.marked s t d))) k ≡ clientAt d k
   unfolding clientAt stationAt released setToken changeStation withStations withTokens withToken SameStations

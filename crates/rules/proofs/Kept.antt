@@ -2,7 +2,7 @@
 use Prim.Native.Nat.{ℕ, _+_, _^_, _<_, _≤_}
 use native.Mathlib.Omega.{arith}
 use mathlib.Core.Path.{_≡_, refl, sym, ap, _∙_, subst}
-use mathlib.Core.Bool.{true, not, _&&_}
+use mathlib.Core.Bool.{true, _&&_}
 use mathlib.Core.List.{List, map}
 use lib.Dec.{leb, ltb}
 use lib.ListN.{length, length-map}
@@ -25,14 +25,13 @@ use Rattle.rules.specs.Install as Install
 use Rattle.rules.specs.Mask.{allRights, validMask}
 use Rattle.rules.specs.Number.{max64, Read, got, bad}
 use Rattle.rules.specs.OpenClose as OpenClose
-use Rattle.rules.specs.Privileges.{createToken, assignPrimaryToken, tcb, existing, granted}
-use Rattle.rules.specs.Privileges as Privileges
+use Rattle.rules.specs.Privileges.{createToken, assignPrimaryToken, tcb, impersonate, existing, granted}
 use Rattle.rules.specs.Query as Query
 use Rattle.rules.specs.Request as Request
 use Rattle.rules.specs.Request.{parse, Request}
 use Rattle.rules.specs.Restrict as Restrict
 use Rattle.rules.specs.Serve.{rule, decided, decision, serve}
-use Rattle.rules.specs.State.{stationCount, withTokens, setToken, setClient, held, numberOf, tokenOf, callerNumber, caller, putToken, changeToken, usedOn, used, canAddToken, handleOf, canAddHandle, released, State}
+use Rattle.rules.specs.State.{stationCount, withTokens, setToken, setClient, numberOf, tokenOf, callerNumber, caller, putToken, changeToken, usedOn, used, canAddToken, handleOf, canAddHandle, released, State}
 use Rattle.rules.specs.Station.{noClient}
 use Rattle.rules.specs.Table.{someFree, withSlots, canAdd}
 use Rattle.rules.specs.Token.{maxGroups, maxRestricting, primary, impersonation, primaryOf, newToken, Token}
@@ -45,7 +44,7 @@ use Rattle.rules.proofs.Changes.{numbersOf, put-numbers, put-room, none
 use Rattle.rules.proofs.Widths.{Got, sid32, Fits, parsed}
 use Rattle.rules.proofs.GroupsKept.{all-entered}
 use Rattle.rules.proofs.TokensKept.{After, used-after, privileges-after, groups-after, scope-after, defaults-after, new-facts, duplicated-made, restricted-made}
-use Rattle.rules.proofs.Steps.{Advance, stays, _then_, Is, token-ok, is-live, is-caller, change, open-step, issue-step, close-step, token-step, client-step, Ends, Keeps, ended, Found, on-handle}
+use Rattle.rules.proofs.Steps.{Advance, stays, _then_, Is, token-ok, is-live, is-caller, change, open-step, issue-step, close-step, token-step, client-step, Ends, Keeps, ended, Found, on-handle, install-marked, client-marked}
 
 -- ---- the token of a number, over a step
 
@@ -98,20 +97,16 @@ marked-next : (d : State) (s n : ℕ) → used n s d .tokens .next ≡ d .tokens
 unfolding used changeToken putToken withTokens withSlots
 marked-next d s n = refl
 
--- request 11's marks
 pub marks : (d : State) (s : ℕ) (t : Token) → StateFacts d → s < stationCount → Marked d (Install.marked s t d)
-unfolding Install.marked has
+unfolding has
 marks d s t f in8 =
     let once = used assignPrimaryToken s d in
     let m : Marked d once = mark d s assignPrimaryToken f in8 refl in
-    on-if (Marked d) (Install.matches t (caller d s)) once (used tcb s once) (λ e. m) (λ e. mark-again d once (used tcb s once) m (mark once s tcb (m .step .facts) in8 refl))
+    install-marked (Marked d) d s t m (mark-again d once (used tcb s once) m (mark once s tcb (m .step .facts) in8 refl))
 
--- request 12's mark
 pub client-marks : (d : State) (s : ℕ) (t : Token) → StateFacts d → s < stationCount → Marked d (Impersonate.marked s t d)
-unfolding Impersonate.marked has
-client-marks d s t f in8 =
-    on-if (Marked d) (not (Impersonate.alike (caller d s) t) && held d s Privileges.impersonate) (used Privileges.impersonate s d) d
-    (λ e. mark d s Privileges.impersonate f in8 refl) (λ e. record { step = stays f; is = λ n i. i })
+unfolding has
+client-marks d s t f in8 = client-marked (Marked d) d s t (mark d s impersonate f in8 refl) (record { step = stays f; is = λ n i. i })
 
 -- ---- the level in force
 

@@ -1,11 +1,11 @@
 -- The restricting SIDs of a copy: where they come from. Assumes nothing.
 use Prim.Native.Nat.{ℕ}
 use mathlib.Core.Path.{_≡_, refl}
-use mathlib.Core.Bool.{Bool, true, false, not}
+use mathlib.Core.Bool.{true, not}
 use mathlib.Core.Logic.{_⊎_, inl, inr}
 use mathlib.Core.List.{List, [], _∷_}
 use Rattle.rules.specs.Basic.{isEmpty}
-use Rattle.rules.specs.Growth.{Mem, here, there}
+use Rattle.rules.specs.Growth.{Mem}
 use Rattle.rules.specs.Restrict.{restrictingTo}
 use Rattle.rules.proofs.Logic.{not-both, mem-filter}
 
