@@ -36,7 +36,7 @@ extern "C" {
 #define OBRISKA_HANDLES 32 /* live handles at most, of all stations together */
 
 #define OBRISKA_MAX_GROUPS 64      /* of a token */
-#define OBRISKA_MAX_RESTRICTING 16 /* restricting SIDs of a token */
+#define OBRISKA_MAX_RESTRICTING 16 /* restricting SIDs of a token; with any it is restricted */
 #define OBRISKA_MAX_DACL 256       /* bytes of a token's default DACL */
 
 #define OBRISKA_ANSWER_LEN 1024 /* the shortest answer buffer, and the longest answer */
@@ -67,6 +67,7 @@ enum obriska_token_word {
     OBRISKA_TOKEN_GROUP_COUNT = 17,
     OBRISKA_TOKEN_RESTRICTING_COUNT = 18,
     OBRISKA_TOKEN_DACL_LENGTH = 19,
+    OBRISKA_TOKEN_ROOT = 20, /* whom it descends from, or OBRISKA_NO_ROOT */
     OBRISKA_TOKEN_GROUPS, /* the first group: SID in the low half, attributes in the high */
     OBRISKA_TOKEN_RESTRICTING = OBRISKA_TOKEN_GROUPS + OBRISKA_MAX_GROUPS /* the first SID */
 };
@@ -159,12 +160,14 @@ enum obriska_refusal {
     OBRISKA_REFUSED_HANDLE = 2,     /* not a live handle of this station */
     OBRISKA_REFUSED_RIGHT = 3,      /* the handle lacks the right */
     OBRISKA_REFUSED_PRIVILEGE = 4,  /* the privilege is not enabled on the station's token */
-    OBRISKA_REFUSED_FIELD = 5,      /* a bad field or entry, an unknown class, or installing a token
-                                       that is not primary */
+    OBRISKA_REFUSED_FIELD = 5,      /* a bad field or entry, an unknown class, installing a token that
+                                       is not primary, or restricting a restricted one by none of
+                                       its SIDs or, without the mark, to writes only */
     OBRISKA_REFUSED_PROTECTED = 6,  /* an entry names a mandatory, deny-only or logon group, or
                                        disables one with the user's SID */
     OBRISKA_REFUSED_MISMATCH = 7,   /* installing a token of another user or session */
-    OBRISKA_REFUSED_FULL = 8,       /* no free slot, no number left, or too many restricting SIDs */
+    OBRISKA_REFUSED_FULL = 8,       /* no free slot, no number left, or too many restricting SIDs for
+                                       an unrestricted token */
     OBRISKA_REFUSED_CAPACITY = 9,   /* the report is larger than the capacity; its size follows */
     OBRISKA_REFUSED_BROKEN = 10,    /* a bad length: the stream is broken until a reconnect */
     OBRISKA_REFUSED_STATION = 11,   /* there is no such station */
@@ -178,7 +181,8 @@ enum obriska_refusal {
  * byte, low bits first, the top bit set on all bytes but the last:
  *
  *   1, 3, 9, 10  the number of the new handle;
- *   4            the report of the class, in which a DACL's bytes are plain;
+ *   4            the report of the class, in which a DACL's bytes are plain. Class 9 has number,
+ *                session, modified number, type and root;
  *   5            two words of before the change, at the bits of the named privileges: which were
  *                present, then which were enabled. In both 0, a privilege was absent; in the first
  *                alone 1, it was disabled. A reset answers both words whole;
@@ -206,6 +210,11 @@ enum obriska_refusal {
 #define OBRISKA_GROUP_OWNER 0x08u
 #define OBRISKA_GROUP_DENY_ONLY 0x10u
 #define OBRISKA_GROUP_LOGON_ID 0xC0000000u
+
+/* A token's root is the number of the started or created token that it descends from, which may be
+ * gone; its own number for those. It never changes. An anonymous copy (impersonation at level 0) has
+ * none, and so has all that is made from one, a primary token too. */
+#define OBRISKA_NO_ROOT 0u
 
 /* ---- the calls ------------------------------------------------------------------------------ */
 

@@ -44,9 +44,9 @@ enum { ARRAYS = 5 };
 /* docs/MEMORY.md, the first table. */
 static void the_memory_has_the_sizes_of_the_docs(void)
 {
-    EXPECT(sizeof memory.tokens == 12800 && sizeof memory.dacls == 4096);
+    EXPECT(sizeof memory.tokens == 12928 && sizeof memory.dacls == 4096);
     EXPECT(sizeof memory.handles == 512 && sizeof memory.control == 208);
-    EXPECT(sizeof memory.pending == 16400 && sizeof memory == 34016);
+    EXPECT(sizeof memory.pending == 16400 && sizeof memory == 34144);
 }
 
 static void start_asks_for_the_sizes_only(void)
@@ -66,6 +66,7 @@ static void start_asks_for_the_sizes_only(void)
     EXPECT(obriska_memory_start(m) == 0);
     EXPECT(m->tokens[OBRISKA_TOKEN_NUMBER] == 1 && m->tokens[OBRISKA_TOKEN_SESSION] == 999);
     EXPECT(m->tokens[OBRISKA_TOKEN_USER] == 18 && m->tokens[OBRISKA_TOKEN_PRESENT] == 0x1FFFFFFFFC);
+    EXPECT(m->tokens[OBRISKA_TOKEN_ROOT] == 1 && m->tokens[OBRISKA_TOKEN_GROUPS] == 0);
     EXPECT(m->tokens[OBRISKA_TOKEN_WORDS] == 0 && m->tokens[OBRISKA_TOKENS_LEN - 1] == 0);
     EXPECT(m->control[OBRISKA_NEXT_TOKEN] == 2 && m->control[OBRISKA_NEXT_HANDLE] == 1);
     for (size_t station = 0; station < OBRISKA_STATIONS; station++) {
@@ -180,6 +181,45 @@ static void request_5_tells_absent_disabled_and_enabled_apart(void)
     EXPECT(answers(remove_tcb, sizeof remove_tcb, was_absent, sizeof was_absent));
 }
 
+static void class_9_tells_the_root_which_an_anonymous_copy_has_not(void)
+{
+    static const uint8_t open_all[] = {0x03, 0x01, 0xEF, 0x03};
+    static const uint8_t copy_own[] = {0x06, 0x09, 0x01, 0x01, 0x00, 0xEF, 0x03};
+    static const uint8_t anonymous_copy[] = {0x06, 0x09, 0x02, 0x02, 0x00, 0xEF, 0x03};
+    static const uint8_t copy_anonymous[] = {0x06, 0x09, 0x03, 0x01, 0x00, 0xEF, 0x03};
+    static const uint8_t of_own[] = {0x07, 0x00, 0x01, 0xE7, 0x07, 0x01, 0x01, 0x01};
+    static const uint8_t of_copy[] = {0x07, 0x00, 0x02, 0xE7, 0x07, 0x02, 0x01, 0x01};
+    static const uint8_t of_anonymous[] = {0x06, 0x00, 0x03, 0x00, 0x03, 0x02, 0x00};
+    static const uint8_t of_its_copy[] = {0x06, 0x00, 0x04, 0x00, 0x04, 0x01, 0x00};
+    static const uint64_t roots[] = {1, 1, OBRISKA_NO_ROOT, OBRISKA_NO_ROOT};
+    uint8_t query[] = {0x04, 0x04, 0x01, 0x09, 0x40};
+    EXPECT(obriska_memory_start(&memory) == 0);
+    EXPECT(is(feed(0, open_all, sizeof open_all), 0, 4, 3));
+    EXPECT(is(feed(0, copy_own, sizeof copy_own), 0, 7, 3));
+    EXPECT(is(feed(0, anonymous_copy, sizeof anonymous_copy), 0, 7, 3));
+    EXPECT(is(feed(0, copy_anonymous, sizeof copy_anonymous), 0, 7, 3));
+    for (size_t slot = 0; slot < sizeof roots / sizeof roots[0]; slot++)
+        EXPECT(memory.tokens[slot * OBRISKA_TOKEN_WORDS + OBRISKA_TOKEN_ROOT] == roots[slot]);
+    EXPECT(answers(query, sizeof query, of_own, sizeof of_own));
+    query[2] = 2;
+    EXPECT(answers(query, sizeof query, of_copy, sizeof of_copy));
+    query[2] = 3;
+    EXPECT(answers(query, sizeof query, of_anonymous, sizeof of_anonymous));
+    query[2] = 4;
+    EXPECT(answers(query, sizeof query, of_its_copy, sizeof of_its_copy));
+}
+
+static void a_root_above_the_tokens_number_is_refused(void)
+{
+    EXPECT(obriska_memory_start(&memory) == 0);
+    for (uint64_t root = 0; root <= 2; root++) {
+        memory.tokens[OBRISKA_TOKEN_ROOT] = root;
+        before = memory;
+        EXPECT(is(feed(0, open_own, 0), root <= 1 ? 0 : OBRISKA_REFUSED_MEMORY, 0, 0));
+        EXPECT(unchanged());
+    }
+}
+
 static void a_request_is_answered_at_its_last_byte(void)
 {
     const uint8_t *pending = &memory.pending[3 * OBRISKA_PENDING_BYTES];
@@ -239,6 +279,8 @@ int main(void)
     the_lowest_of_11_to_13_refuses_a_call_and_nothing_is_written();
     a_feed_ends_at_the_first_request();
     request_5_tells_absent_disabled_and_enabled_apart();
+    class_9_tells_the_root_which_an_anonymous_copy_has_not();
+    a_root_above_the_tokens_number_is_refused();
     a_request_is_answered_at_its_last_byte();
     a_broken_stream_ignores_bytes_until_a_reconnect();
     find_gives_the_stations_live_handle();

@@ -195,15 +195,15 @@ module _ (s : ℕ) (chunk : List ℕ) {hs : List Handle} {cs ts ds row : List �
       zeroed-row : zeroed (r .count) row₁ ≡ replicate pendingBytes 0
       zeroed-row = row-zeroed (stationAt σ s .pending) (stopAt σ s chunk .joined) row₁ (r .count) (joined-longer (stationAt σ s .pending) chunk) joined-count (j .fits) after
 
-    pub chunk-joins : r .what ≡ code.Part → {cs′ out : List ℕ} {u : Turn} → PartKept s (r .count) (r .used) cs cs′ u
+    pub chunk-joins : r .what ≡ code.Part → {used : ℕ} {cs′ out : List ℕ} {u : Turn} → PartKept s (r .count) used cs cs′ u → used ≡ r .used
         → RowFed s chunk ts ds hs cs row out ts ds cs′ row₁ out u
     unfolding buffer stationRow pendingRow withPending
-    chunk-joins q w = record {
+    chunk-joins q w d = record {
       fed = λ σ v p e.
           let t = stop σ v p e in
           rw (fed-part σ s (inside σ v s h) (unbroken σ v p e) chunk (sym (ap (λ x. x .what) t) ∙ ap (framedOf row₁ (r .count)) q), w .turn) (record {
             refusal = refl;
-            used = ap (λ x. x .used) t;
+            used = d ∙ ap (λ x. x .used) t;
             answered = refl;
             answer = refl;
             parts = parts-set (w .control) σ (withPending (stopAt σ s chunk .joined)) (λ x. ap (λ (n : ℕ). streamRow n false (stationRow x)) (joined-count σ v p e)) (parts-kept σ v p);
@@ -254,7 +254,7 @@ module _ (s : ℕ) (chunk : List ℕ) {hs : List Handle} {cs ts ds row : List �
 
 -- ---- valid memory
 
-module _ (s : ℕ) (chunk : List ℕ) (hs : List Handle) (ts ds cs ps : List ℕ) (h : s < stationCount) (v : Memory.valid (memoryOf ts ds hs cs ps) ≡ true) where
+module _ (s : ℕ) (hs : List Handle) (ts ds cs ps : List ℕ) (h : s < stationCount) (v : Memory.valid (memoryOf ts ds hs cs ps) ≡ true) where
   abbrev held : State
   held = decode (memoryOf ts ds hs cs ps)
 
@@ -277,10 +277,10 @@ module _ (s : ℕ) (chunk : List ℕ) (hs : List Handle) (ts ds cs ps : List ℕ
   pub row-held : RowHeld s ts ds hs cs lent
   row-held = record { state = held; isValid = state-valid; parts = held-parts ts ds hs cs ps v; pending = lent-row }
 
-  pub accepts : {out cs′ ts′ ds′ row′ out′ : List ℕ} {u : Turn} → RowFed s chunk ts ds hs cs lent out ts′ ds′ cs′ row′ out′ u
+  pub accepts : {chunk out cs′ ts′ ds′ row′ out′ : List ℕ} {u : Turn} → RowFed s chunk ts ds hs cs lent out ts′ ds′ cs′ row′ out′ u
       → Accepted s chunk ts ds hs cs ps out ts′ ds′ cs′ (take (s * pendingBytes) ps ++ (row′ ++ drop (s * pendingBytes + pendingBytes - s * pendingBytes) (drop (s * pendingBytes) ps))) out′ u
   unfolding written
-  accepts {out} {cs′} {ts′} {ds′} {row′} {out′} {u} r =
+  accepts {chunk} {out} {cs′} {ts′} {ds′} {row′} {out′} {u} r =
       let f = r .fed held state-valid (held-parts ts ds hs cs ps v) lent-row in
       record {
         fed = record {

@@ -1,35 +1,34 @@
--- Request 10's lists: the indexes as the rule judges them, and a step in the row for each index or SID. Assumes nothing.
-use Prim.Native.Nat.{ℕ, _+_, _-_, _^_, _%_, _≤_, _<_}
+-- Request 10's indexes of groups, as the rule judges them, and a step in the row for each. Assumes nothing.
+use Prim.Native.Nat.{ℕ, _-_, _^_, _%_, _≤_, _<_}
 use native.Mathlib.Omega.{arith}
-use mathlib.Core.Path.{_≡_, refl, sym, ap, ap₂, _∙_}
+use mathlib.Core.Path.{_≡_, refl, ap, ap₂, _∙_, subst}
 use mathlib.Core.Bool.{Bool, true, false, not, _&&_}
-use mathlib.Core.List.{List, [], _∷_, map, append-nil, append-assoc}
+use mathlib.Core.List.{List, [], _∷_, _++_, map}
 use mathlib.Core.Logic.{⊎-elim}
 use lib.Bits.{bitOr}
 use lib.Dec.{ltb}
-use lib.ListN.{length, drop, length-append}
+use lib.ListN.{length, drop}
 use borrow.Author.Tests.{ltb-true}
-use Rattle.rules.specs.Basic.{if_then_else_, all, distinct}
+use Rattle.rules.specs.Basic.{if_then_else_, all, distinct, changeAt}
 use Rattle.rules.specs.Bits.{has}
-use Rattle.rules.specs.Number.{Read, got, bad, max32}
+use Rattle.rules.specs.Number.{max32}
 use Rattle.rules.specs.Entry.{Entry, keyOf, applyAll}
 use Rattle.rules.specs.AdjustPrivileges.{named}
 use Rattle.rules.specs.Group.{Group, denied}
-use Rattle.rules.specs.Token.{Token, maxGroups, maxRestricting, withGroups}
+use Rattle.rules.specs.Token.{Token, maxGroups, withGroups}
 use Rattle.rules.specs.Memory.{tokenWords, tokenRow}
-use Rattle.rules.specs.Request.{follow, give, times, u32}
+use Rattle.rules.specs.Request.{times, u32}
 use Rattle.rules.specs.Restrict.{isBelow, deniedAll}
 use Rattle.rules.proofs.Logic.{and-l, and-r, length-changeAt, mem-changeAt}
 use Rattle.number.specs.declared.Number.{Number}
 use Rattle.number.specs.declared.Number.the-variants as number
 use Rattle.number.specs.Meaning.{NumberAt}
-use Rattle.number.proofs.Reading.{is-bad, is-value}
 use Rattle.body.specs.Entries.{entryOf, Progress, going, stopped, turned, foldAll, folded}
-use Rattle.body.proofs.Pairs.{joined, times-end, times-lost, times-next}
 use Rattle.body.proofs.Passes.{turn-good, turn-bad, all-passed}
 use Rattle.body.proofs.Folding.{fold-end, fold-lost, fold-next}
-use Rattle.copy.specs.DeniedGroups.{marksOf, inRange, kept, marked, IndexesJudged, Packed, denyIn, DeniedAt, GroupsDenied, withSids, addIn, SidAdded, SidsAdded}
+use Rattle.copy.specs.DeniedGroups.{marksOf, inRange, kept, marked, IndexesJudged, Packed, denyIn, DeniedAt, GroupsDenied}
 use Rattle.copy.specs.declared.denied_groups.Marks.{Marks}
+use Rattle.copy.proofs.Numbers.{no-number, one-number, Walk, walk-begin, walk-end, walk-lost, walk-next}
 
 -- ---- one index more, judged
 
@@ -80,17 +79,6 @@ same-end x y v w true false e = cc
 same-end x y v w false true e = cc
 same-end x y v w false false e = refl
 
--- a number that was read, and one that was not there
-module _ (s : List ℕ) (at : ℕ) (r : Number) (f : NumberAt s at max32 r) where
-  no-number : r ≡ number.Bad → bad ≡ u32 (drop at s)
-  unfolding u32
-  no-number g = is-bad s at max32 r f g
-
-  module _ (v q : ℕ) (g : r ≡ number.Value v q) where
-    one-number : got v (drop q s) ≡ u32 (drop at s)
-    unfolding u32
-    one-number = is-value s at max32 r f v q g
-
 module _ (size : ℕ) (s : List ℕ) (at count : ℕ) where
   abbrev pub marking : Progress (Unit {0})
   marking = folded (marked size) stopped (going tt 0) (times count u32 (drop at s))
@@ -115,51 +103,10 @@ module _ (size : ℕ) (s : List ℕ) (at count : ℕ) where
       marks-next i q g m′ e =
           fold-next u32 (marked size) stopped s from left (marksOf m) marking inv h i q (one-number s from n f i q g) (marksOf m′) e
 
--- ---- numbers read one after the other, and a step in the row for each
-
-taken-apart : (a : ℕ) (r : Read (List ℕ)) (rest later : List ℕ) → joined u32 a r ≡ got rest later → (after : List ℕ) × (a ∷ after ≡ rest) × (r ≡ got after later)
-unfolding follow give
-taken-apart a (got xs l) rest later e = (xs, cc, cc)
-taken-apart a bad rest later e = let z : _≡_ {A = ℕ} 0 1 = cc in absurd (omega arith)
-
--- the row is that of a token `now`, which the steps for `rest` make z
-pub record Stepping (step : ℕ → Token → Token) (P : Token → Type 0) (s : List ℕ) (z : Token) (later : List ℕ) (from left : ℕ) (ws : List ℕ) : Type 0 where
-  pub now : Token
-  pub rest : List ℕ
-  pub row : ws ≡ tokenRow now
-  pub fits : P now
-  pub ends : foldAll step rest now ≡ z
-  pub more : times left u32 (drop from s) ≡ got rest later
-
-module _ (step : ℕ → Token → Token) (P : Token → Type 0) (s : List ℕ) {z : Token} {later : List ℕ} {from left : ℕ} {ws : List ℕ} (k : Stepping step P s z later from left ws) where
-  step-end : left ≤ 0 → ws ≡ tokenRow z
-  unfolding foldAll
-  step-end h =
-      let e : got [] (drop from s) ≡ got (k .rest) later = sym (times-end u32 left (drop from s) h) ∙ k .more in
-      let none : [] ≡ k .rest = cc in
-      k .row ∙ ap tokenRow (ap (λ (l : List ℕ). foldAll step l (k .now)) none ∙ k .ends)
-
-  module _ (h : 0 < left) where
-    step-lost : bad ≡ u32 (drop from s) → ⊥
-    step-lost e =
-        let f = sym (times-lost u32 left (drop from s) h e) ∙ k .more in
-        let z : _≡_ {A = ℕ} 0 1 = cc in omega arith
-
-    step-more : (Q : Token → Type 0) (v q : ℕ) → got v (drop q s) ≡ u32 (drop from s) → {ws′ : List ℕ}
-        → ((t : Token) → P t → ws ≡ tokenRow t → ws′ ≡ tokenRow (step v t)) → ((t : Token) → P t → Q (step v t)) → Stepping step Q s z later q (left - 1) ws′
-    unfolding foldAll
-    step-more Q v q e f g =
-        let j = taken-apart v (times (left - 1) u32 (drop q s)) (k .rest) later (sym (times-next u32 left (drop from s) (drop q s) v h e) ∙ k .more) in
-        record {
-          now = step v (k .now);
-          rest = j .0;
-          row = f (k .now) (k .fits) (k .row);
-          fits = g (k .now) (k .fits);
-          ends = ap (λ (l : List ℕ). foldAll step l (k .now)) (j .1) ∙ k .ends;
-          more = j .2;
-        }
-
 -- ---- the groups
+
+abbrev deniedOf : List ℕ → Token → Token
+deniedOf is t = withGroups (deniedAll is (t .groups)) t
 
 abbrev Sized : ℕ → Token → Type 0
 Sized size t = (length (t .groups) ≡ size) × Packed t
@@ -171,92 +118,40 @@ deny-sized size i t h = (
   λ g m. ⊎-elim (λ w. omega (arith, h .1 (w .0) (w .1), ap (λ (x : Group). x .sid) (w .2))) (λ w. h .1 g w) (mem-changeAt (t .groups) i denied m),
 )
 
-all-denied : (is : List ℕ) (t : Token) → foldAll denyIn is t ≡ withGroups (deniedAll is (t .groups)) t
-unfolding foldAll denyIn deniedAll withGroups
-all-denied [] t = refl
-all-denied (i ∷ is) t = all-denied is (denyIn i t)
+-- the last index may as well be denied after the others
+denied-last : (is : List ℕ) (i : ℕ) (gs : List Group) → changeAt i denied (deniedAll is gs) ≡ deniedAll (is ++ (i ∷ [])) gs
+unfolding deniedAll
+denied-last [] i gs = refl
+denied-last (j ∷ is) i gs = denied-last is i (changeAt j denied gs)
 
--- so far in the loop, from the row ws₀
+-- from the row ws₀ to ws
+abbrev Denied : (size : ℕ) (ws₀ ws : List ℕ) → List ℕ → Type 0
+Denied size ws₀ ws is = (t : Token) → Sized size t → ws₀ ≡ tokenRow t → (ws ≡ tokenRow (deniedOf is t)) × Sized size (deniedOf is t)
+
+-- so far in the loop
 pub record Denying (size : ℕ) (s : List ℕ) (at count : ℕ) (ws₀ : List ℕ) (from left : ℕ) (ws : List ℕ) : Type 0 where
   pub long : length ws ≡ tokenWords
-  pub so-far : (is : List ℕ) (later : List ℕ) → times count u32 (drop at s) ≡ got is later
-      → (t : Token) → length (t .groups) ≡ size → Packed t → ws₀ ≡ tokenRow t → Stepping denyIn (Sized size) s (foldAll denyIn is t) later from left ws
+  pub walk : Walk (Denied size ws₀ ws) s at count from left
 
 pub deny-begin : (size : ℕ) (s : List ℕ) (at count : ℕ) {ws : List ℕ} → length ws ≡ tokenWords → Denying size s at count ws at count ws
-deny-begin size s at count long = record {
-  long = long;
-  so-far = λ is later g t n p e. record { now = t; rest = is; row = e; fits = (n, p); ends = refl; more = g };
-}
+unfolding deniedAll withGroups
+deny-begin size s at count {ws} long = record { long = long; walk = walk-begin (Denied size ws ws) s at count (λ t z e. (e, z)) }
 
 module _ {size : ℕ} {s : List ℕ} {at count : ℕ} {ws₀ : List ℕ} {from left : ℕ} {ws : List ℕ} (k : Denying size s at count ws₀ from left ws) where
   pub deny-end : left ≤ 0 → GroupsDenied size s at count ws₀ ws
-  deny-end h = record {
-    long = k .long;
-    made = λ is later g t n p e. step-end denyIn (Sized size) s (k .so-far is later g t n p e) h ∙ ap tokenRow (all-denied is t);
-  }
+  deny-end h = record { long = k .long; made = λ is later g t n p e. walk-end (k .walk) g h t (n, p) e .0 }
 
   module _ (h : 0 < left) (n : Number) (f : NumberAt s from max32 n) where
     pub deny-lost : n ≡ number.Bad → GroupsDenied size s at count ws₀ ws
-    deny-lost b = record {
-      long = k .long;
-      made = λ is later g t m p e. absurd (step-lost denyIn (Sized size) s (k .so-far is later g t m p e) h (no-number s from n f b));
-    }
+    deny-lost b = record { long = k .long; made = λ is later g t m p e. absurd (walk-lost (k .walk) g h n f b) }
 
     pub deny-next : (i q : ℕ) → n ≡ number.Value i q → {ws′ : List ℕ} → DeniedAt size i ws ws′ → Denying size s at count ws₀ q (left - 1) ws′
-    deny-next i q v d = record {
+    unfolding denyIn withGroups
+    deny-next i q v {ws′} d = record {
       long = d .long;
-      so-far = λ is later g t m p e.
-          step-more denyIn (Sized size) s (k .so-far is later g t m p e) h (Sized size) i q (one-number s from n f i q v)
-          (λ u z. d .made u (z .0) (z .1)) (deny-sized size i);
-    }
-
--- ---- the SIDs
-
-abbrev Having : ℕ → Token → Type 0
-Having n t = length (t .limits .restricting) ≡ n
-
-add-having : (n sid : ℕ) (t : Token) → Having n t → Having (n + 1) (addIn sid t)
-unfolding addIn withSids
-add-having n sid t h = length-append (t .limits .restricting) (sid ∷ []) ∙ ap (λ (k : ℕ). k + 1) h
-
-all-added : (sids : List ℕ) (t : Token) → foldAll addIn sids t ≡ withSids sids t
-unfolding foldAll addIn withSids
-all-added [] t = rw append-nil
-all-added (i ∷ sids) t = all-added sids (addIn i t) ∙ rw append-assoc
-
--- so far in the loop, from a row that has k SIDs to one that has n
-pub record Adding (k : ℕ) (s : List ℕ) (at count : ℕ) (ws₀ : List ℕ) (n from left : ℕ) (ws : List ℕ) : Type 0 where
-  pub long : length ws ≡ tokenWords
-  pub room : n + left ≤ maxRestricting
-  pub so-far : (sids : List ℕ) (later : List ℕ) → times count u32 (drop at s) ≡ got sids later
-      → (t : Token) → length (t .limits .restricting) ≡ k → ws₀ ≡ tokenRow t → Stepping addIn (Having n) s (foldAll addIn sids t) later from left ws
-
-pub add-begin : (k : ℕ) (s : List ℕ) (at count : ℕ) {ws : List ℕ} → length ws ≡ tokenWords → k + count ≤ maxRestricting → Adding k s at count ws k at count ws
-add-begin k s at count long room = record {
-  long = long;
-  room = room;
-  so-far = λ sids later g t n e. record { now = t; rest = sids; row = e; fits = n; ends = refl; more = g };
-}
-
-module _ {k : ℕ} {s : List ℕ} {at count : ℕ} {ws₀ : List ℕ} {n from left : ℕ} {ws : List ℕ} (a : Adding k s at count ws₀ n from left ws) where
-  pub add-end : left ≤ 0 → SidsAdded k s at count ws₀ ws
-  add-end h = record {
-    long = a .long;
-    made = λ sids later g t m e. step-end addIn (Having n) s (a .so-far sids later g t m e) h ∙ ap tokenRow (all-added sids t);
-  }
-
-  module _ (h : 0 < left) (r : Number) (f : NumberAt s from max32 r) where
-    pub add-lost : r ≡ number.Bad → SidsAdded k s at count ws₀ ws
-    add-lost b = record {
-      long = a .long;
-      made = λ sids later g t m e. absurd (step-lost addIn (Having n) s (a .so-far sids later g t m e) h (no-number s from r f b));
-    }
-
-    pub add-next : (sid q : ℕ) → r ≡ number.Value sid q → {ws′ : List ℕ} → SidAdded n sid ws ws′ → Adding k s at count ws₀ (n + 1) q (left - 1) ws′
-    add-next sid q v d = record {
-      long = d .long;
-      room = let room = a .room in omega arith;
-      so-far = λ sids later g t m e.
-          step-more addIn (Having n) s (a .so-far sids later g t m e) h (Having (n + 1)) sid q (one-number s from r f sid q v)
-          (λ u z. d .made u z) (add-having n sid);
+      walk = walk-next (k .walk) h n f i q v (Denied size ws₀ ws′) (λ is so-far t z e.
+          let u = so-far t z e in
+          let t₁ = deniedOf is t in
+          subst (λ (gs : List Group). (ws′ ≡ tokenRow (withGroups gs t)) × Sized size (withGroups gs t)) (denied-last is i (t .groups))
+          (d .made t₁ (u .1 .0) (u .1 .1) (u .0), deny-sized size i t₁ (u .1)));
     }

@@ -1,6 +1,7 @@
 pub mod Copies
 pub mod DuplicateEnding
+pub mod Numbers
 pub mod RestrictedRow
 pub mod DeniedGroups
-pub mod Restricting
+pub mod RestrictingSids
 pub mod RestrictEnding

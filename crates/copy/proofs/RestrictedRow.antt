@@ -1,15 +1,15 @@
--- Request 10's changes in a token's row: a group's word, one SID more, the head's words. Assumes nothing.
-use Prim.Native.Nat.{ℕ, zero, suc, _+_, _*_, _-_, _/_, _%_, _≤_, _<_}
-use native.Mathlib.Nat.{add-comm, zero-add, suc-add}
+-- Request 10's changes in a token's row: a group's word, the head's words. Assumes nothing.
+use Prim.Native.Nat.{ℕ, zero, suc, _+_, _*_, _/_, _%_, _≤_, _<_}
+use native.Mathlib.Nat.{add-comm}
 use native.Mathlib.Omega.{arith}
 use mathlib.Core.Path.{_≡_, refl, sym, ap, _∙_}
 use mathlib.Core.Bool.{Bool, true, false, _||_}
 use mathlib.Core.List.{List, [], _∷_, _++_, map}
 use lib.Arith.{digits-div, digits-mod}
 use lib.Dec.{eqb}
-use lib.ListN.{length, take, getD, set, replicate, length-append, length-map, length-set, List·getD-append}
-use lib.Seq.{append-snoc, getD-append-add, getD-take, set-append-seam, set-append-left, take-set-lt}
-use Rattle.table.specs.Lists.{pad, length-pad, pad-fits}
+use lib.ListN.{length, take, getD, set, replicate, length-map, length-set, List·getD-append}
+use lib.Seq.{getD-append-add, getD-take, set-append-left, take-set-lt}
+use Rattle.table.specs.Lists.{pad, length-pad, set-append-add}
 use Rattle.rules.specs.Basic.{if_then_else_, changeAt}
 use Rattle.rules.specs.Growth.{Mem, here, there}
 use Rattle.rules.specs.Group.{Group, denied}
@@ -24,35 +24,19 @@ use Rattle.privilege.specs.declared.privileges.Privileges.{Privileges}
 use Rattle.token.specs.Row.{privilegesIn, onWord, Becomes}
 use Rattle.state.proofs.TokenScalars.{privileges-in-row}
 use Rattle.copy.specs.Copies.{Remade}
-use Rattle.copy.specs.DeniedGroups.{Packed, denyIn, DeniedAt, withSids, addIn, SidAdded}
+use Rattle.copy.specs.DeniedGroups.{Packed, denyIn, DeniedAt}
 use Rattle.copy.specs.Restrict.{markWord, limitedTo}
 
--- ---- stores in a list of parts
-
-set-after : (xs ys : List ℕ) (n a : ℕ) → set (xs ++ ys) (length xs + n) a ≡ xs ++ set ys n a
-set-after [] ys n a = ap (λ (k : ℕ). set ys k a) (zero-add n)
-set-after (x ∷ xs) ys n a = ap (λ (k : ℕ). set (x ∷ (xs ++ ys)) k a) (suc-add (length xs) n) ∙ ap (λ (r : List ℕ). x ∷ r) (set-after xs ys n a)
+-- ---- a padded list
 
 module _ (n : ℕ) (xs : List ℕ) (i : ℕ) (h : i < length xs) (l : i < n) where
   set-pad : (v : ℕ) → set (pad n xs) i v ≡ pad n (set xs i v)
   unfolding pad
   set-pad v = sym (take-set-lt n (xs ++ replicate n 0) i v l) ∙ ap (take n) (set-append-left xs (replicate n 0) i v h)
 
-  getD-pad : getD (pad n xs) i 0 ≡ getD xs i 0
+  pub getD-pad : getD (pad n xs) i 0 ≡ getD xs i 0
   unfolding pad
   getD-pad = getD-take n (xs ++ replicate n 0) i 0 l ∙ List·getD-append xs (replicate n 0) 0 i h
-
--- the first zero becomes one element more
-pad-more : (n : ℕ) (xs : List ℕ) (v : ℕ) → length xs < n → set (pad n xs) (length xs) v ≡ pad n (xs ++ (v ∷ []))
-pad-more n xs v h =
-    let m = n - length xs - 1 in
-    let more : length (xs ++ (v ∷ [])) ≡ length xs + 1 = length-append xs (v ∷ []) in
-    ap (λ (l : List ℕ). set l (length xs) v) (pad-fits n xs (omega arith))
-    ∙ ap (λ (k : ℕ). set (xs ++ replicate k 0) (length xs) v) {x = n - length xs} {y = suc m} (omega arith)
-    ∙ set-append-seam xs 0 (replicate m 0) v
-    ∙ sym (append-snoc xs v (replicate m 0))
-    ∙ ap (λ (k : ℕ). (xs ++ (v ∷ [])) ++ replicate k 0) {x = m} {y = n - length (xs ++ (v ∷ []))} (omega arith)
-    ∙ sym (pad-fits n (xs ++ (v ∷ [])) (omega arith))
 
 -- ---- a group's word
 
@@ -91,7 +75,7 @@ module _ (t : Token) (i : ℕ) where
       let v = onWord denied (getD ws i 0) in
       ap (λ (w : ℕ). set (head t ++ (gs ++ rs)) (headWords + i) (onWord denied w))
       (getD-append-add (head t) (gs ++ rs) i 0 ∙ List·getD-append gs rs 0 i (omega arith) ∙ getD-pad maxGroups ws i (omega arith) (omega arith))
-      ∙ set-after (head t) (gs ++ rs) i v
+      ∙ set-append-add (head t) (gs ++ rs) i v
       ∙ ap (λ (l : List ℕ). head t ++ l) (set-append-left gs rs i v (omega arith))
       ∙ ap (λ (l : List ℕ). head t ++ (l ++ rs)) (set-pad maxGroups ws i (omega arith) (omega arith) v ∙ ap (pad maxGroups) (denied-among (t .groups) i h p))
       ∙ ap (λ (n : ℕ). set (head t) Head.groupCount n ++ (pad maxGroups (map pack (changeAt i denied (t .groups))) ++ rs)) (sym (length-changeAt (t .groups) i denied))
@@ -111,29 +95,6 @@ module _ (size index : ℕ) {ws : List ℕ} (long : length ws ≡ tokenWords) (f
 
   pub denies-none : size ≤ index → DeniedAt size index ws ws
   denies-none h = record { long = long; made = λ t n p q. q ∙ ap tokenRow (denied-none t index (omega arith)) }
-
--- ---- one SID more
-
-added-row : (t : Token) (sid k : ℕ) → length (t .limits .restricting) ≡ k → k < maxRestricting
-    → set (set (tokenRow t) (headWords + maxGroups + k) sid) Head.restrictingCount (k + 1) ≡ tokenRow (addIn sid t)
-unfolding tokenRow head addIn withSids
-added-row t sid k e h =
-    let gs = pad maxGroups (map pack (t .groups)) in
-    let sids = t .limits .restricting in
-    let rs = pad maxRestricting sids in
-    let long = length-pad maxGroups (map pack (t .groups)) in
-    let more : length (sids ++ (sid ∷ [])) ≡ length sids + 1 = length-append sids (sid ∷ []) in
-    ap (λ (j : ℕ). set (set (head t ++ (gs ++ rs)) j sid) Head.restrictingCount (k + 1)) {x = headWords + maxGroups + k} {y = headWords + (length gs + k)} (omega arith)
-    ∙ ap (λ (l : List ℕ). set l Head.restrictingCount (k + 1)) (set-after (head t) (gs ++ rs) (length gs + k) sid ∙ ap (λ (l : List ℕ). head t ++ l) (set-after gs rs k sid))
-    ∙ ap (λ (j : ℕ). set (head t) Head.restrictingCount (k + 1) ++ (gs ++ set rs j sid)) (sym e)
-    ∙ ap (λ (l : List ℕ). set (head t) Head.restrictingCount (k + 1) ++ (gs ++ l)) (pad-more maxRestricting sids sid (omega arith))
-    ∙ ap (λ (j : ℕ). set (head t) Head.restrictingCount j ++ (gs ++ pad maxRestricting (sids ++ (sid ∷ [])))) {x = k + 1} {y = length (sids ++ (sid ∷ []))} (omega arith)
-
-pub adds : (k sid : ℕ) {ws : List ℕ} → length ws ≡ tokenWords → k < maxRestricting → SidAdded k sid ws (set (set ws (headWords + maxGroups + k) sid) Head.restrictingCount (k + 1))
-adds k sid long h = record {
-  long = simp length-set long;
-  made = λ t e q. ap (λ (l : List ℕ). set (set l (headWords + maxGroups + k) sid) Head.restrictingCount (k + 1)) q ∙ added-row t sid k e h;
-}
 
 -- ---- the head
 

@@ -1,5 +1,5 @@
 -- What request 10 makes and does, where the indexes and the SIDs are all there. Assumes nothing.
-use Prim.Native.Nat.{ℕ, _+_, _≤_, _<_}
+use Prim.Native.Nat.{ℕ, _≤_, _<_}
 use mathlib.Core.Path.{_≡_}
 use mathlib.Core.Bool.{Bool, true, _&&_, _||_}
 use mathlib.Core.List.{List}
@@ -58,8 +58,8 @@ limitedTo n mark removed t =
     record { number = n; modified = n; elevation = 1; identity = t.identity; privileges = remove removed t.privileges; groups = t.groups; limits = record { restricting = t.limits.restricting; writeRestricted = eqb mark 1 || t.limits.writeRestricted; userDenyOnly = eqb mark 1 || t.limits.userDenyOnly }; defaults = t.defaults; scope = t.scope }
 
 -- the list is that of t's copy
-pub record TakesFrom (given : List ℕ) (groups : ℕ) (list : Sids) (t : Token) : Type 0 where
-  pub groups : length (t .groups) ≡ groups
+pub record TakesFrom (given : List ℕ) (size : ℕ) (list : Sids) (t : Token) : Type 0 where
+  pub groups : length (t .groups) ≡ size
   pub listed : Listed (restrictingTo given (t .limits .restricting)) list
   pub few : length (restrictingTo given (t .limits .restricting)) ≤ maxRestricting
 

@@ -59,7 +59,7 @@ fn refusal_of(
     if !(valid & narrows(source, f.mark, listed)) {
         return refusal::BAD_FIELD;
     }
-    if MAX_RESTRICTING as u64 < listed {
+    if (MAX_RESTRICTING as u64) < listed {
         return refusal::TABLE_FULL;
     }
     if can_issue(handles, tokens, control) {

@@ -40,7 +40,7 @@ fn given(s: &[u8], at: usize, count: u64) -> Sids
         count: 0,
         words: [0u64; MAX_RESTRICTING],
     };
-    if MAX_RESTRICTING as u64 < count {
+    if (MAX_RESTRICTING as u64) < count {
         list.count = count;
         return list;
     }
@@ -110,7 +110,7 @@ pub fn list_of(slot: usize, own: u64, tokens: &[u64], s: &[u8], at: usize, count
 }
 
 // In a row.
-pub fn restrict_to(words: &mut [u64; TOKEN_WORDS], list: Sids)
+pub fn restrict_to(words: &mut [u64], list: Sids)
     requires { ⌜ length (now words) ≡ tokenWords ⌝ }
     ensures { λ _. ⌜ RestrictedTo list (now (words .entry)) (now (words .exit)) ⌝ }
 {

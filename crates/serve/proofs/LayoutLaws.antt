@@ -90,7 +90,7 @@ module _ (station : ℕ) {s : List ℕ} {c : Cursor} (ok : Bool) {hs : List Hand
         after = drop sidAt s;
         denied = n .deny (not-false ok f);
         later = [];
-        added = n .sids .there (not-false ok f);
+        sids = n .sids .there (not-false ok f);
       }))
 
 -- request 8: what its bytes are asked

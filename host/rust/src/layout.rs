@@ -43,8 +43,9 @@ pub(crate) mod token_word {
     pub const GROUP_COUNT: usize = 17;
     pub const RESTRICTING_COUNT: usize = 18;
     pub const DACL_LENGTH: usize = 19;
+    pub const ROOT: usize = 20;
     /// The first group.
-    pub const GROUPS: usize = DACL_LENGTH + 1;
+    pub const GROUPS: usize = ROOT + 1;
     /// The first restricting SID.
     pub const RESTRICTING: usize = GROUPS + super::MAX_GROUPS;
 }

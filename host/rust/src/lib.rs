@@ -47,4 +47,4 @@ pub use layout::{
 };
 pub use previous::{PreviousPrivileges, PrivilegeState};
 pub use refusal::Refusal;
-pub use view::{Elevation, Group, Handle, Level, Privileges, Station, Token, TokenType};
+pub use view::{Elevation, Group, Handle, Level, Privileges, Station, Token, TokenType, NO_ROOT};

@@ -25,13 +25,14 @@ pub enum Refusal {
     Right = 3,
     /// A privilege is not enabled on the station's own token.
     Privilege = 4,
-    /// A bad field or entry, an unknown class, or installing a token that is not primary.
+    /// A bad field or entry, an unknown class, installing a token that is not primary, or restricting
+    /// a restricted one by none of its SIDs or, without the mark, to writes only.
     Field = 5,
     /// An entry names a mandatory, deny-only or logon group, or disables one with the user's SID.
     Protected = 6,
     /// Installing a token of another user or session.
     Mismatch = 7,
-    /// No free slot, no number left, or too many restricting SIDs.
+    /// No free slot, no number left, or too many restricting SIDs for an unrestricted token.
     Full = 8,
     /// The report is larger than the capacity.
     Capacity = 9,

@@ -69,11 +69,17 @@ pub struct Group {
     pub attributes: u32,
 }
 
+/// The root of an anonymous copy, and of all that is made from one.
+pub const NO_ROOT: u64 = 0;
+
 /// A live token.
 #[derive(Clone, Debug, PartialEq, Eq)]
 pub struct Token {
     /// Its own number, from 1.
     pub number: u64,
+    /// The number of the started or created token that it descends from, which may be gone; its own
+    /// for those; or [`NO_ROOT`]. It never changes.
+    pub root: u64,
     /// Steps at each adjustment.
     pub modified: u64,
     /// The session of its user.
@@ -102,7 +108,8 @@ pub struct Token {
     pub privileges: Privileges,
     /// The groups, at most [`MAX_GROUPS`](crate::MAX_GROUPS).
     pub groups: Vec<Group>,
-    /// The restricting SIDs, at most [`MAX_RESTRICTING`](crate::MAX_RESTRICTING).
+    /// The restricting SIDs, at most [`MAX_RESTRICTING`](crate::MAX_RESTRICTING); with any the token
+    /// is restricted, and so are its copies but an anonymous one, by no other SIDs.
     pub restricting: Vec<u32>,
     /// The default DACL, at most [`MAX_DACL`](crate::MAX_DACL) bytes.
     pub dacl: Vec<u8>,
@@ -122,6 +129,7 @@ impl Token {
             &words[token_word::RESTRICTING..][..words[token_word::RESTRICTING_COUNT] as usize];
         Token {
             number: words[token_word::NUMBER],
+            root: words[token_word::ROOT],
             modified: words[token_word::MODIFIED],
             session: words[token_word::SESSION],
             user: words[token_word::USER] as u32,

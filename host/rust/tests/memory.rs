@@ -1,9 +1,11 @@
 //! What the broker keeps, as values and as bytes.
 
-use obriska::{number, Broker, Elevation, Group, Level, Refusal, Station, TokenType, MEMORY_BYTES};
+use obriska::{
+    number, Broker, Elevation, Group, Level, Refusal, Station, TokenType, MEMORY_BYTES, NO_ROOT,
+};
 
 /// Where the arrays begin, one after the other: docs/MEMORY.md has their sizes.
-const DACLS: usize = 12_800;
+const DACLS: usize = 12_928;
 const HANDLES: usize = DACLS + 4_096;
 const CONTROL: usize = HANDLES + 512;
 const PENDING: usize = CONTROL + 208;
@@ -11,6 +13,8 @@ const END: usize = PENDING + 16_400;
 /// Bytes of a word and of a handle.
 const WORD: usize = 8;
 const HANDLE: usize = 16;
+/// Where the first token's root stands.
+const ROOT: usize = 20 * WORD;
 
 /// Feeds a body of these numbers at station 0, and gives the numbers after status 0.
 fn ask(broker: &mut Broker, numbers: &[u64]) -> Vec<u64> {
@@ -31,6 +35,7 @@ fn the_start_is_document_01s() {
     assert_eq!(tokens.len(), 1);
     let token = &tokens[0];
     assert_eq!((token.number, token.modified, token.session, token.user), (1, 1, 999, 18));
+    assert_eq!(token.root, 1);
     assert_eq!(token.token_type, TokenType::Primary);
     assert_eq!((token.level, token.elevation), (Level::Anonymous, Elevation::Default));
     assert_eq!((token.scope, token.integrity), (0, 16384));
@@ -57,11 +62,37 @@ fn a_created_token_is_seen_with_its_groups_sids_and_dacl() {
     assert_eq!(token.groups, groups);
     assert_eq!((token.owner, token.primary_group, token.dacl), (2, 1, vec![0x0A, 0x0B]));
     let copy = broker.token(3).unwrap();
+    assert_eq!((token.root, copy.root), (2, 2));
     assert_eq!(copy.restricting, [77, 78]);
     assert!(copy.write_restricted && copy.user_deny_only);
     assert_eq!(copy.privileges.present, 0x80);
     assert_eq!(copy.groups[1], Group { sid: 600, attributes: 0x18 });
     assert!(broker.token(1).unwrap().privileges.used & 4 == 4);
+}
+
+#[test]
+fn a_root_is_the_oldest_source_and_class_9_tells_it() {
+    let mut broker = Broker::start();
+    assert_eq!(ask(&mut broker, &[3, 1000, 5, 0, 0, 0, 0]), [1]);
+    assert_eq!(ask(&mut broker, &[9, 1, 1, 0, 0x1EF]), [2]);
+    assert_eq!(ask(&mut broker, &[2, 1]), []);
+    assert_eq!(ask(&mut broker, &[10, 2, 0, 0, 0, 0]), [3]);
+    assert_eq!(ask(&mut broker, &[9, 3, 2, 0, 0x1EF]), [4]);
+    assert_eq!(ask(&mut broker, &[9, 4, 1, 0, 0x1EF]), [5]);
+    let roots: Vec<_> = broker.tokens().map(|token| (token.number, token.root)).collect();
+    assert_eq!(roots, [(1, 1), (4, 2), (3, 2), (5, NO_ROOT), (6, NO_ROOT)]);
+    assert_eq!(ask(&mut broker, &[4, 3, 9, 64]), [4, 5, 4, 1, 2]);
+    assert_eq!(ask(&mut broker, &[4, 5, 9, 64]), [6, 0, 6, 1, NO_ROOT]);
+}
+
+#[test]
+fn a_root_above_the_tokens_number_is_refused() {
+    let kept = Broker::start().to_bytes();
+    for (root, refusal) in [(0, None), (1, None), (2, Some(Refusal::Memory))] {
+        let mut changed = kept.clone();
+        changed[ROOT] = root;
+        assert_eq!(Broker::from_bytes(&changed).err(), refusal, "root {root}");
+    }
 }
 
 #[test]
@@ -92,7 +123,7 @@ fn bytes_are_laid_out_as_docs_memory_says() {
     broker.feed(6, &[0x03, 0x01, 0xEF, 0x03]).unwrap();
     broker.feed(0, &[0x02]).unwrap();
     let bytes = broker.to_bytes();
-    assert_eq!((bytes.len(), MEMORY_BYTES), (END, 34_016));
+    assert_eq!((bytes.len(), MEMORY_BYTES), (END, 34_144));
     assert!(words(&bytes, 0).take(4).eq([1, 1, 999, 18]));
     let (handles, free) = bytes[HANDLES..CONTROL].split_at(2 * HANDLE);
     let first = [5, 0, 0x28, 0, 1, 0, 0, 0, 1, 0, 0, 0, 0, 0, 0, 0];

@@ -136,11 +136,13 @@ fn privilege_lines(numbers: &[u64]) -> Option<Vec<String>> {
 }
 
 fn statistics(numbers: &[u64]) -> Option<String> {
-    let &[token, session, modified, token_type] = numbers else {
+    let &[token, session, modified, token_type, root] = numbers else {
         return None;
     };
-    let token_type = vocabulary::text(&TYPES, token_type);
-    Some(format!("token {token}, session {session}, modified {modified}, type {token_type}"))
+    let [token_type, root] = [vocabulary::text(&TYPES, token_type), vocabulary::root_text(root)];
+    Some(format!(
+        "token {token}, session {session}, modified {modified}, type {token_type}, root {root}"
+    ))
 }
 
 fn restricting_text(sids: &[u64]) -> String {
@@ -213,7 +215,15 @@ mod tests {
         assert_eq!(said(6, &[2, 0xFF, 1]), "default DACL of 2 bytes: FF 01");
         assert_eq!(said(7, &[2]), "type impersonation");
         assert_eq!(said(8, &[3]), "level delegation");
-        assert_eq!(said(9, &[1, 0xE7, 7, 2, 1]), "token 1, session 999, modified 2, type primary");
+        assert_eq!(
+            said(9, &[2, 0xE7, 7, 3, 1, 1]),
+            "token 2, session 999, modified 3, type primary, root 1"
+        );
+        assert_eq!(
+            said(9, &[4, 0, 4, 2, 0]),
+            "token 4, session 0, modified 4, type impersonation, root none"
+        );
+        assert_eq!(report(9, &[1, 0xE7, 7, 2, 1]), None);
         assert_eq!(said(10, &[0]), "no restricting SIDs");
         assert_eq!(said(10, &[2, 77, 18]), "restricting SIDs 77, 18 (SYSTEM)");
         assert_eq!(said(11, &[4]), "scope 4");

@@ -4,8 +4,9 @@ use obriska::{Broker, Handle, Station, Token};
 
 use crate::vocabulary::{self, ELEVATIONS, LEVELS, TYPES};
 
-const TOKEN_COLUMNS: [&str; 13] = [
+const TOKEN_COLUMNS: [&str; 14] = [
     "token",
+    "root",
     "modified",
     "session",
     "user",
@@ -42,6 +43,7 @@ fn token_row(token: &Token) -> Vec<String> {
     let is_primary = token.token_type == obriska::TokenType::Primary;
     vec![
         token.number.to_string(),
+        vocabulary::root_text(token.root),
         token.modified.to_string(),
         token.session.to_string(),
         vocabulary::sid_text(token.user.into()),
@@ -132,7 +134,10 @@ mod tests {
     #[test]
     fn the_start_has_one_token_and_eight_stations() {
         let lines = lines(&Broker::start());
-        assert!(lines[1].starts_with("1      1         999      18 (SYSTEM)  primary  default"));
+        assert!(lines[0].starts_with("token  root  modified"));
+        assert!(
+            lines[1].starts_with("1      1     1         999      18 (SYSTEM)  primary  default")
+        );
         assert!(lines[1].contains("35 of 35 enabled, 0 used"));
         assert_eq!(lines.iter().filter(|line| line.ends_with("between requests")).count(), 8);
         assert_eq!(lines.last().unwrap(), "next token 2, next handle 1");

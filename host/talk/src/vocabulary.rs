@@ -1,6 +1,7 @@
 //! Names of values, as they are typed and as they are printed.
 
 use obriska::names::{self, Named};
+use obriska::NO_ROOT;
 
 use crate::words::{Mistake, Word};
 
@@ -109,6 +110,14 @@ pub fn text(names: &[Named], number: u64) -> String {
 /// A SID, with its name if it has one.
 pub fn sid_text(sid: u64) -> String {
     named_text(&names::SIDS, sid)
+}
+
+/// A token's root: the number of another token or its own, if it has one.
+pub fn root_text(root: u64) -> String {
+    match root {
+        NO_ROOT => "none".to_string(),
+        root => root.to_string(),
+    }
 }
 
 /// An integrity level with its name.

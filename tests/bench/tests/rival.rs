@@ -8,10 +8,12 @@ use model::Model;
 #[test]
 fn lists_of_calls() {
     let mut counts = Counts::default();
-    lists::compare::<Rival>(0..200, &mut counts);
+    lists::compare::<Rival>(0..560, &mut counts);
     if one_seed().is_none() {
         counts.check_statuses(5);
         counts.check_groups(5);
+        counts.check_restrictions(5);
+        counts.check_roots(5);
         counts.check_refusals(5);
     }
 }
@@ -20,6 +22,7 @@ fn lists_of_calls() {
 fn damaged_memory() {
     each_damage(250, |damage, _, memory| damages::is_refused::<Rival>(&memory, damage.what));
     damages::compare_poked::<Rival>(0..5000);
+    damages::compare_roots::<Rival>(0..50);
     for (place, memory) in damages::of_other_sizes(&Model::start().memory()) {
         damages::is_refused::<Rival>(&memory, &place);
         damages::starts::<Rival>(&memory, &place);

@@ -2,8 +2,8 @@
 
 use gen::{each_seed, poke, state, Broker, Call};
 use model::{
-    HandleRecord, Memory, CONTROL_WORDS, DACL_BYTES, HANDLE_ROWS, MIN_BUFFER, PARTS, PENDING_BYTES,
-    STATIONS, TOKEN_WORDS,
+    token_word, HandleRecord, Memory, CONTROL_WORDS, DACL_BYTES, HANDLE_ROWS, MIN_BUFFER, NO_ROOT,
+    PARTS, PENDING_BYTES, STATIONS, TOKEN_ROW, TOKEN_WORDS,
 };
 
 use crate::lists::{on_memory, same_bytes};
@@ -77,6 +77,27 @@ pub fn of_other_sizes(memory: &Memory) -> Vec<(String, Memory)> {
         }
     }
     memories
+}
+
+/// Another root for each token of random memories: valid up to its number, refused above it.
+pub fn compare_roots<B: Broker>(seeds: std::ops::Range<u64>) {
+    each_seed(seeds, |_, rng| {
+        let memory = state(rng).memory();
+        for row in (0..TOKEN_WORDS).step_by(TOKEN_ROW) {
+            let number = memory.tokens[row + token_word::NUMBER];
+            if number == 0 {
+                continue;
+            }
+            let valid = [NO_ROOT, number - 1, number].map(|root| (root, 0));
+            let refused = [number + 1, u64::MAX].map(|root| (root, 13));
+            for (root, refusal) in valid.into_iter().chain(refused) {
+                let mut memory = memory.clone();
+                memory.tokens[row + token_word::ROOT] = root;
+                let fed = on_memory::<B>(&memory, &empty_feed());
+                assert_eq!(fed.refusal, refusal, "token {number}, root {root}");
+            }
+        }
+    });
 }
 
 /// Random memories with a value or two changed anywhere: the broker and the model agree. Gives how

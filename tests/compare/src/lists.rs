@@ -4,26 +4,30 @@ use std::fmt::Debug;
 use std::ops::Range;
 
 use gen::{
-    each_seed, garbage, near_the_last_numbers, run, state, with_groups, Broker, Call, Calls,
-    Counts, Rng, Step, DAMAGES,
+    each_seed, garbage, near_the_last_numbers, run, state, with_copies, with_groups,
+    with_restrictions, Broker, Call, Calls, Counts, Rng, Step, DAMAGES,
 };
 use model::{Bytes, Fed, Memory, Model, MIN_BUFFER, PARTS};
 
 /// How many calls each seed makes.
 pub const CALLS: usize = 300;
+/// How many starts there are to go on from, the broker's own twice.
+const STARTS: u64 = 7;
 
-/// A list of calls for each seed: from the start, from a random state, near the last numbers, or
-/// with groups of all kinds.
+/// A list of calls for each seed: from the start, from a random state, near the last numbers, with
+/// groups of all kinds, with restricted tokens, or with copies of copies.
 pub fn compare<B: Broker>(seeds: Range<u64>, counts: &mut Counts) {
     each_seed(seeds, |seed, rng| {
-        let first = match seed % 5 {
+        let first = match seed % STARTS {
             0 | 1 => Model::start(),
             2 => state(rng),
             3 => near_the_last_numbers(rng),
-            _ => with_groups(),
+            4 => with_groups(),
+            5 => with_restrictions(),
+            _ => with_copies(),
         };
         let mut broker = B::lend(&first.memory());
-        if seed % 5 < 2 {
+        if seed % STARTS < 2 {
             broker = B::lend(&garbage(rng));
             assert_eq!(broker.start(), 0);
         }

@@ -16,13 +16,15 @@ fn print(text: &str) {
 #[test]
 fn lists_of_calls() {
     let mut counts = Counts::default();
-    lists::compare::<Lent>(0..400, &mut counts);
+    lists::compare::<Lent>(0..700, &mut counts);
     print(&format!(
         "\nstatuses of the requests that the broker and the model served alike:\n{counts}"
     ));
     if one_seed().is_none() {
         counts.check_statuses(20);
         counts.check_groups(10);
+        counts.check_restrictions(10);
+        counts.check_roots(10);
         counts.check_refusals(20);
     }
 }

@@ -2,7 +2,7 @@
 //! of each part, and start on any memory.
 
 use compare::damages::{
-    compare_poked, empty_feed, is_refused, of_other_sizes, refused_calls, starts,
+    compare_poked, compare_roots, empty_feed, is_refused, of_other_sizes, refused_calls, starts,
 };
 use compare::lists::on_memory;
 use compare::Lent;
@@ -39,6 +39,11 @@ fn wrong_sizes_are_refused_and_nothing_written() {
             starts::<Lent>(&memory, &place);
         }
     });
+}
+
+#[test]
+fn a_root_is_at_most_the_tokens_number() {
+    compare_roots::<Lent>(0..100);
 }
 
 #[test]

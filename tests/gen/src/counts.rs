@@ -1,5 +1,5 @@
-//! How often each refusal came, each status of each request, and what request 6 did to each kind of
-//! group.
+//! How often each refusal came, each status of each request, what request 6 did to each kind of
+//! group, request 10 to each kind of list, and what was made from each kind of token.
 
 use std::collections::BTreeMap;
 use std::fmt;
@@ -8,6 +8,8 @@ use model::{Fed, Model, Reader, Refusal, LAST_REQUEST};
 
 use crate::broker::{status, Step};
 use crate::groups::GroupCounts;
+use crate::restrictions::RestrictionCounts;
+use crate::roots::RootCounts;
 
 /// The statuses that each request can get; 0 stands for unknown requests.
 const POSSIBLE: [(u32, &[u8]); LAST_REQUEST as usize + 1] = [
@@ -32,6 +34,8 @@ pub struct Counts {
     statuses: BTreeMap<(u32, u8), usize>,
     refusals: BTreeMap<u32, usize>,
     groups: GroupCounts,
+    restrictions: RestrictionCounts,
+    roots: RootCounts,
 }
 
 impl Counts {
@@ -61,6 +65,8 @@ impl Counts {
         if let Some(status) = status(&fed.answer) {
             *self.statuses.entry((request_number(body), status)).or_default() += 1;
             self.groups.request(before, station, body, status);
+            self.restrictions.request(before, station, body, status);
+            self.roots.request(before, station, body, status);
         }
     }
 
@@ -84,6 +90,16 @@ impl Counts {
     /// Request 6 met each kind of group in each way so often at least, and did as the rule says.
     pub fn check_groups(&self, least: usize) {
         self.groups.check(least);
+    }
+
+    /// Each case of request 10's restricting SIDs came so often at least, and got its status.
+    pub fn check_restrictions(&self, least: usize) {
+        self.restrictions.check(least);
+    }
+
+    /// Tokens of each kind of root were copied in each way, and asked for it, so often at least.
+    pub fn check_roots(&self, least: usize) {
+        self.roots.check(least);
     }
 
     /// Each refusal came so often at least.
@@ -119,6 +135,8 @@ impl fmt::Display for Counts {
             write!(f, "  {refusal}: {count}")?;
         }
         writeln!(f, "  in {} calls", self.calls)?;
-        self.groups.fmt(f)
+        writeln!(f, "{}", self.groups)?;
+        writeln!(f, "{}", self.restrictions)?;
+        self.roots.fmt(f)
     }
 }

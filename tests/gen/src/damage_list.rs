@@ -265,6 +265,14 @@ pub const DAMAGES: &[Damage] = &[
             t.rng.pick(&[PENDING_ROW as u64 + 1, 1 << 32]);
         Some(())
     }),
+    damage("roots", "a root above the token's number", |t| {
+        let slot = t.slot(any)?;
+        let number = t.token(slot)?.number;
+        let above = [number + 1, t.model.next_token, number | 1 << 63, u64::MAX];
+        let above: Vec<u64> = above.into_iter().filter(|&root| root > number).collect();
+        *t.word(slot, token_word::ROOT) = t.rng.pick(&above);
+        Some(())
+    }),
 ];
 
 /// The bytes of a handle's record but its number's: a slot with a number is not free.
@@ -293,13 +301,15 @@ fn resize(t: &mut Target, by: isize) -> Option<()> {
     Some(())
 }
 
-/// Both of one type, and the references go to the number that is left.
+/// Both of one type, the references go to the number that is left, and no root is above it.
 fn two_tokens_with_one_number(t: &mut Target) -> Option<()> {
     let first = t.slot(any)?;
     let (kept, kind) = (t.token(first)?.number, t.token(first)?.kind);
     let second = t.slot(|token| token.number != kept && token.kind == kind)?;
     let lost = t.token(second)?.number;
     *t.word(second, token_word::NUMBER) = kept;
+    let root = t.word(second, token_word::ROOT);
+    *root = kept.min(*root);
     for handle in t.memory.handles.iter_mut().filter(|handle| handle.token == lost) {
         handle.token = kept;
     }

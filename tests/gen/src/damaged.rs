@@ -33,11 +33,13 @@ pub fn poke(rng: &mut Rng, memory: &mut Memory) {
     let odd = rng.bits();
     let sizes = [MAX_GROUPS, MAX_DACL, MAX_BODY].map(|size| size as u64);
     let past = sizes.map(|size| size + 1);
-    let telling =
-        [&[0, 1, 2, 3, 4, 8, PENDING_ROW as u64, 1 << 32, u64::MAX], &sizes[..], &past].concat();
-    let value = if rng.percent(10) { odd } else { rng.pick(&telling) };
     let live =
         memory.tokens.chunks(TOKEN_ROW).position(|row| row[token_word::NUMBER] != 0).unwrap_or(0);
+    let number = memory.tokens[TOKEN_ROW * live + token_word::NUMBER];
+    let about = [number.wrapping_sub(1), number, number.wrapping_add(1)];
+    let few = [0, 1, 2, 3, 4, 8, PENDING_ROW as u64, 1 << 32, u64::MAX];
+    let telling = [&few[..], &sizes, &past, &about].concat();
+    let value = if rng.percent(10) { odd } else { rng.pick(&telling) };
     match rng.below(9) {
         0 => *any(rng, &mut memory.tokens) = value,
         1 => memory.tokens[TOKEN_ROW * live + rng.below(TOKEN_ROW)] ^= rng.bit(u64::BITS),

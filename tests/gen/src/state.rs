@@ -3,7 +3,7 @@
 use model::{
     framed, Elevation, Group, Handle, Level, Mask, Model, Privileges, Request, Station, Token,
     TokenType, ALL_PRIVILEGES, HANDLES, INTEGRITY_LEVELS, MAX_BODY, MAX_DACL, MAX_GROUPS,
-    MAX_RESTRICTING, MIN_BUFFER, STATIONS, TOKENS,
+    MAX_RESTRICTING, MIN_BUFFER, NO_ROOT, STATIONS, TOKENS,
 };
 
 use crate::broker::status;
@@ -59,7 +59,53 @@ pub fn with_groups() -> Model {
     model
 }
 
-/// Makes a request; gives the handle that it answers.
+/// A start at which every other station has made two copies of its token: restricted by a list with
+/// repeats, with the mark and without it; by the longest, with the mark; and marked without SIDs.
+pub fn with_restrictions() -> Model {
+    let mut model = Model::start();
+    let repeats = vec![50, 60, 50, 18];
+    let most: Vec<u32> = (50..).take(MAX_RESTRICTING).collect();
+    let lists = [(0, repeats.clone()), (1, vec![]), (1, repeats), (1, most)];
+    let mut lists = lists.into_iter().cycle();
+    for station in (0..STATIONS).step_by(2) {
+        let handle = ask(&mut model, station, &Request::Open { mask: Mask::ALL.0 });
+        for (write_restricted, sids) in lists.by_ref().take(2) {
+            let (remove, deny) = (0, vec![]);
+            ask(
+                &mut model,
+                station,
+                &Request::Restrict { handle, write_restricted, remove, deny, sids },
+            );
+        }
+    }
+    model
+}
+
+/// A start at which every other station has made a token, a copy of it, an anonymous copy of that and
+/// a primary copy of the anonymous one; the first of these is gone, or the third.
+pub fn with_copies() -> Model {
+    let mut model = Model::start();
+    let (user, session, integrity) = (50, 9, 0);
+    let (present, default) = (ALL_PRIVILEGES, ALL_PRIVILEGES);
+    for station in (0..STATIONS).step_by(2) {
+        let create = Request::Create { user, session, integrity, present, default, groups: vec![] };
+        let made = ask(&mut model, station, &create);
+        let copy = duplicate(&mut model, station, made, TokenType::Primary);
+        let anonymous = duplicate(&mut model, station, copy, TokenType::Impersonation);
+        duplicate(&mut model, station, anonymous, TokenType::Primary);
+        let handle = if station % 4 == 0 { made } else { anonymous };
+        ask(&mut model, station, &Request::Close { handle });
+    }
+    model
+}
+
+/// A duplicate of this type, at level 0 and with all rights.
+fn duplicate(model: &mut Model, station: usize, handle: u32, kind: TokenType) -> u32 {
+    let (kind, level, mask) = (kind as u32, Level::Anonymous as u32, Mask::ALL.0);
+    ask(model, station, &Request::Duplicate { handle, kind, level, mask })
+}
+
+/// Makes a request; gives the handle that it answers, if it answers one.
 fn ask(model: &mut Model, station: usize, request: &Request) -> u32 {
     let fed = model.feed(station as u32, &framed(&flat(&fields(request))), MIN_BUFFER);
     assert_eq!(status(&fed.answer), Some(0), "{request:?}");
@@ -89,8 +135,10 @@ fn place_tokens(rng: &mut Rng, model: &mut Model) {
     let numbers = numbers(rng, TOKENS, 1 << 32, u64::MAX);
     model.tokens = [const { None }; TOKENS];
     let mut highest = 0;
-    for (&slot, number) in chosen.iter().zip(distinct(rng, &numbers, chosen.len())) {
-        let mut token = random_token(rng, number);
+    let given = distinct(rng, &numbers, chosen.len());
+    for (&slot, &number) in chosen.iter().zip(&given) {
+        let root = random_root(rng, number, &given);
+        let mut token = Token { root, ..random_token(rng, number) };
         if slot == chosen[0] {
             token.kind = TokenType::Primary;
             token.level = Level::Anonymous;
@@ -99,6 +147,14 @@ fn place_tokens(rng: &mut Rng, model: &mut Model) {
         model.tokens[slot] = Some(token);
     }
     model.next_token = rng.pick(&[highest + 1, highest + 1, highest + 9, u64::MAX]);
+}
+
+/// A token's own number, no root, that of a live token below it, or any number below it.
+fn random_root(rng: &mut Rng, number: u64, live: &[u64]) -> u64 {
+    let lower: Vec<u64> = live.iter().copied().filter(|&other| other < number).collect();
+    let below = rng.word() % number;
+    let other = rng.pick_any(&lower).unwrap_or(below);
+    rng.pick(&[number, number, NO_ROOT, NO_ROOT, number - 1, below, other, other])
 }
 
 /// So many distinct items.
@@ -155,7 +211,7 @@ fn random_token(rng: &mut Rng, number: u64) -> Token {
             default: rng.bits() & present,
             used: rng.bits() & ALL_PRIVILEGES,
         },
-        restricting: small_list(rng, MAX_RESTRICTING).iter().map(|_| rng.word() as u32).collect(),
+        restricting: small_list(rng, MAX_RESTRICTING).iter().map(|_| random_sid(rng)).collect(),
         write_restricted: rng.percent(30),
         user_deny_only: rng.percent(30),
         dacl: small_list(rng, MAX_DACL).iter().map(|_| rng.word() as u8).collect(),
@@ -177,6 +233,12 @@ fn small_list(rng: &mut Rng, most: usize) -> Vec<()> {
         _ => rng.below(6),
     };
     vec![(); count]
+}
+
+/// A restricting SID, one that may come again in its list or not.
+fn random_sid(rng: &mut Rng) -> u32 {
+    let any = rng.word() as u32;
+    rng.pick(&[18, 50, 60, 0, u32::MAX, any, any, any])
 }
 
 fn random_group(rng: &mut Rng) -> Group {

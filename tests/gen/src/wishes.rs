@@ -1,15 +1,16 @@
 //! Requests that make sense in a state, with a bad value now and then.
 
 use model::{
-    number_length, Handle, Level, Mask, Model, Reader, Refusal, Request, Token, TokenType,
-    ALL_PRIVILEGES, ASSIGN_PRIMARY, CREATE_TOKEN, FIRST_PRIVILEGE, HANDLES, INTEGRITY_LEVELS,
-    LAST_CLASS, LAST_PRIVILEGE, LAST_REQUEST, MAX_DACL, MAX_GROUPS, MAX_RESTRICTING, NO_CHANGE,
-    RESET_GROUPS, RESET_PRIVILEGES, TCB, TOKENS,
+    number_length, Handle, Level, Mask, Model, Privileges, Reader, Refusal, Request, Token,
+    TokenType, ALL_PRIVILEGES, ASSIGN_PRIMARY, CREATE_TOKEN, DISABLE, ENABLE, FIRST_PRIVILEGE,
+    HANDLES, INTEGRITY_LEVELS, LAST_CLASS, LAST_PRIVILEGE, LAST_REQUEST, MAX_DACL, MAX_GROUPS,
+    MAX_RESTRICTING, NO_CHANGE, REMOVE, RESET_GROUPS, RESET_PRIVILEGES, TCB, TOKENS,
 };
 
 use crate::fields::{fields, flat};
 use crate::groups::{kind, Kind};
 use crate::rng::Rng;
+use crate::roots::STATISTICS;
 
 /// What a request is drawn from.
 pub(crate) struct Wish<'a> {
@@ -48,6 +49,8 @@ const RIGHTS: [Mask; LAST_REQUEST as usize + 1] = [
 fn suits(kind: usize, token: &Token) -> bool {
     match kind {
         6 | 8 => !token.groups.is_empty(),
+        9 => token.root != token.number,
+        10 => token.is_restricted() || token.write_restricted,
         11 => token.kind == TokenType::Primary,
         _ => true,
     }
@@ -79,15 +82,19 @@ impl Wish<'_> {
         }
     }
 
-    /// A request's number: open without handles, close when slots run out, groups if there are any.
+    /// A request's number: open without handles, close when slots run out, groups if there are any,
+    /// restrict what is restricted.
     fn kind(&mut self) -> usize {
         let mut weights: [_; RIGHTS.len()] = [0, 16, 6, 10, 14, 14, 14, 8, 12, 14, 14, 20];
         let own = self.own_handles();
         if own.len() < 2 {
             weights[1] = 60;
         }
-        if own.iter().any(|&handle| self.token(handle).is_some_and(|token| suits(6, token))) {
-            weights[6] += 20;
+        for (kind, more) in [(6, 20), (10, 8)] {
+            if own.iter().any(|&handle| self.token(handle).is_some_and(|token| suits(kind, token)))
+            {
+                weights[kind] += more;
+            }
         }
         if self.model.handles.iter().flatten().count() > HANDLES - 3 {
             weights[2] += 8;
@@ -199,6 +206,7 @@ impl Wish<'_> {
     fn query(&mut self, handle: u32) -> Request {
         let class = match self.rng.below(25) {
             0 => self.rng.pick(&[0, LAST_CLASS + 1, LAST_CLASS + 2, 128, u32::MAX]),
+            1..=5 => STATISTICS,
             _ => 1 + self.rng.below(LAST_CLASS as usize) as u32,
         };
         let capacity = match self.rng.below(4) {
@@ -226,7 +234,7 @@ impl Wish<'_> {
         if self.rng.percent(12) {
             return vec![RESET_PRIVILEGES];
         }
-        let present = self.token(handle).map_or(0, |token| token.privileges.present);
+        let words = self.token(handle).map_or(Privileges::default(), |token| token.privileges);
         let all: Vec<u32> =
             NEEDED_ONES.into_iter().chain(FIRST_PRIVILEGE..=LAST_PRIVILEGE).collect();
         let mut named = self.rng.some(&all, 4);
@@ -236,7 +244,7 @@ impl Wish<'_> {
             named.dedup();
         }
         let mut entries: Vec<_> =
-            named.into_iter().map(|named| (named, self.privilege_action(named, present))).collect();
+            named.into_iter().map(|named| (named, self.privilege_action(named, words))).collect();
         match self.rng.below(30) {
             0 => entries.clear(),
             1 => entries[0].0 = self.rng.pick(&[0, 1, LAST_PRIVILEGE + 1, u64::BITS, u32::MAX]),
@@ -247,16 +255,18 @@ impl Wish<'_> {
         entries
     }
 
-    /// Seldom removes what the other requests need.
-    fn privilege_action(&mut self, named: u32, present: u64) -> u32 {
+    /// What to ask of the privilege: all that may be asked of it, whether absent, disabled or
+    /// enabled; seldom to remove what the other requests need, or to enable an absent one.
+    fn privilege_action(&mut self, named: u32, words: Privileges) -> u32 {
         let is_needed = NEEDED_ONES.contains(&named);
-        let is_present = present >> named & 1 == 1;
-        match self.rng.below(10) {
-            0 if !is_needed || self.rng.percent(20) => 4,
-            1..=3 if !is_needed || named == TCB || self.rng.percent(60) => 0,
-            _ if is_present || self.rng.percent(10) => 2,
-            _ => 0,
-        }
+        let weights = match [words.present, words.enabled].map(|word| word >> named & 1 == 1) {
+            [false, _] => [12, 1, 6],
+            [true, _] if named == TCB => [15, 34, 1],
+            [true, _] if is_needed => [9, 40, 1],
+            [true, false] => [1, 1, 1],
+            [true, true] => [3, 5, 2],
+        };
+        [DISABLE, ENABLE, REMOVE][self.rng.weighted(&weights)]
     }
 
     fn group_entries(&mut self, handle: Handle) -> Vec<(u32, u32)> {
@@ -342,7 +352,8 @@ impl Wish<'_> {
             }
             _ => Level::Delegation as usize,
         };
-        let mut level = self.rng.below(highest + 1) as u32;
+        let any_level = self.rng.below(highest + 1) as u32;
+        let mut level = if self.rng.percent(12) { Level::Anonymous as u32 } else { any_level };
         match self.rng.below(25) {
             0 => kind = self.rng.pick(&[0, 3, u32::MAX]),
             1 => level = self.rng.pick(&[4, 5, u32::MAX]),
@@ -358,10 +369,8 @@ impl Wish<'_> {
         let indexes: Vec<u32> = (0..groups as u32).collect();
         let most = if self.rng.percent(10) { MAX_GROUPS } else { 3 };
         let mut deny = self.rng.some(&indexes, most);
-        let most = if self.rng.percent(12) { MAX_RESTRICTING + 2 } else { 3 };
-        let count = self.rng.below(most);
-        let sids = (0..count).map(|_| self.rng.pick(&SIDS)).collect();
-        let mut write_restricted = u32::from(self.rng.percent(25));
+        let sids = self.restricting(handle);
+        let mut write_restricted = u32::from(self.mark(handle));
         let mut remove = self.rng.word() & self.rng.bits() & ALL_PRIVILEGES;
         if self.rng.percent(85) {
             remove &= !NEEDED;
@@ -374,5 +383,36 @@ impl Wish<'_> {
             _ => {}
         }
         Request::Restrict { handle: handle.number, write_restricted, remove, deny, sids }
+    }
+    /// SIDs to restrict by: none, some or all of a restricted source's own, in any order, and others
+    /// among them; now and then as many as a list may have, or more.
+    fn restricting(&mut self, handle: Handle) -> Vec<u32> {
+        let own = self.token(handle).map_or(vec![], |token| token.restricting.clone());
+        let mut sids = match self.rng.weighted(&[3, 3, 2, 4]) {
+            0 => self.rng.some(&own, MAX_RESTRICTING),
+            1 => self.rng.some(&own, 2),
+            2 => own.iter().rev().copied().collect(),
+            _ => vec![],
+        };
+        let others = match self.rng.below(10) {
+            0..=3 => 0,
+            4..=6 => 1 + self.rng.below(2),
+            7 => MAX_RESTRICTING - sids.len().min(MAX_RESTRICTING),
+            _ => MAX_RESTRICTING + 1 + self.rng.below(4 * MAX_RESTRICTING),
+        };
+        let common = [&SIDS[..], &sids].concat();
+        let is_common = self.rng.percent(60);
+        for _ in 0..others {
+            let any = self.rng.word() as u32;
+            let sid = if is_common { self.rng.pick(&common) } else { any };
+            sids.insert(self.rng.below(sids.len() + 1), sid);
+        }
+        sids
+    }
+
+    /// Write-restricted, more often where the source is: a restricted one must be.
+    fn mark(&mut self, handle: Handle) -> bool {
+        let is_marked = self.token(handle).is_some_and(|token| token.write_restricted);
+        self.rng.percent(if is_marked { 60 } else { 25 })
     }
 }

@@ -1,7 +1,10 @@
-//! Every request gets every status that it can get, request 6 meets every kind of group, and the
-//! memory always holds the state.
+//! Every request gets every status that it can get, request 6 meets every kind of group, request 10
+//! every kind of list, tokens of every kind of root are copied, and the memory always holds the state.
 
-use gen::{body, fields, flat, near_the_last_numbers, state, with_groups, Counts, Rng};
+use gen::{
+    body, fields, flat, near_the_last_numbers, state, with_copies, with_groups, with_restrictions,
+    Counts, Rng,
+};
 use model::{framed, Mask, Model, Request, HANDLES, MIN_BUFFER, STATIONS};
 
 /// Feeds so many requests as whole frames and counts their statuses.
@@ -61,6 +64,27 @@ fn every_kind_of_group() {
     }
     println!("with groups:\n{counts}");
     counts.check_groups(10);
+}
+
+#[test]
+fn every_restriction() {
+    let mut counts = Counts::default();
+    for seed in 4000..4400 {
+        run(seed, with_restrictions(), 100, &mut counts);
+    }
+    println!("with restrictions:\n{counts}");
+    counts.check_restrictions(20);
+}
+
+#[test]
+fn every_kind_of_root() {
+    let mut counts = Counts::default();
+    for seed in 5000..5600 {
+        let first = if seed % 2 == 0 { with_copies() } else { state(&mut Rng::new(seed)) };
+        run(seed, first, 100, &mut counts);
+    }
+    println!("with copies:\n{counts}");
+    counts.check_roots(20);
 }
 
 #[test]

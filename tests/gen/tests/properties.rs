@@ -1,16 +1,23 @@
-//! Demand 3 on the model itself: what never grows, what stays, and that cuts change nothing. And
-//! that request 5 reports what was before.
+//! Demand 3 on the model itself: what never grows, what stays, and that cuts change nothing. That a
+//! second restriction never widens. That a root never changes, and is the oldest source. And that
+//! request 5 reports what was before.
 
 use std::cell::RefCell;
-use std::collections::BTreeMap;
+use std::collections::{BTreeMap, BTreeSet};
+use std::fmt::Debug;
 
-use gen::{each_seed, one_seed, run, state, Call, Step};
-use model::{Group, Model, Reader, Request, Token, RESET_PRIVILEGES, STATIONS};
+use gen::{each_seed, one_seed, run, state, with_copies, with_restrictions, Call, Step};
+use model::{
+    write_number, Group, Level, Model, Reader, Request, Token, TokenType, DISABLE, ENABLE, NO_ROOT,
+    REMOVE, RESET_PRIVILEGES, STATIONS,
+};
 
 /// Many scripts, from the start and from random states.
 fn run_all(check: impl Fn(&Step) + Copy) {
     each_seed(0..20, |seed, _| run(seed, Model::start(), 500, check));
     each_seed(100..200, |seed, rng| run(seed, state(rng), 100, check));
+    each_seed(200..240, |seed, _| run(seed, with_restrictions(), 200, check));
+    each_seed(240..280, |seed, _| run(seed, with_copies(), 200, check));
 }
 
 fn tokens(model: &Model) -> impl Iterator<Item = &Token> {
@@ -79,6 +86,15 @@ fn identity_never_changes() {
     });
 }
 
+#[test]
+fn a_root_never_changes() {
+    run_all(|Step { call, before, after, .. }| {
+        for (old, new) in pairs(before, after) {
+            assert_eq!(old.root, new.root, "{call:?}");
+        }
+    });
+}
+
 /// The request that a feed ended.
 fn ended_request(step: &Step) -> Option<(usize, Request)> {
     let (station, body) = step.ended()?;
@@ -92,23 +108,227 @@ fn token_of(model: &Model, station: usize, handle: u32) -> Option<&Token> {
     model.token(live.token)
 }
 
+/// The request that made a copy, its source and the copy.
+fn copied<'a>(step: &Step<'a>) -> Option<(Request, &'a Token, &'a Token)> {
+    let (station, request) = ended_request(step)?;
+    let (Request::Duplicate { handle, .. } | Request::Restrict { handle, .. }) = request else {
+        return None;
+    };
+    if step.status() != Some(0) {
+        return None;
+    }
+    let source = token_of(step.before, station, handle).expect("a success has a source");
+    let copy = step.after.token(step.before.next_token).expect("a success has a copy");
+    Some((request, source, copy))
+}
+
 #[test]
 fn a_copy_begins_with_no_privilege_that_its_source_lacked() {
     run_all(|step| {
-        let (before, after) = (step.before, step.after);
-        let Some((station, request)) = ended_request(step) else { return };
-        let (Request::Duplicate { handle, .. } | Request::Restrict { handle, .. }) = request else {
-            return;
-        };
-        if step.status() != Some(0) {
-            return;
-        }
-        let source = token_of(before, station, handle).expect("a success has a source");
-        let copy = after.token(before.next_token).expect("a success has a copy");
+        let Some((_, source, copy)) = copied(step) else { return };
         assert_eq!(copy.privileges.present & !source.privileges.present, 0);
         assert_eq!(copy.privileges.used, source.privileges.used);
-        assert_eq!(source, after.token(source.number).expect("the source stays"));
+        assert_eq!(source, step.after.token(source.number).expect("the source stays"));
     });
+}
+
+/// Each case came so often at least, unless one seed alone is run.
+fn check_counts<C: Ord + Debug>(seen: &BTreeMap<C, usize>, cases: impl IntoIterator<Item = C>) {
+    for case in cases {
+        let count = seen.get(&case).copied().unwrap_or(0);
+        assert!(one_seed().is_some() || count >= 20, "{case:?}: {count}");
+    }
+}
+
+#[test]
+fn a_copy_of_a_restricted_token_is_restricted_by_nothing_that_its_source_lacked() {
+    let seen = RefCell::new(BTreeMap::new());
+    run_all(|step| {
+        let Some((request, source, copy)) = copied(step) else { return };
+        let is_anonymous = copy.kind == TokenType::Impersonation && copy.level == Level::Anonymous;
+        let by = match request {
+            Request::Duplicate { .. } if is_anonymous => return,
+            Request::Duplicate { .. } => "duplicate",
+            Request::Restrict { sids, .. } if sids.is_empty() => "restrict by none",
+            _ => "restrict",
+        };
+        if source.is_restricted() {
+            assert!(copy.is_restricted(), "{:?}", step.call);
+            let lacked = |sid: &u32| !source.restricting.contains(sid);
+            assert!(!copy.restricting.iter().any(lacked), "{:?}", step.call);
+            assert_eq!(copy.write_restricted, source.write_restricted, "{:?}", step.call);
+            *seen.borrow_mut().entry(by).or_insert(0) += 1;
+        }
+    });
+    check_counts(&seen.borrow(), ["duplicate", "restrict by none", "restrict"]);
+}
+
+/// Whether the items stand in the list in their order.
+fn are_in_order(items: &[u32], list: &[u32]) -> bool {
+    let mut list = list.iter();
+    items.iter().all(|item| list.any(|other| other == item))
+}
+
+#[test]
+fn a_restriction_keeps_each_sid_that_is_also_given_as_often_as_it_was() {
+    let seen = RefCell::new(BTreeMap::new());
+    run_all(|step| {
+        let Some((Request::Restrict { sids, .. }, source, copy)) = copied(step) else { return };
+        if !source.is_restricted() || sids.is_empty() {
+            let kept = if sids.is_empty() { &source.restricting } else { &sids };
+            assert_eq!(copy.restricting, *kept, "{:?}", step.call);
+            return;
+        }
+        let (had, kept) = (&source.restricting, &copy.restricting);
+        assert!(are_in_order(kept, had), "{:?}", step.call);
+        let count = |list: &[u32], sid| list.iter().filter(|&&other| other == sid).count();
+        for &sid in had.iter().chain(&sids) {
+            let expected = if sids.contains(&sid) { count(had, sid) } else { 0 };
+            assert_eq!(count(kept, sid), expected, "{:?}", step.call);
+            let case = (count(had, sid).min(2), count(&sids, sid).min(2));
+            *seen.borrow_mut().entry(case).or_insert(0) += 1;
+        }
+    });
+    // None, one or more in the source, and none, one or more given.
+    let cases = (0..3).flat_map(|had| (0..3).map(move |given| (had, given)));
+    check_counts(&seen.borrow(), cases.filter(|&case| case != (0, 0)));
+}
+
+#[test]
+fn second_and_third_restrictions_come() {
+    let mut seen = BTreeMap::new();
+    each_seed(300..700, |seed, _| {
+        let mut depths = BTreeMap::new();
+        run(seed, with_restrictions(), 250, |step| {
+            let Some((request, source, copy)) = copied(step) else { return };
+            let first = u32::from(source.is_restricted());
+            let depth = depths.get(&source.number).copied().unwrap_or(first);
+            let narrows = matches!(request, Request::Restrict { sids, .. } if !sids.is_empty());
+            let depth = if copy.is_restricted() { depth + u32::from(narrows) } else { 0 };
+            depths.insert(copy.number, depth);
+            if narrows {
+                *seen.entry(depth).or_insert(0) += 1;
+            }
+        });
+    });
+    check_counts(&seen, [1, 2, 3]);
+}
+
+/// The token that a success of request 3 made.
+fn created<'a>(step: &Step<'a>) -> Option<&'a Token> {
+    let (_, request) = ended_request(step)?;
+    let is_created = matches!(request, Request::Create { .. }) && step.status() == Some(0);
+    is_created.then(|| step.after.token(step.before.next_token).expect("a success has a token"))
+}
+
+#[test]
+fn a_root_is_none_or_the_number_of_a_started_or_created_token() {
+    each_seed(700..760, |seed, _| {
+        let first = Model::start();
+        let mut given: BTreeSet<u64> = tokens(&first).map(|token| token.number).collect();
+        run(seed, first, 500, |step| {
+            if let Some(token) = created(step) {
+                assert_eq!(token.root, token.number, "{:?}", step.call);
+                given.insert(token.number);
+            }
+            for token in tokens(step.after) {
+                let is_given = token.root == NO_ROOT || given.contains(&token.root);
+                assert!(is_given && token.root <= token.number, "{:?}", step.call);
+            }
+        });
+    });
+}
+
+/// The source of each copy by its number, and whether the copy is an anonymous one.
+#[derive(Default)]
+struct Sources(BTreeMap<u64, (u64, bool)>);
+
+impl Sources {
+    /// Takes note of the copy that a call made.
+    fn note(&mut self, step: &Step) {
+        let Some((request, source, copy)) = copied(step) else { return };
+        let is_anonymous = matches!(request, Request::Duplicate { kind: 2, level: 0, .. });
+        self.0.insert(copy.number, (source.number, is_anonymous));
+    }
+
+    /// The oldest token that it was made from, by how many copies, and how many copies ago the last
+    /// anonymous one was.
+    fn oldest(&self, mut number: u64) -> (u64, usize, Option<usize>) {
+        let (mut copies, mut anonymous) = (0, None);
+        while let Some(&(source, is_anonymous)) = self.0.get(&number) {
+            if is_anonymous && anonymous.is_none() {
+                anonymous = Some(copies);
+            }
+            number = source;
+            copies += 1;
+        }
+        (number, copies, anonymous)
+    }
+}
+
+#[test]
+fn a_root_is_the_oldest_source_unless_one_on_the_way_is_anonymous() {
+    let mut seen = BTreeMap::new();
+    let starts = [Model::start, with_restrictions, with_copies];
+    each_seed(800..1600, |seed, _| {
+        let first = starts[seed as usize % starts.len()]();
+        let roots: BTreeMap<u64, u64> = tokens(&first).map(|t| (t.number, t.root)).collect();
+        let mut sources = Sources::default();
+        run(seed, first, 400, |step| {
+            sources.note(step);
+            let Some(token) = step.after.token(step.before.next_token) else { return };
+            let (oldest, copies, anonymous) = sources.oldest(token.number);
+            let root = roots.get(&oldest).copied().unwrap_or(oldest);
+            let expected = if anonymous.is_some() { NO_ROOT } else { root };
+            assert_eq!(token.root, expected, "{:?}", step.call);
+            let is_gone = step.after.token(root).is_none();
+            let kind = match anonymous {
+                Some(0) => "anonymous",
+                Some(_) => "of an anonymous one",
+                None if is_gone => "root gone",
+                None => "root lives",
+            };
+            *seen.entry((kind, copies.min(3))).or_insert(0) += 1;
+        });
+    });
+    println!("tokens made, by how many copies: {seen:?}");
+    let kinds = [("root lives", 0..4), ("root gone", 1..3), ("anonymous", 1..3)];
+    let kinds = kinds.into_iter().chain([("of an anonymous one", 2..4)]);
+    check_counts(&seen, kinds.flat_map(|(kind, copies)| copies.map(move |n| (kind, n))));
+}
+
+#[test]
+fn class_9_tells_the_root_last() {
+    let seen = RefCell::new(BTreeMap::new());
+    let check = |step: &Step| {
+        let Some((station, request)) = ended_request(step) else { return };
+        let Request::Query { handle, class: 9, capacity } = request else { return };
+        let (Some(token), Some(status @ (0 | 9))) =
+            (token_of(step.before, station, handle), step.status())
+        else {
+            return;
+        };
+        let mut report = Vec::new();
+        for number in [token.number, token.session, token.modified, token.kind as u64, token.root] {
+            write_number(number, &mut report);
+        }
+        let size = report.len();
+        let expected = if status == 0 { report } else { vec![size as u8] };
+        assert_eq!(step.fed.answer[2..], expected, "{:?}", step.call);
+        assert_eq!(status == 0, size <= capacity as usize, "{:?}", step.call);
+        let kind = match token.root {
+            NO_ROOT => "none",
+            root if root == token.number => "its own",
+            _ => "another",
+        };
+        let short = size.saturating_sub(capacity as usize).min(2);
+        *seen.borrow_mut().entry((kind, short)).or_insert(0) += 1;
+    };
+    run_all(check);
+    each_seed(320..520, |seed, _| run(seed, with_copies(), 200, check));
+    println!("reports, by root and bytes that the capacity lacks: {:?}", seen.borrow());
+    let kinds = ["none", "its own", "another"];
+    check_counts(&seen.borrow(), kinds.into_iter().flat_map(|kind| [(kind, 0), (kind, 1)]));
 }
 
 #[test]
@@ -210,9 +430,7 @@ fn request_5_reports_how_each_named_privilege_was() {
     });
     // Absent, disabled and enabled ones, each with all that may be asked of it.
     let [absent, disabled, enabled] = [(0, 0), (1, 0), (1, 1)];
-    let whatever = [disabled, enabled].into_iter().flat_map(|was| [0, 2, 4].map(|to| (was, to)));
-    for case in whatever.chain([(absent, 0), (absent, 4)]) {
-        let count = seen.borrow().get(&case).copied().unwrap_or(0);
-        assert!(one_seed().is_some() || count >= 10, "{case:?}: {count}");
-    }
+    let actions = [DISABLE, ENABLE, REMOVE];
+    let whatever = [disabled, enabled].into_iter().flat_map(|was| actions.map(|to| (was, to)));
+    check_counts(&seen.borrow(), whatever.chain([(absent, DISABLE), (absent, REMOVE)]));
 }

@@ -3,15 +3,11 @@
 use crate::number::write_number;
 use crate::privileges::{Privileges, ALL_PRIVILEGES, TCB};
 use crate::refusal::Refusal;
-use crate::request::{NO_CHANGE, RESET_GROUPS, RESET_PRIVILEGES};
+use crate::request::{DISABLE, ENABLE, NO_CHANGE, REMOVE, RESET_GROUPS, RESET_PRIVILEGES};
 use crate::rights::Mask;
 use crate::state::Model;
 use crate::token::{Group, Token, MAX_DACL};
 use crate::tokens::all_distinct;
-
-const DISABLE: u32 = 0;
-const ENABLE: u32 = 2;
-const REMOVE: u32 = 4;
 
 /// Words in the report of request 6.
 pub(crate) const ENABLED_WORDS: usize = 16;

@@ -43,11 +43,13 @@ pub use program::{program, MAX_CHUNK};
 pub use query::LAST_CLASS;
 pub use record::HandleRecord;
 pub use refusal::Refusal;
-pub use request::{Request, LAST_REQUEST, NO_CHANGE, RESET_GROUPS, RESET_PRIVILEGES};
+pub use request::{
+    Request, DISABLE, ENABLE, LAST_REQUEST, NO_CHANGE, REMOVE, RESET_GROUPS, RESET_PRIVILEGES,
+};
 pub use rights::Mask;
 pub use state::{Handle, Model, Station, HANDLES, STATIONS, TOKENS};
 pub use token::{
     Elevation, Group, Level, Token, TokenType, ANONYMOUS_SID, INTEGRITY_LEVELS, MAX_DACL,
-    MAX_GROUPS, MAX_RESTRICTING, SYSTEM_SID,
+    MAX_GROUPS, MAX_RESTRICTING, NO_ROOT, SYSTEM_SID,
 };
 pub use valid::{Rule, RULES};

@@ -95,6 +95,7 @@ fn token_row(slot: &Option<Token>) -> Vec<u64> {
         (token_word::GROUP_COUNT, token.groups.len() as u64),
         (token_word::RESTRICTING_COUNT, token.restricting.len() as u64),
         (token_word::DACL_LENGTH, token.dacl.len() as u64),
+        (token_word::ROOT, token.root),
     ];
     let groups = (token_word::GROUPS..).zip(token.groups.iter().map(group_word));
     let sids = (token_word::RESTRICTING..).zip(token.restricting.iter().map(|&sid| sid.into()));
@@ -203,6 +204,9 @@ impl TokenRow<'_> {
     pub fn number(&self) -> u64 {
         self.words[token_word::NUMBER]
     }
+    pub fn root(&self) -> u64 {
+        self.words[token_word::ROOT]
+    }
     pub fn user(&self) -> u64 {
         self.words[token_word::USER]
     }
@@ -276,6 +280,7 @@ impl TokenRow<'_> {
         let sids = self.restricting_words().0.iter();
         Some(Some(Token {
             number: self.number(),
+            root: self.root(),
             modified: self.words[token_word::MODIFIED],
             session: self.words[token_word::SESSION],
             user: self.user().try_into().ok()?,

@@ -49,7 +49,7 @@ fn numbers(token: &Token, class: u32) -> Option<Vec<u64>> {
         5 => vec![token.sid_at(token.primary_group).into()],
         7 => vec![token.kind as u64],
         8 => vec![token.level as u64],
-        9 => vec![token.number, token.session, token.modified, token.kind as u64],
+        9 => vec![token.number, token.session, token.modified, token.kind as u64, token.root],
         10 => counted(token.restricting.iter().map(|&sid| sid.into()).collect(), 1),
         11 => vec![token.scope.into()],
         12 => vec![token.elevation as u64],

@@ -12,13 +12,15 @@ pub enum Refusal {
     Right,
     /// The privilege is not held.
     Privilege,
-    /// A bad field or entry, an unknown class, or installing a non-primary token.
+    /// A bad field or entry, an unknown class, installing a non-primary token, or restricting a
+    /// restricted one by none of its SIDs or, without the mark, to writes only.
     Field,
     /// A mandatory, deny-only or logon group, or disabling one with the user's SID.
     Protected,
     /// The token to install is of another user or session.
     Mismatch,
-    /// No slot is free, no number is left, or there are too many restricting SIDs.
+    /// No slot is free, no number is left, or there are too many restricting SIDs for an
+    /// unrestricted token.
     Full,
     /// The query's answer, of this size, is larger than the given capacity.
     Capacity(u32),

@@ -4,6 +4,12 @@ use crate::number::Reader;
 
 /// The index in a default request that asks for no change.
 pub const NO_CHANGE: u16 = 0xFFFF;
+/// An entry's attributes that disable its privilege.
+pub const DISABLE: u32 = 0;
+/// That enable it.
+pub const ENABLE: u32 = 2;
+/// That remove it.
+pub const REMOVE: u32 = 4;
 /// The single pair that resets the privileges.
 pub const RESET_PRIVILEGES: (u32, u32) = (0, 0x8000_0000);
 /// The single pair that resets the groups.

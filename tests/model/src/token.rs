@@ -6,6 +6,8 @@ use crate::privileges::{Privileges, ALL_PRIVILEGES};
 pub const ANONYMOUS_SID: u32 = 7;
 /// The SID of the first token's user.
 pub const SYSTEM_SID: u32 = 18;
+/// The root of an anonymous copy, and of whatever is made from one.
+pub const NO_ROOT: u64 = 0;
 /// Most groups of a token.
 pub const MAX_GROUPS: usize = 64;
 /// Most restricting SIDs of a token.
@@ -150,6 +152,9 @@ impl Group {
 pub struct Token {
     /// Its own number, never 0.
     pub number: u64,
+    /// The number of the started or created token that it descends from, freed or not; its own
+    /// for those. Or [`NO_ROOT`].
+    pub root: u64,
     /// Steps at each adjustment.
     pub modified: u64,
     /// The session of its user.
@@ -185,10 +190,11 @@ pub struct Token {
 }
 
 impl Token {
-    /// A primary token of this user and session with nothing else.
+    /// A primary token of this user and session with nothing else, which descends from no other.
     pub fn bare(number: u64, user: u32, session: u64) -> Self {
         Token {
             number,
+            root: number,
             modified: number,
             session,
             user,
@@ -215,6 +221,11 @@ impl Token {
             integrity: HIGHEST_INTEGRITY,
             ..Token::bare(1, SYSTEM_SID, 999)
         }
+    }
+
+    /// Whether it has restricting SIDs; the marks alone restrict nothing.
+    pub fn is_restricted(&self) -> bool {
+        !self.restricting.is_empty()
     }
 
     /// The group that an index of owner or primary group names; `None` for the user.

@@ -9,7 +9,7 @@ use crate::rights::Mask;
 use crate::state::Model;
 use crate::token::{
     Elevation, Group, Level, Token, TokenType, ANONYMOUS_SID, INTEGRITY_LEVELS, MAX_GROUPS,
-    MAX_RESTRICTING,
+    MAX_RESTRICTING, NO_ROOT,
 };
 
 impl Model {
@@ -51,7 +51,8 @@ impl Model {
             .map(|&(sid, attributes)| new_group(Group { sid, attributes }, user))
             .collect::<Result<_, _>>()?;
         let privileges = Privileges::new(present, default);
-        let token = Token { privileges, groups, integrity, ..Token::bare(0, user, session) };
+        let bare = Token::bare(self.next_token, user, session);
+        let token = Token { privileges, groups, integrity, ..bare };
         let handle = self.add_token(station, token, Mask::ALL.0)?;
         self.mark_used(station, CREATE_TOKEN);
         Ok(handle)
@@ -82,7 +83,7 @@ impl Model {
         self.add_token(station, copy, mask)
     }
 
-    /// 10: a copy with less.
+    /// 10: a copy with less; a second restriction never widens.
     pub(crate) fn restrict(
         &mut self,
         station: usize,
@@ -98,10 +99,11 @@ impl Model {
             write_restricted <= 1
                 && remove & !ALL_PRIVILEGES == 0
                 && deny.iter().all(|&index| (index as usize) < source.groups.len())
-                && all_distinct(deny),
+                && all_distinct(deny)
+                && (write_restricted == 0 || may_be_write_restricted(source)),
         )?;
-        Refusal::Full.unless(source.restricting.len() + sids.len() <= MAX_RESTRICTING)?;
-        let copy = restricted_copy(source, write_restricted == 1, remove, deny, sids);
+        let restricting = restricting_of_copy(source, sids)?;
+        let copy = restricted_copy(source, write_restricted == 1, remove, deny, restricting);
         self.add_token(station, copy, handle.mask)
     }
 
@@ -154,13 +156,34 @@ fn impersonation_copy(source: &Token, level: Level) -> Token {
     Token { kind: TokenType::Impersonation, level, elevation: Elevation::Default, ..source.clone() }
 }
 
-/// An impersonation token with nothing of its source but the used privileges.
+/// An impersonation token with nothing of its source but the used privileges, its root no more.
 fn anonymous_copy(source: &Token) -> Token {
     Token {
+        root: NO_ROOT,
         kind: TokenType::Impersonation,
         privileges: Privileges { used: source.privileges.used, ..Privileges::default() },
         ..Token::bare(0, ANONYMOUS_SID, 0)
     }
+}
+
+/// A list that counts for all accesses may not come to count for writes only.
+fn may_be_write_restricted(source: &Token) -> bool {
+    !source.is_restricted() || source.write_restricted
+}
+
+/// The SIDs given, at most as many as there may be; of a restricted source its own that are also
+/// given, one at least, however many are given, or all if none is.
+fn restricting_of_copy(source: &Token, given: &[u32]) -> Result<Vec<u32>, Refusal> {
+    if !source.is_restricted() {
+        Refusal::Full.unless(given.len() <= MAX_RESTRICTING)?;
+        return Ok(given.to_vec());
+    }
+    let mut kept = source.restricting.clone();
+    if !given.is_empty() {
+        kept.retain(|sid| given.contains(sid));
+    }
+    Refusal::Field.unless(!kept.is_empty())?;
+    Ok(kept)
 }
 
 fn restricted_copy(
@@ -168,16 +191,15 @@ fn restricted_copy(
     write_restricted: bool,
     remove: u64,
     deny: &[u32],
-    sids: &[u32],
+    restricting: Vec<u32>,
 ) -> Token {
-    let mut copy = Token { elevation: Elevation::Default, ..source.clone() };
+    let mut copy = Token { elevation: Elevation::Default, restricting, ..source.clone() };
     copy.privileges = copy.privileges.remove(remove);
     for (index, group) in copy.groups.iter_mut().enumerate() {
         if deny.contains(&(index as u32)) {
             *group = group.denied();
         }
     }
-    copy.restricting.extend_from_slice(sids);
     copy.write_restricted |= write_restricted;
     copy.user_deny_only |= write_restricted;
     copy

@@ -1,4 +1,5 @@
-//! Valid memory, the papers' "memory in order": one function for each rule of that paragraph.
+//! Valid memory, the papers' "memory in order": one function for each rule of that paragraph and of what
+//! document 02 adds to it.
 
 use std::collections::HashSet;
 
@@ -18,7 +19,7 @@ use crate::token::{
 /// A rule's name and its check; all but the first are for memory of the right size.
 pub type Rule = (&'static str, fn(&Memory) -> bool);
 
-/// The rules in the paragraph's order.
+/// The rules in the papers' order.
 pub const RULES: &[Rule] = &[
     ("size", size_is_right),
     ("next numbers", next_numbers_are_not_0),
@@ -35,6 +36,7 @@ pub const RULES: &[Rule] = &[
     ("indexes", index_targets_are_allowed),
     ("deny-only", deny_only_groups_are_not_enabled),
     ("pending", pending_could_have_come_from_a_stream),
+    ("roots", roots_are_at_most_the_number),
 ];
 
 impl Memory {
@@ -206,4 +208,8 @@ fn pending_could_have_come_from_a_stream(memory: &Memory) -> bool {
         let broken_keeps_none = row.broken == 0 || row.count == 0;
         count_is_whole && broken_keeps_none && may_be_pending(row.pending())
     })
+}
+
+fn roots_are_at_most_the_number(memory: &Memory) -> bool {
+    memory.live_tokens().all(|row| row.root() <= row.number())
 }

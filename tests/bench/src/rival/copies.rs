@@ -6,7 +6,7 @@ use super::layout::{
     DELEGATION, DENY_ONLY, ENABLED, ENABLED_BY_DEFAULT, GIVEN, GROUPS, IMPERSONATION,
     INTEGRITY_STEP, LOGON_ID, MAX_GROUPS, MAX_INTEGRITY, MAX_RESTRICTING, PRIMARY,
 };
-use super::memory::Memory;
+use super::memory::{Memory, Row};
 use super::reader::{refuse, Body, Reader};
 use super::records::is_mask;
 use super::requests::Served;
@@ -52,6 +52,7 @@ impl Memory<'_> {
         row[word::GROUP_COUNT] = count.into();
         row[GROUPS].copy_from_slice(&groups);
         let number = self.number_token(slot);
+        self.tokens[slot][word::ROOT] = number;
         out.number(self.place_handle(place, station, number, right::ALL));
         self.tokens[own][word::USED] |= 1 << CREATE_TOKEN;
         Ok(())
@@ -100,6 +101,7 @@ impl Memory<'_> {
         let (mut deny, mut sids, mut at) = (Set::default(), [0; MAX_RESTRICTING], 0);
         let mut bad = write > 1 || remove & !ALL_PRIVILEGES != 0;
         reader.each(denies, |reader| bad |= !deny.add(reader.u32()));
+        let given = reader.clone();
         reader.each(count, |reader| {
             let sid = reader.u32();
             if let Some(place) = sids.get_mut(at) {
@@ -112,26 +114,20 @@ impl Memory<'_> {
         let row = &self.tokens[source];
         let [groups, had] =
             [word::GROUP_COUNT, word::RESTRICTING_COUNT].map(|word| row[word] as usize);
+        bad |= write == 1 && had > 0 && row[word::WRITE_RESTRICTED] == 0;
         refuse(5, !bad && deny.is_below(groups))?;
-        refuse(8, had + count as usize <= MAX_RESTRICTING)?;
+        if had == 0 {
+            refuse(8, at <= MAX_RESTRICTING)?;
+        } else {
+            (sids, at) = narrowed(&row[word::RESTRICTING..][..had], given, count);
+            refuse(5, at > 0)?;
+        }
         let (slot, place) = (self.free_token()?, self.free_handle()?);
         self.copy(source, slot);
         let row = &mut self.tokens[slot];
-        row[word::ELEVATION] = DEFAULT_ELEVATION;
-        row[word::WRITE_RESTRICTED] |= u64::from(write);
-        row[word::USER_DENY_ONLY] |= u64::from(write);
-        for privileges in [word::PRESENT, word::ENABLED, word::DEFAULT] {
-            row[privileges] &= !remove;
-        }
-        for (deny, groups) in deny.0.iter().zip(row[GROUPS].chunks_mut(WORD_GROUPS)) {
-            for (at, group) in groups.iter_mut().enumerate() {
-                if deny >> at & 1 == 1 {
-                    *group = *group & !in_word(ENABLED) | in_word(DENY_ONLY);
-                }
-            }
-        }
-        row[word::RESTRICTING_COUNT] += u64::from(count);
-        row[word::RESTRICTING + had..][..count as usize].copy_from_slice(&sids[..count as usize]);
+        row[word::RESTRICTING_COUNT] = at as u64;
+        row[word::RESTRICTING..].copy_from_slice(&sids);
+        weaken(row, write.into(), remove, &deny);
         let number = self.number_token(slot);
         out.number(self.place_handle(place, station, number, handle.mask.into()));
         Ok(())
@@ -141,5 +137,41 @@ impl Memory<'_> {
     fn copy(&mut self, source: usize, slot: usize) {
         self.tokens[slot] = self.tokens[source];
         self.dacls[slot] = self.dacls[source];
+    }
+}
+
+/// Those of a restricted token's SIDs that are also given, all if none is, and how many they are.
+fn narrowed(own: &[u64], mut given: Reader, count: u32) -> ([u64; MAX_RESTRICTING], usize) {
+    let mut keep = if count == 0 { u64::MAX } else { 0 };
+    given.each(count, |given| {
+        let sid = u64::from(given.u32());
+        for (at, &own) in own.iter().enumerate() {
+            keep |= u64::from(own == sid) << at;
+        }
+    });
+    let (mut sids, mut kept) = ([0; MAX_RESTRICTING], 0);
+    for (at, &sid) in own.iter().enumerate() {
+        if keep >> at & 1 == 1 {
+            sids[kept] = sid;
+            kept += 1;
+        }
+    }
+    (sids, kept)
+}
+
+/// Sets the marks, removes the privileges and denies the groups.
+fn weaken(row: &mut Row, write: u64, remove: u64, deny: &Set) {
+    row[word::ELEVATION] = DEFAULT_ELEVATION;
+    row[word::WRITE_RESTRICTED] |= write;
+    row[word::USER_DENY_ONLY] |= write;
+    for privileges in [word::PRESENT, word::ENABLED, word::DEFAULT] {
+        row[privileges] &= !remove;
+    }
+    for (deny, groups) in deny.0.iter().zip(row[GROUPS].chunks_mut(WORD_GROUPS)) {
+        for (at, group) in groups.iter_mut().enumerate() {
+            if deny >> at & 1 == 1 {
+                *group = *group & !in_word(ENABLED) | in_word(DENY_ONLY);
+            }
+        }
     }
 }

@@ -94,6 +94,7 @@ impl Memory<'_> {
         let row = &mut self.tokens[0];
         row[word::NUMBER] = 1;
         row[word::MODIFIED] = 1;
+        row[word::ROOT] = 1;
         row[word::SESSION] = 999;
         row[word::USER] = SYSTEM_SID;
         row[word::TYPE] = PRIMARY;

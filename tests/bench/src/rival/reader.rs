@@ -10,6 +10,7 @@ const U64_BYTES: usize = 10;
 const U32_BYTES: usize = 5;
 
 /// Reads fields; what is not in its layout stays noted in `bad`.
+#[derive(Clone)]
 pub struct Reader<'a> {
     bytes: &'a [u8],
     bad: bool,

@@ -32,7 +32,7 @@ impl Memory<'_> {
             }
             7 => out.number(row[word::TYPE]),
             8 => out.number(row[word::LEVEL]),
-            9 => [word::NUMBER, word::SESSION, word::MODIFIED, word::TYPE]
+            9 => [word::NUMBER, word::SESSION, word::MODIFIED, word::TYPE, word::ROOT]
                 .into_iter()
                 .for_each(|word| out.number(row[word])),
             10 => {

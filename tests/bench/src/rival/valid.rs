@@ -133,6 +133,7 @@ fn token_is_valid(row: &Row, dacl: &[u8; DACL_ROW]) -> bool {
         && (row[word::WRITE_RESTRICTED] | row[word::USER_DENY_ONLY]) <= 1
         && integrity % INTEGRITY_STEP == 0
         && integrity <= MAX_INTEGRITY
+        && row[word::ROOT] <= row[word::NUMBER]
         && (row[word::ENABLED] | row[word::DEFAULT]) & !row[word::PRESENT] == 0
         && (row[word::PRESENT] | row[word::USED]) & !ALL_PRIVILEGES == 0
         && groups <= MAX_GROUPS

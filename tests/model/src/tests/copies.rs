@@ -53,6 +53,7 @@ fn an_anonymous_copy_keeps_only_the_used_bits() {
     let copy = handle(&mut model, 0, &[9, made, 2, 0, 0x1EF]);
     let expected = Token {
         number: 3,
+        root: 0,
         modified: 3,
         session: 0,
         user: 7,
@@ -118,7 +119,7 @@ fn restrict_takes_away() {
     expected.privileges = Privileges { present: 16, enabled: 0, default: 16, used: 1 << 36 };
     expected.groups[0].attributes = 0x13;
     expected.groups[2].attributes = 0x10;
-    expected.restricting = vec![70, 71, 71, 90];
+    expected.restricting = vec![71];
     let request = [10, made, 0, 0b1100 | 1 << 30, 2, 2, 2, 0, 71, 90];
     let copy = handle(&mut model, 0, &request);
     assert_eq!(*token_of(&model, copy), expected);
@@ -180,26 +181,6 @@ fn restrict_checks_its_fields() {
         assert_eq!(ask(&mut model, 0, request), [5], "{request:?}");
     }
     assert_eq!(status(&mut model, 0, &[10, made, 1, 1 << 36, 2, 0, 1, 0]), 0);
-}
-
-#[test]
-fn sixteen_restricting_sids_and_no_more() {
-    let mut model = Model::start();
-    let own = open(&mut model, 0, 2);
-    let request = |source, count: u64| {
-        [vec![10, source, 0, 0, 0, count], (0..count).collect::<Vec<_>>()].concat()
-    };
-    assert_eq!(ask(&mut model, 0, &request(own, 17)), [8]);
-    let ten = handle(&mut model, 0, &request(own, 10));
-    assert_eq!(ask(&mut model, 0, &request(ten, 7)), [8]);
-    let sixteen = handle(&mut model, 0, &request(ten, 6));
-    let sids: Vec<u32> = (0..10).chain(0..6).collect();
-    assert_eq!(token_of(&model, sixteen).restricting, sids);
-    assert_eq!(ask(&mut model, 0, &request(sixteen, 1)), [8]);
-    assert_eq!(status(&mut model, 0, &request(sixteen, 0)), 0);
-    let bad_too = [10, own, 0, 1, 0, 17].into_iter().chain(0..17).collect::<Vec<_>>();
-    assert_eq!(ask(&mut model, 0, &bad_too), [5]);
-    assert_eq!(ask(&mut model, 0, &request(own, 17)[..22]), [1]);
 }
 
 #[test]

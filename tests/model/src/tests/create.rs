@@ -16,6 +16,7 @@ fn it_makes_a_primary_token() {
     let made = handle(&mut model, 0, &request);
     let expected = Token {
         number: 2,
+        root: 2,
         modified: 2,
         session: u64::MAX,
         user: 50,

@@ -8,20 +8,20 @@ use crate::layout::{
 use crate::{HandleRecord, Memory, Model, ALL_PRIVILEGES, HANDLES, MIN_BUFFER, PARTS, STATIONS};
 
 /// The bytes of each part, as docs/MEMORY.md's first table has them.
-const SIZES: [usize; PARTS.len()] = [12_800, 4_096, 512, 208, 16_400];
+const SIZES: [usize; PARTS.len()] = [12_928, 4_096, 512, 208, 16_400];
 
 #[test]
 fn sizes() {
     let sizes = Model::start().memory().bytes().map(|part| part.len());
     assert_eq!(sizes, SIZES);
-    assert_eq!(sizes.iter().sum::<usize>(), 34_016);
+    assert_eq!(sizes.iter().sum::<usize>(), 34_144);
 }
 
 #[test]
 fn the_start_in_memory() {
     let memory = Model::start().memory();
     let all = ALL_PRIVILEGES;
-    let row = [1, 1, 999, 18, 1, 0, 1, 0, 0, 0, 0, 0, 16384, all, all, all, 0, 0, 0, 0];
+    let row = [1, 1, 999, 18, 1, 0, 1, 0, 0, 0, 0, 0, 16384, all, all, all, 0, 0, 0, 0, 1];
     let (fields, rest) = memory.tokens.split_at(token_word::GROUPS);
     assert_eq!(fields, row);
     assert!(rest.iter().all(|&word| word == 0));
@@ -60,7 +60,7 @@ fn station(station: usize, word: usize) -> usize {
 fn every_field_has_its_word() {
     let memory = busy().memory();
     let row = &memory.tokens[token(2, 0)..];
-    let head = [3, 5, 9, 50, 1, 0, 1, 1, 1, 2, 1, 99, 4096, 4, 4, 4, 0, 2, 3, 3];
+    let head = [3, 5, 9, 50, 1, 0, 1, 1, 1, 2, 1, 99, 4096, 4, 4, 4, 0, 2, 3, 3, 2];
     assert_eq!(row[..token_word::GROUPS], head);
     assert_eq!(row[token_word::GROUPS..][..3], [60 | 0x12 << 32, 61 | 0xC000_000E << 32, 0]);
     assert_eq!(row[token_word::RESTRICTING..][..4], [70, 71, 72, 0]);
@@ -123,6 +123,9 @@ fn valid_with(slot: usize, word: usize, value: u64) -> bool {
 fn what_valid_memory_does_not_ask() {
     assert!(valid_with(0, token_word::MODIFIED, u64::MAX), "any modified number");
     assert!(valid_with(0, token_word::ELEVATION, 3), "any elevation");
+    for root in 0..=3 {
+        assert!(valid_with(2, token_word::ROOT, root), "its own number as root, or any below");
+    }
     assert!(valid_with(0, token_word::USER_DENY_ONLY, 1), "one mark of the two");
     assert!(valid_with(0, token_word::USED, ALL_PRIVILEGES), "any used");
     assert!(valid_with(1, token_word::GROUPS, 60 | 1 << 32), "no value 2");
@@ -143,6 +146,9 @@ fn what_it_does_ask() {
     assert!(!valid_with(1, token_word::TYPE, 3), "type");
     assert!(!valid_with(2, token_word::TYPE, 0), "type");
     assert!(!valid_with(0, token_word::TYPE, 2), "a station's token");
+    for root in [4, 5, 1 << 32, 3 + (1 << 32), 1 << 63, u64::MAX] {
+        assert!(!valid_with(2, token_word::ROOT, root), "a root above the token's number");
+    }
     assert!(!valid_with(2, token_word::OWNER, 1), "owner without the attribute");
     assert!(!valid_with(2, token_word::GROUPS, 60 | 0x16 << 32), "deny-only and enabled");
     let count = station(4, station_word::PENDING_COUNT);

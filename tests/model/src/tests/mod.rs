@@ -15,6 +15,8 @@ mod numbers;
 mod privileges;
 mod program;
 mod query;
+mod restrictions;
+mod roots;
 mod slips;
 mod streams;
 

@@ -10,6 +10,7 @@ fn rich() -> (Model, u64) {
     let token = token_of_mut(&mut model, made);
     *token = Token {
         number: token.number,
+        root: 1,
         modified: 300,
         session: 1 << 40,
         user: 50,
@@ -41,7 +42,7 @@ fn every_class() {
         (6, vec![3, 0, 255, 128]),
         (7, body(&[2])),
         (8, body(&[3])),
-        (9, body(&[2, 1 << 40, 300, 2])),
+        (9, body(&[2, 1 << 40, 300, 2, 1])),
         (10, body(&[3, 70, 71, 70])),
         (11, body(&[77])),
         (12, body(&[3])),

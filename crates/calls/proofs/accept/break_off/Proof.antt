@@ -14,4 +14,4 @@ break-off-spec =
     (λ c. search needs)
     (λ c. search needs)
     (λ c. search needs)
-    (λ c. search (needs, broken-off)))
+    (λ c. broken-off _ _ _ _ (c .before .before .before .before .before .before .before .before .before .before .clear .ensures) (c .before .before .before .before .before .before .set-stream .ensures) (c .before .before .write .ensures)))

@@ -15,4 +15,4 @@ write-spec =
     (λ c. search needs)
     (λ c. search needs)
     (λ c. search needs)
-    (λ c. search (needs, begun)))
+    (λ c. begun (c .before .before .before .before .before .before .before .before .before .before .before .before .write-tokens .ensures) (c .before .before .before .before .before .before .write .ensures) (c .before .before .zero-bytes .ensures)))

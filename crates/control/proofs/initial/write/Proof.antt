@@ -1,5 +1,6 @@
 -- The counters over zeros; then its loop gives a station more its token. Assumes nothing.
 use Prim.Native.Nat.{_-_}
+use mathlib.Core.Path.{refl}
 use borrow.Author.Needs.{needs}
 use Rattle.rules.specs.State.{stationCount}
 use Rattle.control.proofs.Beginning.{Begun, begun-none, begun-more, begun-all}
@@ -19,7 +20,7 @@ write-spec =
     (λ c κs. search needs)
     (λ c. search needs)
     (λ c. search needs)
-    (λ c. search (needs, begun-none))
+    (λ c. begun-none (c .before .before .zero-words .ensures) refl)
     (λ c. search needs)
     (λ c κs. search needs)
     (λ c. search needs)

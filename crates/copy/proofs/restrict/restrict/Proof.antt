@@ -17,17 +17,32 @@ restrict-spec =
     (λ c. search needs)
     (λ c. let x = c .before .before .before in search (needs, located _ (x .before .before .before .before .find-handle .ensures) (x .before .before .before .mask-of .ensures) (x .before .before .may-duplicate .ensures) (x .locate .ensures), restrict-unknown))
     (λ c κs. search needs)
-    (λ c κs. search needs)
+    (λ c. search needs)
+    (λ c κs. let source = c .before .before in
+    let x = source .before .before .before .before in
+    (x .before .before .before .before .before .before .before .before .before .pre .0 .tokens, x .locate .ensures .inside, source .source-at .ensures .few-restricting))
+    (λ c κs. let source = c .before .before .before .before .before in
+    let given = source .before .before .before .before .before .before .before .before .before .before .before .before .before .pre .0 in
+    (source .source-at .ensures .few-groups, given .tokens, given .control))
     (λ c κs. search needs)
     (λ c. search needs)
     (λ c. search needs)
-    (λ c. let x = c .before .before .before .before .before .before .before .before .before in search (needs, located _ (x .before .before .before .before .find-handle .ensures) (x .before .before .before .mask-of .ensures) (x .before .before .may-duplicate .ensures) (x .locate .ensures), restrict-refused))
-    (λ c κs. let given = c .before .before .before .before .before .before .before .before .before .before .before .before .before .before .before .before .before .before .before .before .pre in (given .0, search needs, c .before .before .before .before .refusal-of .ensures .left (c .before .before .before .if2 .left), given .1, search needs, c .before .before .before .before .refusal-of .ensures .few (c .before .before .before .if2 .left)))
+    (λ c. let refusal = c .before .before in
+    let list = refusal .before .before .before in
+    let source = list .before .before .before in
+    let x = source .before .before .before .before in
+    restrict-refused (located _ (x .before .before .before .before .find-handle .ensures) (x .before .before .before .mask-of .ensures) (x .before .before .may-duplicate .ensures) (x .locate .ensures)) (source .before .before .if1 .left) (source .source-at .ensures) (list .list-of .ensures) (refusal .refusal-of .ensures) (c .before .if2 .taken) (c .refused2 .ensures))
+    (λ c κs. let refusal = c .before .before .before .before in
+    let source = refusal .before .before .before .before .before .before in
+    let x = source .before .before .before .before in
+    let given = x .before .before .before .before .before .before .before .before .before .pre in
+    (given .0, x .locate .ensures .inside, refusal .refusal-of .ensures .left (c .before .before .before .if2 .left), given .1, source .source-at .ensures .few-groups))
     (λ c. search needs)
     (λ c. search needs)
     (λ c. search needs)
     (λ c. let issued = c .before .before .before .before .before .before in
     let refusal = issued .before .before .before .before .before in
-    let counts = refusal .before .before .before in
-    let x = counts .before .before .before .before in
-    restricts (located _ (x .before .before .before .before .find-handle .ensures) (x .before .before .before .mask-of .ensures) (x .before .before .may-duplicate .ensures) (x .locate .ensures)) (counts .before .before .if1 .left) (counts .counts-at .ensures) (refusal .refusal-of .ensures) (issued .before .before .before .before .if2 .left) (issued .issue-restricted .ensures)))
+    let list = refusal .before .before .before in
+    let source = list .before .before .before in
+    let x = source .before .before .before .before in
+    restricts (located _ (x .before .before .before .before .find-handle .ensures) (x .before .before .before .mask-of .ensures) (x .before .before .may-duplicate .ensures) (x .locate .ensures)) (source .before .before .if1 .left) (source .source-at .ensures) (list .list-of .ensures) (refusal .refusal-of .ensures) (issued .before .before .before .before .if2 .left) (issued .issue-restricted .ensures)))

@@ -18,4 +18,4 @@ groups-spec =
     (λ c. search needs)
     (λ c. search needs)
     (λ c. search needs)
-    (λ c. search (entries-served requests.groups)))
+    (λ c. entries-served requests.groups _ _ _ _ _ (c .before .before .before .before .before .before .before .before .entries .ensures) _ (c .before .before .before .before .before .before .if1 .left) (c .before .before .adjust-groups .ensures)))
