@@ -3,7 +3,7 @@ use Prim.Native.Nat.{ℕ, suc, _+_, _-_, _≤_, _<_}
 use native.Mathlib.Numerals.{add-one}
 use native.Mathlib.Omega.{arith}
 use mathlib.Core.Path.{_≡_, refl, sym, ap, ap₂, _∙_, subst}
-use mathlib.Core.Bool.{Bool, true, false, _||_, or-assoc, or-true, or-false}
+use mathlib.Core.Bool.{Bool, true, false, _||_, or-true, or-false}
 use mathlib.Core.List.{List, [], _∷_, _++_, map, append-nil, append-assoc}
 use lib.Dec.{eqb}
 use lib.ListN.{length, take, drop, getD, set, replicate, length-append, length-take, length-set}
@@ -19,6 +19,7 @@ use Rattle.rules.specs.Head as Head
 use Rattle.rules.specs.Memory.{headWords, tokenWords, pack, head, tokenRow}
 use Rattle.rules.specs.Request.{times, u32}
 use Rattle.rules.specs.Restrict.{restrictingTo}
+use Rattle.rules.proofs.Logic.{member-append}
 use Rattle.number.specs.declared.Number.{Number}
 use Rattle.number.specs.declared.Number.the-variants as number
 use Rattle.number.specs.Meaning.{NumberAt}
@@ -96,11 +97,6 @@ module _ {s : List ℕ} {at count : ℕ} {list : Sids} {from left : ℕ} (k : Gi
     }
 
 -- ---- one of the source's
-
-member-append : (n : ℕ) (xs ys : List ℕ) → member n (xs ++ ys) ≡ (member n xs || member n ys)
-unfolding member
-member-append n [] ys = refl
-member-append n (x ∷ xs) ys = ap (λ (b : Bool). eqb n x || b) (member-append n xs ys) ∙ sym (or-assoc (eqb n x) (member n xs) (member n ys))
 
 -- so far in the loop
 abbrev pub Unseen : (sid : ℕ) (s : List ℕ) (at count from left : ℕ) → Type 0

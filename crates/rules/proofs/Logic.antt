@@ -2,7 +2,7 @@
 use Prim.Native.Nat.{ℕ, zero, suc, _<_, _≤_}
 use native.Mathlib.Omega.{arith}
 use mathlib.Core.Path.{_≡_, refl, sym, ap, ap₂, _∙_}
-use mathlib.Core.Bool.{Bool, true, false, not, _&&_, _||_, or-true, and-false}
+use mathlib.Core.Bool.{Bool, true, false, not, _&&_, _||_, or-true, or-assoc, and-false}
 use mathlib.Core.Logic.{_⊎_, inl, inr, ⊎-elim}
 use mathlib.Core.List.{List, [], _∷_, _++_, map}
 use lib.Dec.{eqb}
@@ -154,6 +154,11 @@ mem-member {n} (there {x = x} {xs = xs} m) = or-r (eqb n x) (member n xs) (mem-m
 pub distinct-head : (x : ℕ) (xs : List ℕ) → distinct (x ∷ xs) ≡ true → Mem x xs → ⊥
 unfolding distinct
 distinct-head x xs h m = not-e (member x xs) (and-l _ (distinct xs) h) (mem-member m)
+
+pub member-append : (n : ℕ) (xs ys : List ℕ) → member n (xs ++ ys) ≡ (member n xs || member n ys)
+unfolding member
+member-append n [] ys = refl
+member-append n (x ∷ xs) ys = ap (λ (b : Bool). eqb n x || b) (member-append n xs ys) ∙ sym (or-assoc (eqb n x) (member n xs) (member n ys))
 
 pub distinct-tail : (x : ℕ) (xs : List ℕ) → distinct (x ∷ xs) ≡ true → distinct xs ≡ true
 unfolding distinct
