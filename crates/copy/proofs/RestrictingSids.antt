@@ -24,15 +24,11 @@ use Rattle.number.specs.declared.Number.{Number}
 use Rattle.number.specs.declared.Number.the-variants as number
 use Rattle.number.specs.Meaning.{NumberAt}
 use Rattle.state.proofs.InPlace.{lent}
+use Rattle.state.proofs.TokenScalars.{empty-size}
 use Rattle.copy.specs.declared.restricting.Sids.{Sids}
 use Rattle.copy.specs.Restricting.{Listed, SidAdded, GivenListed, isKept, Stays, OwnKept, ListMade, withRestricting, RestrictedTo}
 use Rattle.copy.proofs.Numbers.{numbers-long, Walk, walk-begin, walk-end, walk-lost, walk-next}
 use Rattle.copy.proofs.RestrictedRow.{getD-pad}
-
-pub empty-size : (xs : List ℕ) → isEmpty xs ≡ eqb (length xs) 0
-unfolding isEmpty
-empty-size [] = refl
-empty-size (x ∷ xs) = sym (ne-eqb (suc (length xs)) 0 (λ h. omega arith))
 
 -- ---- one SID more
 
