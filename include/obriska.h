@@ -161,8 +161,8 @@ enum obriska_refusal {
     OBRISKA_REFUSED_RIGHT = 3,      /* the handle lacks the right */
     OBRISKA_REFUSED_PRIVILEGE = 4,  /* the privilege is not enabled on the station's token */
     OBRISKA_REFUSED_FIELD = 5,      /* a bad field or entry, an unknown class, installing a token that
-                                       is not primary, or restricting a restricted one by none of
-                                       its SIDs or, without the mark, to writes only */
+                                       is not primary, or restricting a restricted one to none of
+                                       its SIDs, or to write-restricted where it is not */
     OBRISKA_REFUSED_PROTECTED = 6,  /* an entry names a mandatory, deny-only or logon group, or
                                        disables one with the user's SID */
     OBRISKA_REFUSED_MISMATCH = 7,   /* installing a token of another user or session */

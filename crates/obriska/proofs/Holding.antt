@@ -26,6 +26,10 @@ use Rattle.obriska.specs.Serving.{bufferBytes, Ready, held, Room, Refill
 
 -- ---- refill
 
+-- nothing was read, whatever the buffer has become
+pub unfilled : (from end : ℕ) (b b′ : List ℕ) → Refilled from end b b′ 0
+unfilled from end b b′ = record { kept = λ h. absurd (omega arith); more = λ h. absurd (omega arith); inside = omega arith }
+
 -- b is the buffer, b₁ with the bytes held at its front, ys what then stands after these
 module _ (from end : ℕ) (b b₁ ys : List ℕ) (n : ℕ) (k : Kept from end b b₁ n) (fits : Room from end b) (long : length b₁ ≡ length b) where
   abbrev filled : List ℕ
@@ -37,10 +41,6 @@ module _ (from end : ℕ) (b b₁ ys : List ℕ) (n : ℕ) (k : Kept from end b 
       ∙ take-at (take n (drop from b)) (drop n b) n (length-take-le n (drop from b) (omega (arith, k .count, length-drop from b)))
       ∙ ap (λ (j : ℕ). take j (drop from b)) (k .count)
       ∙ sym (drop-take from end b)
-
-  -- nothing was read
-  pub unfilled : Refilled from end b filled 0
-  unfilled = record { kept = λ h. absurd (omega arith); more = λ h. absurd (omega arith); inside = omega arith }
 
   -- j bytes were read
   module _ (j : ℕ) (some : j ≡ 0 → ⊥) (c : j ≤ length (take (length filled - n) (drop n filled))) where

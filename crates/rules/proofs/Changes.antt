@@ -31,7 +31,7 @@ follows-trans t u v a b =
     let number = b .number ∙ a .number in
     let identity = b .identity ∙ a .identity in
     let sids = b .sids ∙ a .sids in
-    search (within-trans, a .denied, b .denied, a .userDenied, b .userDenied)
+    search (within-trans, a .denied, b .denied)
 
 -- a token that was there is there as it was
 same : (x : Table Token) (u : Token) → Mem u (lives (x .slots)) → Before x u

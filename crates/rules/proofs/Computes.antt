@@ -71,7 +71,7 @@ unfolding
     Valid.isByte Valid.is32 Valid.is64 Valid.between Valid.identityValid Valid.privilegesValid Valid.groupValid Valid.groupsValid Valid.limitsValid Valid.defaultsValid Valid.tokenValid Valid.handleValid Valid.isPart Valid.streamValid Valid.tableValid Valid.isToken Valid.primaryAtStation Valid.clientFits Valid.clientAtStations Valid.idleValid Valid.valid
     Ladder.failing Ladder.firstOf Ladder.status
     Run.returned Run.after Run.noted Run.answered Run.ofBytes Run.eventsOf Run.events Run.happens Run.stateOf Run.told Run.afterEvents Run.answersTo Run.stationOf Run.notedAt Run.timed Run.placeOf Run.toldAt Run.timedTo Run.untilUsed Run.outcomeOf Run.outcomeAt Run.outcomes Run.servedBy Run.answerTo Run.answeredAt Run.answeredFrom Run.OneByOne
-    Growth.sidOf Growth.Live Growth.LiveHandle Growth.sourceAt Growth.sourceOf Growth.Copying Growth.makesRoot
+    Growth.sidOf Growth.Live Growth.LiveHandle Growth.sourceAt Growth.sourceOf Growth.Copying Growth.makesRoot Growth.Creating
     Acting.setsClient Acting.ClientKept
     Memory.sized Memory.mark Memory.pack Memory.unpack Memory.head Memory.tokenRow Memory.daclRow Memory.slotRow Memory.slotDacl Memory.slotHandle Memory.stationRow Memory.pendingRow Memory.sections Memory.control Memory.encode Memory.identityAt Memory.privilegesAt Memory.groupsAt Memory.limitsAt Memory.defaultsAt Memory.tokenAt Memory.slotAt Memory.handleAt Memory.stationAt Memory.decode Memory.same Memory.sameHandle Memory.sameHandles Memory.sameMemory Memory.isImage Memory.valid
 computes = tt

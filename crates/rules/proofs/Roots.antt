@@ -17,7 +17,7 @@ use Rattle.rules.specs.Decision.{withHandle}
 use Rattle.rules.specs.Duplicate as Duplicate
 use Rattle.rules.specs.Duplicate.{isAnonymous}
 use Rattle.rules.specs.Group.{Group}
-use Rattle.rules.specs.Growth.{Live, Mem, here, there, Source, sourceAt, sourceOf, Copying, makesRoot, Rooted, none, old, created}
+use Rattle.rules.specs.Growth.{Creating, Live, Mem, here, there, Source, sourceAt, sourceOf, Copying, makesRoot, Rooted, none, old, created}
 use Rattle.rules.specs.Handle.{Handle}
 use Rattle.rules.specs.Impersonate as Impersonate
 use Rattle.rules.specs.Install as Install
@@ -50,23 +50,23 @@ SameNext d e = e .tokens .next ≡ d .tokens .next
 
 -- the token is its own root, with d's next number
 unfoldable IsRoot : State → Token → Type 0
-IsRoot d u = u .identity .root ≡ d .tokens .next
+IsRoot d u = (u .identity .root ≡ u .number) × (u .number ≡ d .tokens .next)
 
 data Gives (d : State) (s : ℕ) (r : Read Request) : Type 0 where
-  nothing : Ends (SameNext d) (decided d s r) → Gives d s r
-  copy : (x : Source) → sourceOf d s r ≡ live x → Live (x .token) d → Gives d s r
+  nothing : makesRoot r ≡ false → Ends (SameNext d) (decided d s r) → Gives d s r
+  copy : makesRoot r ≡ false → (x : Source) → sourceOf d s r ≡ live x → Live (x .token) d → Gives d s r
   root : makesRoot r ≡ true → Ends (Fresh d (IsRoot d)) (decided d s r) → Gives d s r
 
 module _ (d : State) (f : StateFacts d) (s : ℕ) where
   -- the copy of a handle's token, if the handle is live
-  of-handle : (n : ℕ) (b : Bool) (r : Read Request) → sourceOf d s r ≡ sourceAt d b (findHandle d s n)
+  of-handle : (n : ℕ) (b : Bool) (r : Read Request) → makesRoot r ≡ false → sourceOf d s r ≡ sourceAt d b (findHandle d s n)
       → ((isLive (findHandle d s n) ≡ true → ⊥) → Ends (SameNext d) (decided d s r)) → Gives d s r
   unfolding sourceAt Live isLive
-  of-handle n b r e refused = go (findHandle d s n) refl
+  of-handle n b r z e refused = go (findHandle d s n) refl
     where
       go : (p : Slot Handle) → findHandle d s n ≡ p → Gives d s r
-      go free k = nothing (refused (λ h. not-both h (ap isLive k)))
-      go (live h) k = copy _ (e ∙ ap (sourceAt d b) k) (token-here d h f (found-here d s n h k .was) .was)
+      go free k = nothing z (refused (λ h. not-both h (ap isLive k)))
+      go (live h) k = copy z _ (e ∙ ap (sourceAt d b) k) (token-here d h f (found-here d s n h k .was) .was)
 
   -- used marks make no token
   marked-fresh : Fresh d (IsRoot d) (used createToken s d)
@@ -75,7 +75,7 @@ module _ (d : State) (f : StateFacts d) (s : ℕ) where
 
   creates : (user session integrity present byDefault : ℕ) (gs : List Group) → Ends (Fresh d (IsRoot d)) (Create.create d s user session integrity present byDefault gs)
   unfolding Create.create Ends IsRoot newToken primaryOf
-  creates user session integrity present byDefault gs may ok room = issues d (used createToken s d) (IsRoot d) s _ _ marked-fresh refl
+  creates user session integrity present byDefault gs may ok room = issues d (used createToken s d) (IsRoot d) s _ _ marked-fresh (refl, refl)
 
   install-marks : (t : Token) → SameNext d (Install.marked s t d)
   unfolding SameNext used changeToken putToken withTokens withSlots
@@ -87,20 +87,20 @@ module _ (d : State) (f : StateFacts d) (s : ℕ) where
 
   gives : (r : Read Request) → Gives d s r
   unfolding decided rule sourceOf makesRoot Ends SameNext withHandle OpenClose.openOwn OpenClose.close Query.query AdjustPrivileges.adjust AdjustGroups.adjust AdjustScope.scope AdjustDefaults.adjust Duplicate.duplicate Restrict.restrict Install.install Impersonate.impersonate Impersonate.revert released addHandle dropHandle setToken setClient changeStation withStations withHandles withTokens withSlots used changeToken putToken
-  gives bad = nothing (λ h. absurd (not-both h refl))
-  gives (got (Request.openOwn mask) bytes) = nothing (λ ok room. refl)
-  gives (got (Request.close n) bytes) = nothing (λ known. refl)
+  gives bad = nothing refl (λ h. absurd (not-both h refl))
+  gives (got (Request.openOwn mask) bytes) = nothing refl (λ ok room. refl)
+  gives (got (Request.close n) bytes) = nothing refl (λ known. refl)
   gives (got (Request.create u e i p b gs) bytes) = root refl (creates u e i p b gs)
-  gives (got (Request.query n class capacity) bytes) = nothing (λ known may ok fits. refl)
-  gives (got (Request.privileges n es) bytes) = nothing (λ known may ok. refl)
-  gives (got (Request.groups n es) bytes) = nothing (λ known may ok free. refl)
-  gives (got (Request.scope n v) bytes) = nothing (λ known may held. refl)
-  gives (got (Request.defaults n o g x dacl) bytes) = nothing (λ known may ok. refl)
-  gives (got (Request.duplicate n type level mask) bytes) = of-handle n (isAnonymous type level) _ refl (λ no known. absurd (no known))
-  gives (got (Request.restrict n mark removed deny sids) bytes) = of-handle n false _ refl (λ no known. absurd (no known))
-  gives (got (Request.install n) bytes) = nothing (λ known may held ok match. install-marks _)
-  gives (got (Request.impersonate n) bytes) = nothing (λ known may ok gate. client-marks _)
-  gives (got Request.revert bytes) = nothing refl
+  gives (got (Request.query n class capacity) bytes) = nothing refl (λ known may ok fits. refl)
+  gives (got (Request.privileges n es) bytes) = nothing refl (λ known may ok. refl)
+  gives (got (Request.groups n es) bytes) = nothing refl (λ known may ok free. refl)
+  gives (got (Request.scope n v) bytes) = nothing refl (λ known may held. refl)
+  gives (got (Request.defaults n o g x dacl) bytes) = nothing refl (λ known may ok. refl)
+  gives (got (Request.duplicate n type level mask) bytes) = of-handle n (isAnonymous type level) _ refl refl (λ no known. absurd (no known))
+  gives (got (Request.restrict n mark removed deny sids) bytes) = of-handle n false _ refl refl (λ no known. absurd (no known))
+  gives (got (Request.install n) bytes) = nothing refl (λ known may held ok match. install-marks _)
+  gives (got (Request.impersonate n) bytes) = nothing refl (λ known may ok gate. client-marks _)
+  gives (got Request.revert bytes) = nothing refl refl
 
 -- ---- one body
 
@@ -127,11 +127,11 @@ module _ (x : Serving) (o : Onward x) (xs : List Outcome) where
       d = x .before
 
       go : Gives d (x .station) (parse (x .body)) → Rooted d (serves x ∷ xs) (u .identity .root)
-      go (nothing e) =
+      go (nothing z e) =
           let same = ended (SameNext d) d (decision d (x .station) (x .body)) refl e in
           absurd (let q = o .step .facts .loose .tokens .given (u .number) (map-mem numberOf m) .1 in omega arith)
-      go (copy y e l) = copied y _ (y .stripped) l (of-serving x (o .facts) y u e m k .root)
-      go (root e h) = created x (here refl) e (no-refusal u m k) (sym (made d (o .facts) (IsRoot d) (decision d (x .station) (x .body)) h u m k))
+      go (copy z y e l) = copied y _ (y .isAnonymous) l (of-serving x (o .facts) y u e m k .root)
+      go (root e h) = let r = made d (o .facts) (IsRoot d) (decision d (x .station) (x .body)) h u m k in created x (here refl) e (no-refusal u m k) (sym (r .0 ∙ r .1))
 
   served-root : (u : Token) → Live u (servedBy x .state) → Rooted (x .before) (serves x ∷ xs) (u .identity .root)
   unfolding Live
@@ -156,6 +156,22 @@ rooted (breaks s ∷ xs) σ τ a h t m = back (λ u k. old u k refl) (λ y k. th
 rooted (serves x ∷ xs) σ τ a h t m =
     let same : (u : Token) → Live u (x .before) → Rooted σ (serves x ∷ xs) (u .identity .root) = λ u k. old u (rw (a .0 .tokens) k) refl in
     back (λ u k. back same (λ y i. i) _ (served-root x (h x (here refl)) xs u k)) (λ y k. there k) _ (rooted xs (servedBy x .state) τ (a .1) (λ y k. h y (there k)) t m)
+
+-- what a body makes of none
+creating : (x : Serving) → Onward x → Creating x
+unfolding Creating servedBy serve decision Live Fresh SameNext IsRoot numberOf
+creating x o u e m k = go (gives (x .before) (o .facts) (x .station) (parse (x .body)))
+  where
+    d : State
+    d = x .before
+
+    go : Gives d (x .station) (parse (x .body)) → u .identity .root ≡ u .number
+    go (nothing z h) = absurd (not-both e z)
+    go (copy z y h l) = absurd (not-both e z)
+    go (root z h) = made d (o .facts) (IsRoot d) (decision d (x .station) (x .body)) h u m k .0
+
+pub creations : (cs : List Call) (σ : State) → all ofBytes cs ≡ true → StateFacts σ → (x : Serving) → Mem (serves x) (outcomes (events cs σ) σ) → Creating x
+creations cs σ w f x m = creating x (run-serves cs σ w f x m)
 
 pub roots : (cs : List Call) (σ : State) → all ofBytes cs ≡ true → StateFacts σ → OneByOne σ (outcomes (events cs σ) σ) (after cs σ)
     → (t : Token) → Live t (after cs σ) → Rooted σ (outcomes (events cs σ) σ) (t .identity .root)

@@ -10,7 +10,7 @@ use Rattle.rules.specs.Basic.{implies, all, isEmpty}
 use Rattle.rules.specs.Decision.{carriedOut, withHandle, issued, Decision}
 use Rattle.rules.specs.Duplicate as Duplicate
 use Rattle.rules.specs.Duplicate.{isAnonymous}
-use Rattle.rules.specs.Growth.{Source, sourceAt, sourceOf, NoMore, Copying, Mem}
+use Rattle.rules.specs.Growth.{Source, sourceAt, sourceOf, FromSource, Copying, Mem}
 use Rattle.rules.specs.Handle.{noHandle, Handle}
 use Rattle.rules.specs.Number.{Read, got, bad}
 use Rattle.rules.specs.Privileges.{remove, onlyUsed}
@@ -60,23 +60,23 @@ module _ (d : State) (f : StateFacts d) (x : Source) where
   t = x .token
 
   abbrev Makes : Decision → Type 0
-  Makes = Ends (Fresh d (NoMore x))
+  Makes = Ends (Fresh d (FromSource x))
 
-  at-slot : (b : Bool) (p : Slot Handle) → sourceAt d b p ≡ live x → (t ≡ tokenOf d (orElse noHandle p .token)) × (x .stripped ≡ b)
+  at-slot : (b : Bool) (p : Slot Handle) → sourceAt d b p ≡ live x → (t ≡ tokenOf d (orElse noHandle p .token)) × (x .isAnonymous ≡ b)
   unfolding sourceAt orElse t
   at-slot b free e = absurd (let z : _≡_ {A = ℕ} 0 1 = cc in omega arith)
   at-slot b (live h) e = (cc, cc)
 
   on-handle : (s n right : ℕ) (b : Bool) (go : Handle → Token → Decision) → sourceAt d b (findHandle d s n) ≡ live x
-      → (x .stripped ≡ b → Makes (go (handleOf d s n) t)) → Makes (withHandle d s n right go)
+      → (x .isAnonymous ≡ b → Makes (go (handleOf d s n) t)) → Makes (withHandle d s n right go)
   unfolding withHandle Ends handleOf
   on-handle s n right b go e k known permitted = let a = at-slot b (findHandle d s n) e in rw (← a .0) (k (a .1))
 
-  copies : (s mask : ℕ) (u : Token) → NoMore x u → Makes (issued s mask u d)
-  copies s mask u h = issues d d (NoMore x) s mask u (none-fresh d f (NoMore x)) h
+  copies : (s mask : ℕ) (u : Token) → FromSource x u → Makes (issued s mask u d)
+  copies s mask u h = issues d d (FromSource x) s mask u (none-fresh d f (FromSource x)) h
 
   -- what has the privileges, the limits and the root of its source
-  as-source : (u : Token) → x .stripped ≡ false → u .privileges ≡ t .privileges → u .limits ≡ t .limits → u .identity .root ≡ t .identity .root → NoMore x u
+  as-source : (u : Token) → x .isAnonymous ≡ false → u .privileges ≡ t .privileges → u .limits ≡ t .limits → u .identity .root ≡ t .identity .root → FromSource x u
   unfolding t isRestricted
   as-source u a p l r = record {
     present = rw p (within-refl _);
@@ -85,13 +85,13 @@ module _ (d : State) (f : StateFacts d) (x : Source) where
     root = rw a r;
   }
 
-  duplicated : (n type level : ℕ) → x .stripped ≡ isAnonymous type level → NoMore x (Duplicate.duplicated n type level t)
+  duplicated : (n type level : ℕ) → x .isAnonymous ≡ isAnonymous type level → FromSource x (Duplicate.duplicated n type level t)
   unfolding Duplicate.duplicated Duplicate.copied Duplicate.retyped Duplicate.anonymousCopy Duplicate.nobody newToken onlyUsed isAnonymous t
   duplicated n type level e =
-      let asked : (p q : Bool) → eqb type primary ≡ p → eqb level 0 ≡ q → x .stripped ≡ (not p && q) = λ p q a b. e ∙ ap₂ (λ p q. not p && q) a b in
-      on-if (NoMore x) (eqb type primary) _ _ (λ a. as-source _ (asked true _ a refl) refl refl refl)
+      let asked : (p q : Bool) → eqb type primary ≡ p → eqb level 0 ≡ q → x .isAnonymous ≡ (not p && q) = λ p q a b. e ∙ ap₂ (λ p q. not p && q) a b in
+      on-if (FromSource x) (eqb type primary) _ _ (λ a. as-source _ (asked true _ a refl) refl refl refl)
       (λ a.
-      on-if (NoMore x) (eqb level 0) _ _
+      on-if (FromSource x) (eqb level 0) _ _
       (λ b.
       record {
         present = none-within _;
@@ -101,7 +101,7 @@ module _ (d : State) (f : StateFacts d) (x : Source) where
       })
       (λ b. as-source _ (asked false false a b) refl refl refl))
 
-  restricted : (n mark removed : ℕ) (deny sids : List ℕ) → x .stripped ≡ false → Restrict.narrows t mark sids ≡ true → NoMore x (Restrict.restricted n mark removed deny sids t)
+  restricted : (n mark removed : ℕ) (deny sids : List ℕ) → x .isAnonymous ≡ false → Restrict.narrows t mark sids ≡ true → FromSource x (Restrict.restricted n mark removed deny sids t)
   unfolding Restrict.restricted remove Restrict.limited isRestricted Restrict.narrows t
   restricted n mark removed deny sids a h = record {
     present = without-within (t .privileges .present) removed;
@@ -136,7 +136,7 @@ module _ (d : State) (f : StateFacts d) (x : Source) where
 
 pub of-serving : (x : Serving) → StateFacts (x .before) → Copying x
 unfolding Copying serve decision Fresh
-of-serving x f t u e m h = made (x .before) f (NoMore t) (decision (x .before) (x .station) (x .body)) (of-request (x .before) f t (x .station) (parse (x .body)) e) u m h
+of-serving x f t u e m h = made (x .before) f (FromSource t) (decision (x .before) (x .station) (x .body)) (of-request (x .before) f t (x .station) (parse (x .body)) e) u m h
 
 pub no-more : (cs : List Call) (σ : State) → all ofBytes cs ≡ true → StateFacts σ → (x : Serving) → Mem (serves x) (outcomes (events cs σ) σ) → Copying x
 no-more cs σ w f x m = of-serving x (run-serves cs σ w f x m .facts)

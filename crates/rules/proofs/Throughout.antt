@@ -19,7 +19,7 @@ use Rattle.rules.proofs.Ladder.{ladder}
 use Rattle.rules.proofs.Acting.{acting, client-kept}
 use Rattle.rules.proofs.Sources.{no-more}
 use Rattle.rules.proofs.Served.{answers-served, one-by-one}
-use Rattle.rules.proofs.Roots.{roots}
+use Rattle.rules.proofs.Roots.{creations, roots}
 
 after-append : (cs ds : List Call) (σ : State) → after (cs ++ ds) σ ≡ after ds (after cs σ)
 unfolding after
@@ -57,6 +57,7 @@ throughout σ v cs w =
       enabled = enabled-present τ g;
       byDefault = default-present τ g;
       copies = no-more cs σ w f;
+      creations = creations cs σ w f;
       roots = roots cs σ w f ordered;
       fit = all-fit cs σ w f;
     }

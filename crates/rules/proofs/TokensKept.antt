@@ -72,7 +72,7 @@ and-next t u a =
     let new = next-is64 (u .modified) in
     let f = a .facts in
     let k = a .follows in
-    record { facts = search; follows = search (k .denied, k .userDenied) }
+    record { facts = search; follows = search (k .denied) }
 
 -- ---- requests 5 to 8, and the used marks
 

@@ -8,12 +8,14 @@ use lib.Dec.{leb, ltb}
 use Rattle.rules.specs.Basic.{if_then_else_, all}
 use Rattle.rules.specs.Refusal.{noStation, shortBuffer, invalidMemory}
 use Rattle.rules.specs.State.{State, start, stationCount}
+use Rattle.rules.specs.Token.{Token, startToken}
+use Rattle.rules.specs.Table.{placed, lives}
 use Rattle.rules.specs.Frame.{maxAnswer}
 use Rattle.rules.specs.Model.{Result, Step, silent, answers, step, refused, fedOn, fedFrom, feed, reconnect}
 use Rattle.rules.specs.Valid as Valid
 use Rattle.rules.specs.Memory.{encode, decode, valid}
 use Rattle.rules.specs.Run.{Call, feeds, reconnects, returned, after, ofBytes}
-use Rattle.rules.specs.Growth.{Mem, here, there}
+use Rattle.rules.specs.Growth.{Mem, here, there, Live}
 use Rattle.rules.specs.Calls.{Done, refusedOn, written, startOn, feedOn, reconnectOn}
 use Rattle.rules.specs.WholeList.{doneBy, memoryAfter, returnsOn, returnsOf, WholeList, AfterStart}
 use Rattle.rules.proofs.Logic.{and-l, and-r, and-i, mem-none}
@@ -113,6 +115,11 @@ whole-list σ v cs w =
       throughout = throughout σ v cs w;
     }
 
+only-first : (t : Token) → Live t start → t ≡ startToken
+unfolding Live start placed lives
+only-first t (here e) = e
+only-first t (there m) = absurd (mem-none m)
+
 pub after-start : (cs : List Call) → all ofBytes cs ≡ true → AfterStart cs
 unfolding startOn
-after-start cs w = record { begun = λ m h. rw h; whole = whole-list start start-valid cs w }
+after-start cs w = record { begun = λ m h. rw h; whole = whole-list start start-valid cs w; first = only-first }

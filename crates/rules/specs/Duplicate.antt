@@ -8,7 +8,7 @@ use Rattle.rules.specs.Bits.{within}
 use Rattle.rules.specs.Mask as Mask
 use Rattle.rules.specs.Refusal.{badField, tableFull}
 use Rattle.rules.specs.Privileges.{onlyUsed}
-use Rattle.rules.specs.Token.{Token, Identity, newToken, primary, impersonation, anonymous}
+use Rattle.rules.specs.Token.{Token, Identity, newToken, primary, impersonation, noRoot, anonymous}
 use Rattle.rules.specs.Handle.{Handle}
 use Rattle.rules.specs.State.{State}
 use Rattle.rules.specs.Decision.{Decision, need_else_then_, withHandle, canIssue, issued}
@@ -22,7 +22,7 @@ copied n type level t =
     record { number = n; modified = n; elevation = 1; identity = retyped type level t.identity; privileges = t.privileges; groups = t.groups; limits = t.limits; defaults = t.defaults; scope = t.scope }
 
 unfoldable pub nobody : Identity
-nobody = record { user = anonymous; session = 0; type = impersonation; level = 0; integrity = 0; root = 0 }
+nobody = record { user = anonymous; session = 0; type = impersonation; level = 0; integrity = 0; root = noRoot }
 
 -- document 01's 'stripped' copy: nothing is kept but the used privileges
 unfoldable pub anonymousCopy : ℕ → Token → Token

@@ -8,12 +8,12 @@ use Rattle.rules.specs.Basic.{if_then_else_}
 use Rattle.rules.specs.Number.{Read, got, bad}
 use Rattle.rules.specs.Bits.{within}
 use Rattle.rules.specs.Group.{Group, noGroup, isDenyOnly}
-use Rattle.rules.specs.Token.{Token, isRestricted}
+use Rattle.rules.specs.Token.{Token, noRoot, isRestricted}
 use Rattle.rules.specs.Table.{Slot, free, live, Table, lives}
 use Rattle.rules.specs.Handle.{Handle}
 use Rattle.rules.specs.State.{State, tokenOf, findHandle}
 use Rattle.rules.specs.Request.{Request, parse}
-use Rattle.rules.specs.Duplicate.{isAnonymous}
+use Rattle.rules.specs.Duplicate as Duplicate
 use Rattle.rules.specs.Serve.{serve}
 use Rattle.rules.specs.Ladder.{status}
 use Rattle.rules.specs.Run.{Serving, Outcome, serves, servedBy}
@@ -45,8 +45,8 @@ pub record Follows (t u : Token) : Type 0 where
   -- each group keeps its index, its SID and its deny-only mark
   pub sids : map sidOf (u .groups) ≡ map sidOf (t .groups)
   pub denied : (i : ℕ) → isDenyOnly (getD (t .groups) i noGroup) ≡ true → isDenyOnly (getD (u .groups) i noGroup) ≡ true
-  -- the user keeps the deny-only mark
-  pub userDenied : t .limits .userDenyOnly ≡ true → u .limits .userDenyOnly ≡ true
+  -- restricting SIDs, the write-restricted mark and the user's deny-only mark stay
+  pub limits : u .limits ≡ t .limits
 
 -- the token u was there before, in the table x
 pub record Before (x : Table Token) (u : Token) : Type 0 where
@@ -75,12 +75,12 @@ pub record StillHandle (σ τ : State) (s n : ℕ) (h : Handle) : Type 0 where
 pub record Source : Type 0 where
   pub token : Token
   -- the copy is anonymous
-  pub stripped : Bool
+  pub isAnonymous : Bool
 
 -- the token of a handle
 unfoldable pub sourceAt : State → Bool → Slot Handle → Slot Source
-sourceAt σ stripped free = free
-sourceAt σ stripped (live h) = live (record { token = tokenOf σ h.token; stripped = stripped })
+sourceAt σ b free = free
+sourceAt σ b (live h) = live (record { token = tokenOf σ h.token; isAnonymous = b })
 
 unfoldable pub sourceOf : State → ℕ → Read Request → Slot Source
 sourceOf σ s bad = free
@@ -92,21 +92,21 @@ sourceOf σ s (got (Request.privileges n es) bytes) = free
 sourceOf σ s (got (Request.groups n es) bytes) = free
 sourceOf σ s (got (Request.scope n v) bytes) = free
 sourceOf σ s (got (Request.defaults n owner group flag dacl) bytes) = free
-sourceOf σ s (got (Request.duplicate n type level mask) bytes) = sourceAt σ (isAnonymous type level) (findHandle σ s n)
+sourceOf σ s (got (Request.duplicate n type level mask) bytes) = sourceAt σ (Duplicate.isAnonymous type level) (findHandle σ s n)
 sourceOf σ s (got (Request.restrict n mark removed deny sids) bytes) = sourceAt σ false (findHandle σ s n)
 sourceOf σ s (got (Request.install n) bytes) = free
 sourceOf σ s (got (Request.impersonate n) bytes) = free
 sourceOf σ s (got Request.revert bytes) = free
 
--- u, just made, has no more than its source
-pub record NoMore (x : Source) (u : Token) : Type 0 where
+-- u, just made, and its source: it has no more, and the source's root
+pub record FromSource (x : Source) (u : Token) : Type 0 where
   pub present : within (u .privileges .present) (x .token .privileges .present) ≡ true
   -- a restricted token's copy is restricted, unless it is anonymous, and its list has nothing that the source's lacked
-  pub restricted : x .stripped ≡ false → isRestricted (x .token) ≡ true → isRestricted u ≡ true
-  pub restricting : x .stripped ≡ false → isRestricted (x .token) ≡ true
+  pub restricted : x .isAnonymous ≡ false → isRestricted (x .token) ≡ true → isRestricted u ≡ true
+  pub restricting : x .isAnonymous ≡ false → isRestricted (x .token) ≡ true
       → (n : ℕ) → Mem n (u .limits .restricting) → Mem n (x .token .limits .restricting)
   -- it has the source's root, or none where it is anonymous
-  pub root : u .identity .root ≡ (if x .stripped then 0 else x .token .identity .root)
+  pub root : u .identity .root ≡ (if x .isAnonymous then noRoot else x .token .identity .root)
 
 -- of a body that is served: a token that it makes from another
 unfoldable pub Copying : Serving → Type 0
@@ -115,7 +115,7 @@ Copying x =
     → sourceOf (x .before) (x .station) (parse (x .body)) ≡ live t
     → Mem u (lives (serve (x .before) (x .station) (x .body) .state .tokens .slots))
     → x .before .tokens .next ≤ u .number
-    → NoMore t u
+    → FromSource t u
 
 -- ---- where a root comes from
 
@@ -136,8 +136,17 @@ makesRoot (got (Request.install n) bytes) = false
 makesRoot (got (Request.impersonate n) bytes) = false
 makesRoot (got Request.revert bytes) = false
 
+-- of a body that is served: a token that it makes of none is its own root
+unfoldable pub Creating : Serving → Type 0
+Creating x =
+    (u : Token)
+    → makesRoot (parse (x .body)) ≡ true
+    → Live u (servedBy x .state)
+    → x .before .tokens .next ≤ u .number
+    → u .identity .root ≡ u .number
+
 -- the root n of a token, after what xs serves from σ on: 0, or the root of a token that was there, or the number that was given to a created one
 pub data Rooted (σ : State) (xs : List Outcome) (n : ℕ) : Type 0 where
-  none : n ≡ 0 → Rooted σ xs n
+  none : n ≡ noRoot → Rooted σ xs n
   old : (t : Token) → Live t σ → t .identity .root ≡ n → Rooted σ xs n
   created : (x : Serving) → Mem (serves x) xs → makesRoot (parse (x .body)) ≡ true → status (servedBy x) ≡ 0 → x .before .tokens .next ≡ n → Rooted σ xs n

@@ -17,7 +17,7 @@ use Rattle.rules.specs.Frame.{frame, framed, whole, maxAnswer}
 use Rattle.rules.specs.Valid.{valid}
 use Rattle.rules.specs.Ladder.{Ladder}
 use Rattle.rules.specs.Run.{Call, byte, ofBytes, after, answered, events, afterEvents, answersTo, timed, timedTo, untilUsed, Serving, serves, outcomes, answeredFrom, OneByOne}
-use Rattle.rules.specs.Growth.{Mem, Live, LiveHandle, Follows, Later, HandlesLater, StillHandle, Copying, Rooted}
+use Rattle.rules.specs.Growth.{Mem, Live, LiveHandle, Follows, Later, HandlesLater, StillHandle, Copying, Creating, Rooted}
 use Rattle.rules.specs.Acting.{ActsFor, ClientKept}
 
 -- an answer: one valid frame that fits the buffer
@@ -84,9 +84,11 @@ pub record Throughout (σ : State) (cs : List Call) : Type 0 where
   pub enabled : (t : Token) → Live t (after cs σ) → within (t .privileges .enabled) (t .privileges .present) ≡ true
   pub byDefault : (t : Token) → Live t (after cs σ) → within (t .privileges .byDefault) (t .privileges .present) ≡ true
   -- 'a token made from another begins with no present privilege that its source lacked', and 'a token made from a restricted one by request 10,
-  -- or by 9 unless stripped, is restricted, and its list has nothing that the source's lacked'
+  -- or by 9 unless stripped, is restricted, and its list has nothing that the source's lacked'; it has the source's root, or 0 if stripped
   pub copies : (x : Serving) → Mem (serves x) (outcomes (events cs σ) σ) → Copying x
-  -- 'every token carries its root: the number of the started or created token it descends from', or 0; it never changes (`lasting`)
+  -- 'every token carries its root': its own number if it is created; its source's, or 0 where it is anonymous (`copies`); it never changes
+  -- (`lasting`). So it is 0, or the root of a token that was there, or the number of a created one
+  pub creations : (x : Serving) → Mem (serves x) (outcomes (events cs σ) σ) → Creating x
   pub roots : (t : Token) → Live t (after cs σ) → Rooted σ (outcomes (events cs σ) σ) (t .identity .root)
   -- no answer is longer than 1,024 bytes
   pub fit : (a : List ℕ) → Mem a (answered cs σ) → IsAnswer a

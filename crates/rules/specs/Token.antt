@@ -17,7 +17,7 @@ pub record Identity : Type 0 where
   -- the number of the started or created token that it descends from; 0 for an anonymous copy and whatever is made from one
   pub root : ℕ
 
--- what request 10 adds to a copy
+-- what request 10 limits a copy by
 pub record Limits : Type 0 where
   pub restricting : List ℕ
   pub writeRestricted : Bool
@@ -58,6 +58,10 @@ impersonation = 2
 -- a level, of Anonymous (0), Identification, Impersonation and Delegation (3)
 abbrev pub identification : ℕ
 identification = 1
+
+-- a token of no root
+abbrev pub noRoot : ℕ
+noRoot = 0
 
 abbrev pub anonymous : ℕ
 anonymous = 7

@@ -3,13 +3,14 @@ use mathlib.Core.Path.{_≡_}
 use mathlib.Core.List.{List, [], _∷_, map}
 use Rattle.rules.specs.Refusal.{invalidMemory}
 use Rattle.rules.specs.State.{State, start}
+use Rattle.rules.specs.Token.{Token, startToken}
 use Rattle.rules.specs.Memory.{Memory, sized, encode}
 use Rattle.rules.specs.Model.{Result}
 use Rattle.rules.specs.Run as Run
 use Rattle.rules.specs.Run.{Call, feeds, reconnects, returned, ofBytes, events}
 use Rattle.rules.specs.Basic.{all}
 use mathlib.Core.Bool.{true}
-use Rattle.rules.specs.Growth.{Mem}
+use Rattle.rules.specs.Growth.{Mem, Live}
 use Rattle.rules.specs.Calls.{Done, written, startOn, feedOn, reconnectOn}
 use Rattle.rules.specs.Throughout.{Throughout}
 
@@ -50,3 +51,5 @@ pub record WholeList (σ : State) (cs : List Call) : Type 0 where
 pub record AfterStart (cs : List Call) : Type 0 where
   pub begun : (m : Memory) → sized m ≡ true → startOn m .after ≡ encode start
   pub whole : WholeList start cs
+  -- the start's only token: the root of every token is 0, 1 or the number of a created one (`Throughout.roots`)
+  pub first : (t : Token) → Live t start → t ≡ startToken

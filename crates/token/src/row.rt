@@ -1,4 +1,4 @@
-// A token's row in lent memory: 101 words and the 256 bytes of its DACL.
+// A token's row in lent memory: its words, and the bytes of its DACL.
 ghost use mathlib.Core.Path.{_≡_};
 ghost use Prim.Native.Nat.{_<_, min};
 ghost use lib.ListN.{length, getD};

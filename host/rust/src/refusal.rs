@@ -26,7 +26,7 @@ pub enum Refusal {
     /// A privilege is not enabled on the station's own token.
     Privilege = 4,
     /// A bad field or entry, an unknown class, installing a token that is not primary, or restricting
-    /// a restricted one by none of its SIDs or, without the mark, to writes only.
+    /// a restricted one to none of its SIDs, or to write-restricted where it is not.
     Field = 5,
     /// An entry names a mandatory, deny-only or logon group, or disables one with the user's SID.
     Protected = 6,

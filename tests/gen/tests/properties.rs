@@ -285,6 +285,7 @@ fn a_root_is_the_oldest_source_unless_one_on_the_way_is_anonymous() {
             let kind = match anonymous {
                 Some(0) => "anonymous",
                 Some(_) => "of an anonymous one",
+                None if root == NO_ROOT => "of an older anonymous one",
                 None if is_gone => "root gone",
                 None => "root lives",
             };

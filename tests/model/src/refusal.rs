@@ -13,7 +13,7 @@ pub enum Refusal {
     /// The privilege is not held.
     Privilege,
     /// A bad field or entry, an unknown class, installing a non-primary token, or restricting a
-    /// restricted one by none of its SIDs or, without the mark, to writes only.
+    /// restricted one to none of its SIDs, or to write-restricted where it is not.
     Field,
     /// A mandatory, deny-only or logon group, or disabling one with the user's SID.
     Protected,

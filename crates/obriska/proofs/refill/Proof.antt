@@ -21,4 +21,4 @@ refill-spec =
     (λ c. search (needs, unfilled))
     (λ c. search needs)
     (λ c. search needs)
-    (λ c. search (needs, refilled)))
+    (λ c. refilled _ _ _ _ (c .before .before .before .before .before .before .read .last .1 .0) _ (c .before .before .before .before .before .before .before .before .before .before .keep .ensures) (c .before .before .before .before .before .before .before .before .before .before .before .before .before .pre) (search needs) (c .before .count .result) (search needs) (c .before .count .ensures .0 .0) (search needs)))

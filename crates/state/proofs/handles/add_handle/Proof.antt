@@ -14,4 +14,4 @@ add-handle-spec =
     (λ c. search needs)
     (λ c. search needs)
     (λ c. search needs)
-    (λ c. search (needs, handle-added)))
+    (λ c. handle-added _ _ _ _ (c .before .before .before .before .before .before .free-slot .ensures .0) (c .before .before .before .before .next .ensures) (c .before .before .step .ensures)))
