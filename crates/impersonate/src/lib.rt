@@ -51,7 +51,7 @@ impl Gate {
     }
 }
 
-fn gate(token: u64, station: u32, tokens: &[u64], control: &[u64]) -> Gate
+fn gate_of(token: u64, station: u32, tokens: &[u64], control: &[u64]) -> Gate
     requires { ⌜ (length (now tokens) ≡ tokenSlots * tokenWords) × (length (now control) ≡ controlWords) × (station < stationCount) ⌝ }
     ensures { λ r. ⌜ GateRead token station (now (tokens .entry)) (now (control .entry)) r ⌝ }
 {
@@ -136,7 +136,7 @@ pub fn impersonate(
     }
     let token = found.token;
     let client = identity_of(token, tokens);
-    let g = gate(token, station, tokens, control);
+    let g = gate_of(token, station, tokens, control);
     let refusal = refusal_of(g, client.kind);
     if refusal != 0 {
         return outcome::refused(refusal);
