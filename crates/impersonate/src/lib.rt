@@ -87,7 +87,11 @@ fn level_in_force(g: Gate, own: u8) -> u8
     ensures { λ r. ⌜ r ≡ levelInForce g own ⌝ }
 {
     let uncapped = g.passed() & !g.higher;
-    if uncapped | (own <= IDENTIFICATION) { own } else { IDENTIFICATION }
+    if uncapped | (own <= IDENTIFICATION) {
+        own
+    } else {
+        IDENTIFICATION
+    }
 }
 
 // Impersonate is used only where gate one needed it.
