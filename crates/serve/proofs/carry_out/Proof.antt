@@ -1,7 +1,8 @@
 -- Each number in turn. Assumes nothing.
 use borrow.Author.Needs.{needs}
 use Rattle.rules.specs.Request.{layouts}
-use Rattle.serve.proofs.BodyLaws.{by-number, by-none}
+use Rattle.answer.proofs.Classes.{above}
+use Rattle.serve.proofs.BodyLaws.{by-number}
 use Rattle.serve.proofs.carry_out.Statement.{statement}
 use Rattle.serve.proofs.carry_out.Tie as tie
 
@@ -19,10 +20,7 @@ carry-out-spec =
     (λ c κs. search needs)
     (λ c κs. search needs)
     (λ c κs. search needs)
-    (λ c κs. search needs)
-    (λ c κs. search needs)
-    (λ c κs. search needs)
-    (λ c κs. search needs)
+    (λ c κs. search (needs, above 8))
     (λ c. search needs)
     (λ c. search needs)
     (λ c. search needs)
@@ -58,13 +56,4 @@ carry-out-spec =
     (λ c. search needs)
     (λ c. search needs)
     (λ c. search needs)
-    (λ c. search by-number)
-    (λ c. search needs)
-    (λ c. search needs)
-    (λ c. search needs)
-    (λ c. search by-number)
-    (λ c. search needs)
-    (λ c. search needs)
-    (λ c. search needs)
-    (λ c. search by-number)
-    (λ c. by-none (c .before .before .before .request-number .ensures) _ _ (search needs) (c .refused .ensures)))
+    (λ c. search by-number))
