@@ -17,7 +17,7 @@ pub enum Refusal {
     Field,
     /// A mandatory, deny-only or logon group, or disabling one with the user's SID.
     Protected,
-    /// The token to install is of another user or session, or the own token is restricted, the one
+    /// The token to install is of another user or session; or the own token is restricted, the one
     /// to act for is not, and Impersonate is not held.
     Mismatch,
     /// No slot is free, no number is left, or there are too many restricting SIDs for an
