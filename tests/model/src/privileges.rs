@@ -12,7 +12,7 @@ pub const CREATE_TOKEN: u32 = 2;
 pub const ASSIGN_PRIMARY: u32 = 3;
 /// Act as part of the trusted base.
 pub const TCB: u32 = 7;
-/// Impersonate; no request needs it.
+/// Act for tokens of other users, or for unrestricted ones though restricted.
 pub const IMPERSONATE: u32 = 29;
 
 /// A token's privileges.
