@@ -37,10 +37,10 @@ module _ (station n : ℕ) {body : List ℕ} {c : Cursor} {hs : List Handle} {cs
       → LayoutCarried (getD layouts n unknown) station body c ts ds hs cs ts′ ds′ cs′ r
   later-number k e x = rw e x
 
-  pub later-none : (1 ≤ n → 8 < n) → (n ≡ 9 → ⊥) → (n ≡ 10 → ⊥) → (n ≡ 11 → ⊥) → (n ≡ 12 → ⊥) → (n ≡ 13 → ⊥) → Ends (answers.Refused 1) r
+  pub later-none : (1 ≤ n → 8 < n) → (n ≡ 9 → ⊥) × (n ≡ 10 → ⊥) × (n ≡ 11 → ⊥) × (n ≡ 12 → ⊥) × (n ≡ 13 → ⊥) → Ends (answers.Refused 1) r
       → LayoutCarried (getD layouts n unknown) station body c ts ds hs cs ts ds cs r
   unfolding layouts
-  later-none l n9 n10 n11 n12 n13 i = record {
+  later-none l (n9, n10, n11, n12, n13) i = record {
     carried = malformed station r (readFrom (getD layouts n unknown) (restOf body c))
         (ap (λ (x : Reader Request). readFrom x (restOf body c)) (none-of n (λ h. let m = l h in omega arith)) ∙ no-layout (restOf body c)) i;
   }
