@@ -17,7 +17,7 @@ pub const PROTECTED_GROUP: u64 = 6;
 
 pub const INSTALL_MISMATCH: u64 = 7;
 
-// The server is restricted, and its client isn't.
+// The server is restricted, its client isn't, and the gate does not pass.
 pub const RESTRICTED_SERVER: u64 = 7;
 
 // A needed slot is not free, a needed next number is unusable, or over 16 restricting SIDs.

@@ -68,7 +68,7 @@ unfolding
     Serve.rule Serve.decided Serve.decision Serve.serve
     Frame.frame Frame.secondOf Frame.lengthOf Frame.framedBy Frame.framed
     Model.joined Model.byteAt Model.step Model.refused Model.fedOn Model.fedFrom Model.feed Model.reconnect
-    Valid.isByte Valid.is32 Valid.is64 Valid.between Valid.identityValid Valid.privilegesValid Valid.groupValid Valid.groupsValid Valid.limitsValid Valid.defaultsValid Valid.tokenValid Valid.handleValid Valid.isPart Valid.streamValid Valid.tableValid Valid.isToken Valid.primaryAtStation Valid.clientFits Valid.clientAtStations Valid.idleValid Valid.valid
+    Valid.isByte Valid.is32 Valid.is64 Valid.between Valid.identityValid Valid.privilegesValid Valid.groupValid Valid.groupsValid Valid.limitsValid Valid.defaultsValid Valid.tokenValid Valid.handleValid Valid.isPart Valid.streamValid Valid.tableValid Valid.isToken Valid.primaryAtStation Valid.clientFits Valid.clientAtStations Valid.levelValid Valid.valid
     Ladder.failing Ladder.firstOf Ladder.status
     Run.returned Run.after Run.noted Run.answered Run.ofBytes Run.eventsOf Run.events Run.happens Run.stateOf Run.told Run.afterEvents Run.answersTo Run.stationOf Run.notedAt Run.timed Run.placeOf Run.toldAt Run.timedTo Run.untilUsed Run.outcomeOf Run.outcomeAt Run.outcomes Run.servedBy Run.answerTo Run.answeredAt Run.answeredFrom Run.OneByOne
     Growth.sidOf Growth.Live Growth.LiveHandle Growth.sourceAt Growth.sourceOf Growth.Copying Growth.makesRoot Growth.Creating

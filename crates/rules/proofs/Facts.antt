@@ -17,7 +17,7 @@ use Rattle.rules.specs.State.{tokenSlots, handleSlots, stationCount, num
 use Rattle.rules.specs.Station.{Station, Client}
 use Rattle.rules.specs.Table.{lives, someFree, withSlots, canAdd, added, exchanged, retained, Table, free, live}
 use Rattle.rules.specs.Token.{primary, impersonation, maxGroups, Token, Identity}
-use Rattle.rules.specs.Valid.{is32, is64, between, identityValid, privilegesValid, groupValid, groupsValid, limitsValid, defaultsValid, tokenValid, handleValid, streamValid, tableValid, isToken, primaryAtStation, clientFits, clientAtStations, idleValid, valid}
+use Rattle.rules.specs.Valid.{is32, is64, between, identityValid, privilegesValid, groupValid, groupsValid, limitsValid, defaultsValid, tokenValid, handleValid, streamValid, tableValid, isToken, primaryAtStation, clientFits, clientAtStations, levelValid, valid}
 use Rattle.rules.proofs.Logic.{and-l, and-r, and-i, implies-e, implies-i, all-mem, mem-all, map-mem, mem-map, member-mem, mem-member}
 use Rattle.rules.proofs.Tables.{length-placed, length-exchanged, length-retained, number-placed, number-retained, number-freed, distinct-placed, distinct-retained, distinct-freed, same-numbers}
 
@@ -204,12 +204,12 @@ client-is t x h =
     let a = h (eqb-true (clientToken x) (t .number) q) in
     and-i (eq-eqb (t .identity .type) impersonation (a .type)) (le-leb (x .client .level) (t .identity .level) (a .level)))
 
-is-idle : (x : Station) → idleValid x ≡ true → clientToken x ≡ 0 → x .client .level ≡ 0
-unfolding idleValid
+is-idle : (x : Station) → levelValid x ≡ true → clientToken x ≡ 0 → x .client .level ≡ 0
+unfolding levelValid
 is-idle x h e = eqb-true (x .client .level) 0 (implies-e (eqb (clientToken x) 0) _ h (eq-eqb (clientToken x) 0 e))
 
-idle-is : (x : Station) → (clientToken x ≡ 0 → x .client .level ≡ 0) → idleValid x ≡ true
-unfolding idleValid
+idle-is : (x : Station) → (clientToken x ≡ 0 → x .client .level ≡ 0) → levelValid x ≡ true
+unfolding levelValid
 idle-is x h = implies-i (eqb (clientToken x) 0) _ (λ q. eq-eqb (x .client .level) 0 (h (eqb-true (clientToken x) 0 q)))
 
 pub is-referred : (d : State) (n : ℕ) (t : Token) → n ≡ numberOf t → isReferred d t ≡ true → Mem n (references d)
@@ -234,7 +234,7 @@ valid-facts d h =
     let reached : all (isReferred d) ts ≡ true = search (and-l, and-r) depth 11 in
     let primaries : all (primaryAtStation d) ts ≡ true = search (and-l, and-r) depth 11 in
     let acts : all (clientAtStations d) ts ≡ true = search (and-l, and-r) depth 11 in
-    let idle : all idleValid (d .stations) ≡ true = search (and-l, and-r) depth 11 in
+    let idle : all levelValid (d .stations) ≡ true = search (and-l, and-r) depth 11 in
     record {
       loose = record {
         tokens = table-facts tokenSlots max64 numberOf (d .tokens) tokens;
@@ -246,7 +246,7 @@ valid-facts d h =
         live = λ n m. is-token d n (all-mem (isToken d) (references d) alive m);
         stationPrimary = λ t m k. is-primary d t (all-mem (primaryAtStation d) ts primaries m) k;
         clients = λ t m x k. is-client t x (all-mem (clientFits t) (d .stations) (all-mem (clientAtStations d) ts acts m) k);
-        idle = λ x m. is-idle x (all-mem idleValid (d .stations) idle m);
+        idle = λ x m. is-idle x (all-mem levelValid (d .stations) idle m);
       };
       reached = λ n m. let r = mem-map numberOf ts m in is-referred d n (r .0) (r .2) (all-mem (isReferred d) ts reached (r .1));
     }
@@ -267,4 +267,4 @@ facts-valid d f =
     (mem-all (isReferred d) ts (λ t m. referred-is d _ t refl (f .reached (numberOf t) (map-mem numberOf m)))))
     (mem-all (primaryAtStation d) ts (λ t m. primary-is d t (l .stationPrimary t m))))
     (mem-all (clientAtStations d) ts (λ t m. mem-all (clientFits t) (d .stations) (λ x k. client-is t x (l .clients t m x k)))))
-    (mem-all idleValid (d .stations) (λ x m. idle-is x (l .idle x m)))
+    (mem-all levelValid (d .stations) (λ x m. idle-is x (l .idle x m)))

@@ -12,7 +12,7 @@ use Rattle.rules.specs.Ladder.{status}
 use Rattle.rules.specs.Run.{Serving, servedBy}
 use Rattle.rules.specs.Growth.{Live}
 
--- c is a live impersonation token, and the level in force is at most the token's own
+-- c's token is live and for impersonation, and the level in force is at most the token's own
 pub record ActsFor (σ : State) (c : Client) : Type 0 where
   pub token : Token
   pub live : Live token σ

@@ -111,8 +111,8 @@ unfoldable pub clientAtStations : State → Token → Bool
 clientAtStations σ t = all (clientFits t) σ.stations
 
 -- the level is 0 where a station acts for none
-unfoldable pub idleValid : Station → Bool
-idleValid x = implies (eqb (clientToken x) 0) (eqb (x .client .level) 0)
+unfoldable pub levelValid : Station → Bool
+levelValid x = implies (eqb (clientToken x) 0) (eqb (x .client .level) 0)
 
 -- references are live, every token is referred to, station tokens are primary in type, and those acted for fit their stations
 unfoldable pub valid : State → Bool
@@ -127,4 +127,4 @@ valid σ =
     && all (isReferred σ) (lives (σ .tokens .slots))
     && all (primaryAtStation σ) (lives (σ .tokens .slots))
     && all (clientAtStations σ) (lives (σ .tokens .slots))
-    && all idleValid σ.stations
+    && all levelValid σ.stations

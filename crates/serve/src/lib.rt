@@ -23,7 +23,7 @@ pub struct Reply {
     pub change: Change,
 }
 
-// Of a body whose request number is none of the first eight: the rest is carried out. Two short matches are proved quicker than a long one.
+// The request of a body whose number is none of 1 to 8, carried out: two short matches are proved quicker than a long one.
 fn later(
     n: u64,
     station: u32,

@@ -16,7 +16,7 @@ use Rattle.rules.specs.Frame.{lengthOf, framedBy, framed}
 use Rattle.rules.specs.Memory.{same, stationRow, pendingRow, stationAt, stationWords, countWord, brokenWord, clientWord, levelWord, pendingBytes}
 use Rattle.rules.specs.Station.{Station}
 use Rattle.rules.specs.State.{stationCount, clientToken}
-use Rattle.rules.specs.Valid.{isByte, isPart, streamValid, idleValid}
+use Rattle.rules.specs.Valid.{isByte, isPart, streamValid, levelValid}
 use Rattle.rules.proofs.Logic.{and-l, and-r}
 use Rattle.stream.specs.Meaning.{framedOf, FramedAs}
 use Rattle.stream.specs.declared.Framed.{Framed}
@@ -99,7 +99,7 @@ stream-part ws bs kb {p} {z} lw lb nz h ep ez =
 -- ---- with the level
 
 with-level : (ws bs : List ℕ) → (streamTest ws bs && levelTest ws) ≡ stationTest ws bs
-unfolding streamTest stationTest stationAt idleValid clientToken
+unfolding streamTest stationTest stationAt levelValid clientToken
 with-level ws bs =
     let x : Station = stationAt ws bs in
     and-assoc (same (stationRow x) ws && same (pendingRow x) bs) (streamValid x) (levelTest ws)

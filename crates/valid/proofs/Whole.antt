@@ -22,7 +22,7 @@ use Rattle.rules.specs.Station.{Station}
 use Rattle.rules.specs.State as State
 use Rattle.rules.specs.State.{tokenSlots, handleSlots, stationCount, numberOf, handleNumber, handleToken, stationToken, clientToken, references}
 use Rattle.rules.specs.Valid as Valid
-use Rattle.rules.specs.Valid.{between, tableValid, tokenValid, handleValid, streamValid, idleValid, isToken, primaryAtStation, clientFits, clientAtStations}
+use Rattle.rules.specs.Valid.{between, tableValid, tokenValid, handleValid, streamValid, levelValid, isToken, primaryAtStation, clientFits, clientAtStations}
 use Rattle.rules.specs.Memory.{Memory, same, sameHandles, sameMemory, sized, isImage, valid, encode, decode, slotAt, slotRow, slotDacl, slotHandle, handleAt, stationAt, stationRow, counters, sections, control, pendingRow, tokenWords, counterWords, stationWords, controlWords, nextToken, nextHandle, stationsIn, pendingBytes}
 use Rattle.rules.proofs.Same.{same-refl}
 use Rattle.rules.proofs.Rows.{length-slotRow, length-slotDacl, length-stationRow, length-pendingRow}
@@ -82,13 +82,13 @@ module _ (m : Memory)
       ∙ rw (counted, long, and-true)
 
   stations-tested : let xs : List Station = readRows stationAt stationWords pendingBytes stationCount (stationsIn (m .control)) (m .pending) in
-      (same (control (decode m)) (m .control) && same (flat pendingRow xs) (m .pending) && (all streamValid xs && all idleValid xs))
+      (same (control (decode m)) (m .control) && same (flat pendingRow xs) (m .pending) && (all streamValid xs && all levelValid xs))
       ≡ testRows stationTest stationWords pendingBytes stationCount (stationsIn (m .control)) (m .pending)
   unfolding stationTest
   stations-tested =
       let xs : List Station = readRows stationAt stationWords pendingBytes stationCount (stationsIn (m .control)) (m .pending) in
-      ap₂ (λ b v. b && same (flat pendingRow xs) (m .pending) && v) control-tested (all-and streamValid idleValid xs)
-      ∙ same-rows stationAt stationWords pendingBytes (λ x. streamValid x && idleValid x) stationRow pendingRow length-stationRow length-pendingRow stationCount
+      ap₂ (λ b v. b && same (flat pendingRow xs) (m .pending) && v) control-tested (all-and streamValid levelValid xs)
+      ∙ same-rows stationAt stationWords pendingBytes (λ x. streamValid x && levelValid x) stationRow pendingRow length-stationRow length-pendingRow stationCount
       (stationsIn (m .control)) (m .pending) (length-take-le (stationCount * stationWords) (drop counterWords (m .control)) (simp length-drop (omega arith))) lp
 
   pub parts : partsTest m ≡ (isImage m && Valid.valid (decode m))
@@ -137,7 +137,7 @@ module _ (m : Memory)
       (all tokenValid (lives rows)) (all handleValid hl) (all streamValid xs)
       (all (λ n. member n tn) (map handleToken hl ++ map stationToken xs ++ nz))
       (all (λ t. member (t .number) (map handleToken hl ++ map stationToken xs ++ nz)) (lives rows)) (all (primaryIn (map stationToken xs)) (lives rows))
-      (all (λ t. all (clientFits t) xs) (lives rows)) (all idleValid xs)
+      (all (λ t. all (clientFits t) xs) (lives rows)) (all levelValid xs)
       l
       ∙ sym (rw (c₁, c₂, c₃, c₄, and-true, and-true))
 

@@ -16,7 +16,7 @@ use Rattle.rules.specs.Table.{Slot, free, live}
 use Rattle.rules.specs.Handle.{Handle}
 use Rattle.rules.specs.Station.{Station}
 use Rattle.rules.specs.State.{handleNumber, handleToken, tokenSlots, handleSlots, stationCount}
-use Rattle.rules.specs.Valid.{groupValid, tokenValid, handleValid, streamValid, idleValid}
+use Rattle.rules.specs.Valid.{groupValid, tokenValid, handleValid, streamValid, levelValid}
 use Rattle.rules.specs.Head as Head
 use Rattle.rules.specs.Memory.{Memory, same, slotRow, slotDacl, slotAt, tokenRow, daclRow, tokenAt, stationRow, pendingRow, stationAt, unpack, word32, headWords, tokenWords, stationWords, primaryWord, countWord, brokenWord, clientWord, levelWord, nextToken, nextHandle, stationsIn, pendingBytes}
 
@@ -107,13 +107,13 @@ unfoldable pub streamTest : List ℕ → List ℕ → Bool
 streamTest ws bs = rowTest streamValid ws bs
 
 unfoldable pub stationTest : List ℕ → List ℕ → Bool
-stationTest ws bs = rowTest (λ x. streamValid x && idleValid x) ws bs
+stationTest ws bs = rowTest (λ x. streamValid x && levelValid x) ws bs
 
 -- the level is 0 where the station acts for none
 abbrev pub levelTest : List ℕ → Bool
 levelTest ws = not (eqb (getD ws clientWord 0) 0) || eqb (getD ws levelWord 0) 0
 
--- nothing pending
+-- nothing pending, and no level without a client
 abbrev pub idleTest : List ℕ → Bool
 idleTest ws = eqb (getD ws countWord 0) 0 && ltb (getD ws brokenWord 0) 2 && levelTest ws
 

@@ -58,7 +58,7 @@ fn station_valid(words: &[u64], bytes: &[u8]) -> bool
     stream_valid(words, bytes) & level_valid(words)
 }
 
-// Nothing pending; a break or none.
+// Nothing pending; a break or none; no level without a client.
 fn is_idle(words: &[u64]) -> bool
     requires { ⌜ length (now words) ≡ stationWords ⌝ }
     ensures { λ r. ⌜ r ≡ idleTest (now (words .entry)) ⌝ }
