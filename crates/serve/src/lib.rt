@@ -1,18 +1,16 @@
 // A body is served: its request decided and carried out, its answer written.
 ghost use Prim.Native.Nat.{_≤_, _<_};
-ghost use lib.ListN.{length, getD};
-ghost use Rattle.rules.specs.Request.{layouts, unknown};
+ghost use lib.ListN.{length};
 ghost use Rattle.rules.specs.State.{stationCount};
 ghost use Rattle.rules.specs.Frame.{maxAnswer};
 ghost use Rattle.handle.specs.Words.{recordsIn};
 ghost use Rattle.state.specs.Parts.{Lent};
-ghost use Rattle.serve.specs.Served.{Held, LayoutCarried, BodyCarried, BodyServed};
+ghost use Rattle.serve.specs.Served.{Held, BodyCarried, BodyServed};
 use answer::refusal;
 use body::layout;
 use decide::outcome;
 use decide::outcome::Outcome;
 use handle::HANDLE_WORDS;
-use number::Cursor;
 use state::handles::Change;
 
 mod by_number;
@@ -21,30 +19,6 @@ mod by_number;
 pub struct Reply {
     pub written: usize,
     pub change: Change,
-}
-
-// Of a body whose request number is none of the first eight: the rest is carried out. Two short matches are proved quicker than a long one.
-fn later(
-    n: u64,
-    station: u32,
-    body: &[u8],
-    c: Cursor,
-    handles: &[u64; HANDLE_WORDS],
-    tokens: &mut [u64],
-    dacls: &mut [u8],
-    control: &mut [u64],
-) -> Outcome
-    requires { ⌜ Lent (now tokens) (now dacls) (now control) × (station < stationCount) × (1 ≤ n → 8 < n) ⌝ }
-    ensures { λ r. ⌜ LayoutCarried (getD layouts n unknown) station (now (body .entry)) c (now (tokens .entry)) (now (dacls .entry)) (recordsIn (now (handles .entry))) (now (control .entry)) (now (tokens .exit)) (now (dacls .exit)) (now (control .exit)) r ⌝ }
-{
-    match n {
-        9 => by_number::duplicate(station, body, c, handles, tokens, dacls, control),
-        10 => by_number::restrict(station, body, c, handles, tokens, dacls, control),
-        11 => by_number::install(station, body, c, handles, tokens, dacls, control),
-        12 => by_number::impersonate(station, body, c, handles, tokens, dacls, control),
-        13 => by_number::revert(station, body, c, handles, tokens, dacls, control),
-        _ => outcome::refused(refusal::MALFORMED),
-    }
 }
 
 // The request of a body, carried out.
@@ -71,7 +45,12 @@ fn carry_out(
         6 => by_number::groups(station, body, c, handles, tokens, dacls, control),
         7 => by_number::scope(station, body, c, handles, tokens, dacls, control),
         8 => by_number::defaults(station, body, c, handles, tokens, dacls, control),
-        _ => later(n, station, body, c, handles, tokens, dacls, control),
+        9 => by_number::duplicate(station, body, c, handles, tokens, dacls, control),
+        10 => by_number::restrict(station, body, c, handles, tokens, dacls, control),
+        11 => by_number::install(station, body, c, handles, tokens, dacls, control),
+        12 => by_number::impersonate(station, body, c, handles, tokens, dacls, control),
+        13 => by_number::revert(station, body, c, handles, tokens, dacls, control),
+        _ => outcome::refused(refusal::MALFORMED),
     }
 }
 
