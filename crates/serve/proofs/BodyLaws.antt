@@ -1,19 +1,19 @@
 -- A whole body: its request number chooses the layout. Assumes nothing.
-use Prim.Native.Nat.{ℕ, zero, suc, _<_, _≤_}
+use Prim.Native.Nat.{ℕ, zero, suc}
 use native.Mathlib.Omega.{arith}
 use mathlib.Core.Path.{_≡_, refl, sym, ap, _∙_}
 use mathlib.Core.List.{List}
-use lib.ListN.{length, getD, List·getD-eq-default}
+use lib.ListN.{getD, List·getD-eq-default}
 use Rattle.rules.specs.Number.{bad}
 use Rattle.rules.specs.Request.{Request, Reader, layouts, unknown, parse}
 use Rattle.rules.specs.Serve.{decision, serve}
 use Rattle.number.specs.Rest.{Rest, rest, lost, readFrom}
 use Rattle.number.specs.Meaning.{restOf}
-use Rattle.number.specs.declared.cursor.Cursor.{Cursor}
 use Rattle.number.specs.declared.cursor.Field.{Field}
 use Rattle.handle.specs.declared.Handle.{Handle}
 use Rattle.answer.specs.declared.Answer.the-variants as answers
 use Rattle.answer.specs.Answer.{answerOf, Fit, WroteFrame}
+use Rattle.answer.proofs.Classes.{Apart, above}
 use Rattle.body.specs.Layout.{Begun}
 use Rattle.decide.specs.declared.outcome.Outcome.{Outcome}
 use Rattle.decide.specs.Carried.{Ends}
@@ -26,24 +26,10 @@ no-layout (rest bytes) = refl
 no-layout lost = refl
 
 -- no request has this number
-none-of : (n : ℕ) → (1 ≤ n → length layouts ≤ n) → getD layouts n unknown ≡ unknown
+none-of : (n : ℕ) → Apart 13 n → getD layouts n unknown ≡ unknown
 unfolding layouts
-none-of zero l = refl
-none-of (suc n) l = List·getD-eq-default layouts unknown {n = suc n} (l (omega arith))
-
--- by a number that is looked for after the first eight
-module _ (station n : ℕ) {body : List ℕ} {c : Cursor} {hs : List Handle} {cs ts ds : List ℕ} (r : Outcome) where
-  pub later-number : (k : ℕ) → n ≡ k → {cs′ ts′ ds′ : List ℕ} → LayoutCarried (getD layouts k unknown) station body c ts ds hs cs ts′ ds′ cs′ r
-      → LayoutCarried (getD layouts n unknown) station body c ts ds hs cs ts′ ds′ cs′ r
-  later-number k e x = rw e x
-
-  pub later-none : (1 ≤ n → 8 < n) → (n ≡ 9 → ⊥) × (n ≡ 10 → ⊥) × (n ≡ 11 → ⊥) × (n ≡ 12 → ⊥) × (n ≡ 13 → ⊥) → Ends (answers.Refused 1) r
-      → LayoutCarried (getD layouts n unknown) station body c ts ds hs cs ts ds cs r
-  unfolding layouts
-  later-none l (n9, n10, n11, n12, n13) i = record {
-    carried = malformed station r (readFrom (getD layouts n unknown) (restOf body c))
-        (ap (λ (x : Reader Request). readFrom x (restOf body c)) (none-of n (λ h. let m = l h in omega arith)) ∙ no-layout (restOf body c)) i;
-  }
+none-of zero u = refl
+none-of (suc n) u = List·getD-eq-default layouts unknown {n = suc n} (above 13 (suc n) u (omega arith))
 
 module _ {body : List ℕ} {first : Field} (b : Begun body first) where
   -- the rest of the body is read by the layout of its number
@@ -55,6 +41,12 @@ module _ {body : List ℕ} {first : Field} (b : Begun body first) where
         → LayoutCarried (getD layouts n unknown) station body (first .next) ts ds hs cs ts′ ds′ cs′ r → BodyCarried station body ts ds hs cs ts′ ds′ cs′ r
     unfolding decision
     by-number n e x = record { carried = read-alike station r (same-layout (getD layouts n unknown) (ap (λ (m : ℕ). getD layouts m unknown) e)) (x .carried) }
+
+    pub by-none : Apart 13 (first .value) → Ends (answers.Refused 1) r → BodyCarried station body ts ds hs cs ts ds cs r
+    unfolding decision
+    by-none u i = record {
+      carried = malformed station r (parse body) (sym (same-layout unknown (none-of (first .value) u)) ∙ no-layout (restOf body (first .next))) i;
+    }
 
 -- ---- the answer is written
 

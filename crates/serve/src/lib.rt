@@ -1,18 +1,16 @@
 // A body is served: its request decided and carried out, its answer written.
 ghost use Prim.Native.Nat.{_≤_, _<_};
-ghost use lib.ListN.{length, getD};
-ghost use Rattle.rules.specs.Request.{layouts, unknown};
+ghost use lib.ListN.{length};
 ghost use Rattle.rules.specs.State.{stationCount};
 ghost use Rattle.rules.specs.Frame.{maxAnswer};
 ghost use Rattle.handle.specs.Words.{recordsIn};
 ghost use Rattle.state.specs.Parts.{Lent};
-ghost use Rattle.serve.specs.Served.{Held, LayoutCarried, BodyCarried, BodyServed};
+ghost use Rattle.serve.specs.Served.{Held, BodyCarried, BodyServed};
 use answer::refusal;
 use body::layout;
 use decide::outcome;
 use decide::outcome::Outcome;
 use handle::HANDLE_WORDS;
-use number::Cursor;
 use state::handles::Change;
 
 mod by_number;
@@ -23,6 +21,7 @@ pub struct Reply {
     pub change: Change,
 }
 
+<<<<<<< HEAD
 // The request of a body whose number is none of 1 to 8, carried out: two short matches are proved quicker than a long one.
 fn later(
     n: u64,
@@ -47,6 +46,8 @@ fn later(
     }
 }
 
+=======
+>>>>>>> afbe5012f5cb7257fcd27001d87d4b482b9e6c1b
 // The request of a body, carried out.
 fn carry_out(
     station: u32,
@@ -71,7 +72,12 @@ fn carry_out(
         6 => by_number::groups(station, body, c, handles, tokens, dacls, control),
         7 => by_number::scope(station, body, c, handles, tokens, dacls, control),
         8 => by_number::defaults(station, body, c, handles, tokens, dacls, control),
-        _ => later(n, station, body, c, handles, tokens, dacls, control),
+        9 => by_number::duplicate(station, body, c, handles, tokens, dacls, control),
+        10 => by_number::restrict(station, body, c, handles, tokens, dacls, control),
+        11 => by_number::install(station, body, c, handles, tokens, dacls, control),
+        12 => by_number::impersonate(station, body, c, handles, tokens, dacls, control),
+        13 => by_number::revert(station, body, c, handles, tokens, dacls, control),
+        _ => outcome::refused(refusal::MALFORMED),
     }
 }
 

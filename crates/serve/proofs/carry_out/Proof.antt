@@ -1,8 +1,7 @@
 -- Each number in turn. Assumes nothing.
 use borrow.Author.Needs.{needs}
 use Rattle.rules.specs.Request.{layouts}
-use Rattle.answer.proofs.Classes.{above}
-use Rattle.serve.proofs.BodyLaws.{by-number}
+use Rattle.serve.proofs.BodyLaws.{by-number, by-none}
 use Rattle.serve.proofs.carry_out.Statement.{statement}
 use Rattle.serve.proofs.carry_out.Tie as tie
 
@@ -20,7 +19,12 @@ carry-out-spec =
     (λ c κs. search needs)
     (λ c κs. search needs)
     (λ c κs. search needs)
-    (λ c κs. search (needs, above 8))
+    (λ c κs. search needs)
+    (λ c κs. search needs)
+    (λ c κs. search needs)
+    (λ c κs. search needs)
+    (λ c κs. search needs)
+    (λ c κs. search needs)
     (λ c. search needs)
     (λ c. search needs)
     (λ c. search needs)
@@ -56,4 +60,21 @@ carry-out-spec =
     (λ c. search needs)
     (λ c. search needs)
     (λ c. search needs)
-    (λ c. search by-number))
+    (λ c. search by-number)
+    (λ c. search needs)
+    (λ c. search needs)
+    (λ c. search needs)
+    (λ c. search by-number)
+    (λ c. search needs)
+    (λ c. search needs)
+    (λ c. search needs)
+    (λ c. search by-number)
+    (λ c. search needs)
+    (λ c. search needs)
+    (λ c. search needs)
+    (λ c. search by-number)
+    (λ c. search needs)
+    (λ c. search needs)
+    (λ c. search needs)
+    (λ c. search by-number)
+    (λ c. by-none (c .before .before .before .request-number .ensures) _ _ (search needs) (c .refused .ensures)))
