@@ -21,33 +21,6 @@ pub struct Reply {
     pub change: Change,
 }
 
-<<<<<<< HEAD
-// The request of a body whose number is none of 1 to 8, carried out: two short matches are proved quicker than a long one.
-fn later(
-    n: u64,
-    station: u32,
-    body: &[u8],
-    c: Cursor,
-    handles: &[u64; HANDLE_WORDS],
-    tokens: &mut [u64],
-    dacls: &mut [u8],
-    control: &mut [u64],
-) -> Outcome
-    requires { ⌜ Lent (now tokens) (now dacls) (now control) × (station < stationCount) × (1 ≤ n → 8 < n) ⌝ }
-    ensures { λ r. ⌜ LayoutCarried (getD layouts n unknown) station (now (body .entry)) c (now (tokens .entry)) (now (dacls .entry)) (recordsIn (now (handles .entry))) (now (control .entry)) (now (tokens .exit)) (now (dacls .exit)) (now (control .exit)) r ⌝ }
-{
-    match n {
-        9 => by_number::duplicate(station, body, c, handles, tokens, dacls, control),
-        10 => by_number::restrict(station, body, c, handles, tokens, dacls, control),
-        11 => by_number::install(station, body, c, handles, tokens, dacls, control),
-        12 => by_number::impersonate(station, body, c, handles, tokens, dacls, control),
-        13 => by_number::revert(station, body, c, handles, tokens, dacls, control),
-        _ => outcome::refused(refusal::MALFORMED),
-    }
-}
-
-=======
->>>>>>> afbe5012f5cb7257fcd27001d87d4b482b9e6c1b
 // The request of a body, carried out.
 fn carry_out(
     station: u32,
