@@ -83,7 +83,9 @@ enum obriska_control_word {
 enum obriska_station_word {
     OBRISKA_STATION_TOKEN = 0,   /* the number of its primary token */
     OBRISKA_STATION_PENDING = 1, /* how many bytes of a request are pending */
-    OBRISKA_STATION_BROKEN = 2   /* 1: its stream is broken */
+    OBRISKA_STATION_BROKEN = 2,  /* 1: its stream is broken */
+    OBRISKA_STATION_CLIENT = 3,  /* the number of the token that it acts for, or OBRISKA_NO_CLIENT */
+    OBRISKA_STATION_CLIENT_LEVEL = 4 /* the level in force, OBRISKA_LEVEL_.. */
 };
 
 /* ---- sizes ---------------------------------------------------------------------------------- */
@@ -91,7 +93,7 @@ enum obriska_station_word {
 /* What one token slot has in `tokens` and in `dacls`, one station in `control` and in `pending`. */
 #define OBRISKA_TOKEN_WORDS (OBRISKA_TOKEN_RESTRICTING + OBRISKA_MAX_RESTRICTING)
 #define OBRISKA_DACL_BYTES OBRISKA_MAX_DACL
-#define OBRISKA_STATION_WORDS (OBRISKA_STATION_BROKEN + 1)
+#define OBRISKA_STATION_WORDS (OBRISKA_STATION_CLIENT_LEVEL + 1)
 #define OBRISKA_PENDING_BYTES (OBRISKA_LENGTH_BYTES + OBRISKA_MAX_BODY)
 
 /* Elements of each array that the host lends: exactly these lengths, else refusal 13. */
@@ -161,11 +163,13 @@ enum obriska_refusal {
     OBRISKA_REFUSED_RIGHT = 3,      /* the handle lacks the right */
     OBRISKA_REFUSED_PRIVILEGE = 4,  /* the privilege is not enabled on the station's token */
     OBRISKA_REFUSED_FIELD = 5,      /* a bad field or entry, an unknown class, installing a token that
-                                       is not primary, or restricting a restricted one to none of
-                                       its SIDs, or to write-restricted where it is not */
+                                       is not primary, acting for one that is, or restricting a
+                                       restricted one to none of its SIDs, or to write-restricted
+                                       where it is not */
     OBRISKA_REFUSED_PROTECTED = 6,  /* an entry names a mandatory, deny-only or logon group, or
                                        disables one with the user's SID */
-    OBRISKA_REFUSED_MISMATCH = 7,   /* installing a token of another user or session */
+    OBRISKA_REFUSED_MISMATCH = 7,   /* installing a token of another user or session; acting for an
+                                       unrestricted one while restricted, unless Impersonate is held */
     OBRISKA_REFUSED_FULL = 8,       /* no free slot, no number left, or too many restricting SIDs for
                                        an unrestricted token */
     OBRISKA_REFUSED_CAPACITY = 9,   /* the report is larger than the capacity; its size follows */
@@ -188,6 +192,9 @@ enum obriska_refusal {
  *                alone 1, it was disabled. A reset answers both words whole;
  *   6            sixteen words of the groups that were enabled before, group i at bit i % 64 of
  *                word i / 64;
+ *   12           the level in force;
+ *   13           the number of the token given up and the level that was in force, 0 and 0 if the
+ *                station acted for none;
  *   2, 7, 8, 11  nothing. */
 
 /* ---- rights, token fields and attributes ----------------------------------------------------- */
@@ -203,6 +210,12 @@ enum obriska_refusal {
 #define OBRISKA_RIGHT_ADJUST_SCOPE 0x100u
 #define OBRISKA_RIGHT_ALL 0x1EFu
 
+/* Levels of an impersonation token. */
+#define OBRISKA_LEVEL_ANONYMOUS 0u
+#define OBRISKA_LEVEL_IDENTIFICATION 1u
+#define OBRISKA_LEVEL_IMPERSONATION 2u
+#define OBRISKA_LEVEL_DELEGATION 3u
+
 /* Attributes of a group. */
 #define OBRISKA_GROUP_MANDATORY 0x01u
 #define OBRISKA_GROUP_ENABLED_BY_DEFAULT 0x02u
@@ -215,6 +228,13 @@ enum obriska_refusal {
  * gone; its own number for those. It never changes. An anonymous copy (impersonation at level 0) has
  * none, and so has all that is made from one, a primary token too. */
 #define OBRISKA_NO_ROOT 0u
+
+/* A station acts for a token, its client, from request 12 until request 13 or the next 12, and keeps
+ * it alive. The level in force is the client's own, but at most Identification for a client of higher
+ * integrity and, unless the station's token holds Impersonate, for one of another user or one that is
+ * restricted where the station's token is not; the other way round is refused by 7. It stays as
+ * request 12 answered it. Privileges are held by the station's own token all the while. */
+#define OBRISKA_NO_CLIENT 0u
 
 /* ---- the calls ------------------------------------------------------------------------------ */
 
@@ -243,7 +263,8 @@ struct obriska_fed obriska_feed(uint32_t station, const uint8_t *data, size_t da
                                 uint64_t *control, size_t control_len, uint8_t *pending,
                                 size_t pending_len);
 
-/* Drops the station's part of a request and its break, and nothing else: tokens and handles stay.
+/* Drops the station's part of a request and its break, and nothing else: tokens and handles stay, and
+ * what it acts for.
  * Returns 0, or 11 or 13; then nothing is written. */
 uint32_t obriska_reconnect(uint32_t station, const uint64_t *tokens, size_t tokens_len,
                            const uint8_t *dacls, size_t dacls_len,

@@ -19,7 +19,7 @@ static const char *refusal_text(uint32_t refusal)
     case OBRISKA_REFUSED_PRIVILEGE: return "a privilege is not held";
     case OBRISKA_REFUSED_FIELD: return "a field or entry is bad";
     case OBRISKA_REFUSED_PROTECTED: return "a mandatory, deny-only or logon group, or disabling the user's";
-    case OBRISKA_REFUSED_MISMATCH: return "another user or session";
+    case OBRISKA_REFUSED_MISMATCH: return "another user or session, or only the own token is restricted";
     case OBRISKA_REFUSED_FULL: return "no room left";
     case OBRISKA_REFUSED_CAPACITY: return "the report is larger than the capacity";
     case OBRISKA_REFUSED_BROKEN: return "the stream is broken";

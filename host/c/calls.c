@@ -32,7 +32,7 @@ static int unchanged(void) { return memcmp(&memory, &before, sizeof memory) == 0
 
 static const uint8_t open_own[] = {0x02, 0x01, 0x28};
 
-static const uint64_t *station_word(size_t station, enum obriska_station_word word)
+static uint64_t *station_word(size_t station, enum obriska_station_word word)
 {
     size_t row = OBRISKA_FIRST_STATION + station * OBRISKA_STATION_WORDS;
     return &memory.control[row + word];
@@ -45,8 +45,8 @@ enum { ARRAYS = 5 };
 static void the_memory_has_the_sizes_of_the_docs(void)
 {
     EXPECT(sizeof memory.tokens == 12928 && sizeof memory.dacls == 4096);
-    EXPECT(sizeof memory.handles == 512 && sizeof memory.control == 208);
-    EXPECT(sizeof memory.pending == 16400 && sizeof memory == 34144);
+    EXPECT(sizeof memory.handles == 512 && sizeof memory.control == 336);
+    EXPECT(sizeof memory.pending == 16400 && sizeof memory == 34272);
 }
 
 static void start_asks_for_the_sizes_only(void)
@@ -73,6 +73,8 @@ static void start_asks_for_the_sizes_only(void)
         EXPECT(*station_word(station, OBRISKA_STATION_TOKEN) == 1);
         EXPECT(*station_word(station, OBRISKA_STATION_PENDING) == 0);
         EXPECT(*station_word(station, OBRISKA_STATION_BROKEN) == 0);
+        EXPECT(*station_word(station, OBRISKA_STATION_CLIENT) == OBRISKA_NO_CLIENT);
+        EXPECT(*station_word(station, OBRISKA_STATION_CLIENT_LEVEL) == 0);
     }
     EXPECT(m->handles[0].number == 0 && m->handles[OBRISKA_HANDLES - 1].mask == 0);
     EXPECT(m->dacls[0] == 0 && m->pending[OBRISKA_PENDING_LEN - 1] == 0);
@@ -220,6 +222,58 @@ static void a_root_above_the_tokens_number_is_refused(void)
     }
 }
 
+/* Station 0 has handle 1 on its own token and handle 2 on a copy for impersonation, token 2. */
+static void start_with_a_copy(void)
+{
+    static const uint8_t open_all[] = {0x03, 0x01, 0xEF, 0x03};
+    static const uint8_t copy_own[] = {0x06, 0x09, 0x01, 0x02, 0x02, 0xEF, 0x03};
+    EXPECT(obriska_memory_start(&memory) == 0);
+    EXPECT(is(feed(0, open_all, sizeof open_all), 0, 4, 3));
+    EXPECT(is(feed(0, copy_own, sizeof copy_own), 0, 7, 3));
+}
+
+static void a_station_acts_for_a_token_and_keeps_it_alive(void)
+{
+    static const uint8_t impersonate[] = {0x02, 0x0C, 0x02};
+    static const uint8_t close_copy[] = {0x02, 0x02, 0x02};
+    static const uint8_t revert[] = {0x01, 0x0D};
+    static const uint8_t in_force[] = {0x02, 0x00, OBRISKA_LEVEL_IMPERSONATION};
+    static const uint8_t closed[] = {0x01, 0x00};
+    static const uint8_t given_up[] = {0x03, 0x00, 0x02, OBRISKA_LEVEL_IMPERSONATION};
+    static const uint8_t none[] = {0x03, 0x00, 0x00, 0x00};
+    const uint64_t *copy = &memory.tokens[OBRISKA_TOKEN_WORDS + OBRISKA_TOKEN_NUMBER];
+    start_with_a_copy();
+    EXPECT(answers(impersonate, sizeof impersonate, in_force, sizeof in_force));
+    EXPECT(*station_word(0, OBRISKA_STATION_CLIENT) == 2);
+    EXPECT(*station_word(0, OBRISKA_STATION_CLIENT_LEVEL) == OBRISKA_LEVEL_IMPERSONATION);
+    EXPECT(*station_word(0, OBRISKA_STATION_TOKEN) == 1);
+    EXPECT(answers(close_copy, sizeof close_copy, closed, sizeof closed) && *copy == 2);
+    before = memory;
+    EXPECT(obriska_memory_reconnect(&memory, 0) == 0);
+    EXPECT(unchanged());
+    EXPECT(answers(revert, sizeof revert, given_up, sizeof given_up) && *copy == 0);
+    EXPECT(*station_word(0, OBRISKA_STATION_CLIENT) == OBRISKA_NO_CLIENT);
+    EXPECT(*station_word(0, OBRISKA_STATION_CLIENT_LEVEL) == 0);
+    EXPECT(answers(revert, sizeof revert, none, sizeof none));
+}
+
+static void a_client_is_an_impersonation_token_at_its_own_level_at_most(void)
+{
+    static const struct {
+        uint64_t client, level;
+        int valid;
+    } rows[] = {{0, 0, 1}, {0, 1, 0}, {1, 0, 0}, {2, 0, 1},
+                {2, 1, 1}, {2, 2, 1}, {2, 3, 0}, {3, 0, 0}};
+    start_with_a_copy();
+    for (size_t i = 0; i < sizeof rows / sizeof rows[0]; i++) {
+        *station_word(7, OBRISKA_STATION_CLIENT) = rows[i].client;
+        *station_word(7, OBRISKA_STATION_CLIENT_LEVEL) = rows[i].level;
+        before = memory;
+        EXPECT(is(feed(0, open_own, 0), rows[i].valid ? 0 : OBRISKA_REFUSED_MEMORY, 0, 0));
+        EXPECT(unchanged());
+    }
+}
+
 static void a_request_is_answered_at_its_last_byte(void)
 {
     const uint8_t *pending = &memory.pending[3 * OBRISKA_PENDING_BYTES];
@@ -281,6 +335,8 @@ int main(void)
     request_5_tells_absent_disabled_and_enabled_apart();
     class_9_tells_the_root_which_an_anonymous_copy_has_not();
     a_root_above_the_tokens_number_is_refused();
+    a_station_acts_for_a_token_and_keeps_it_alive();
+    a_client_is_an_impersonation_token_at_its_own_level_at_most();
     a_request_is_answered_at_its_last_byte();
     a_broken_stream_ignores_bytes_until_a_reconnect();
     find_gives_the_stations_live_handle();

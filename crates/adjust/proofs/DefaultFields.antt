@@ -23,6 +23,7 @@ use Rattle.rules.proofs.Rows.{token-back}
 use Rattle.token.specs.Row.{Becomes}
 use Rattle.answer.specs.declared.Answer.the-variants as answers
 use Rattle.decide.specs.Ending.{Ending, refused, becomes, tokenAfter, answered, RowsEnd}
+use Rattle.state.proofs.TokenScalars.{empty-size}
 use Rattle.adjust.specs.DefaultDacl.{DaclWritten}
 use Rattle.adjust.specs.Defaults.{OwnerJudged, DefaultsJudged, withIndexes, DefaultsSet, defaultsEnding}
 
@@ -80,11 +81,6 @@ module _ (ws : List ℕ) (i : ℕ) (h : i ≡ 0 → ⊥) where
           ∙ rw (lt-ltb k (length (t .groups)) (omega arith))
 
 -- ---- all fields
-
-empty-size : (bytes : List ℕ) → isEmpty bytes ≡ eqb (length bytes) 0
-unfolding isEmpty
-empty-size [] = refl
-empty-size (b ∷ bytes) = sym (ne-eqb (suc (length bytes)) 0 (λ h. omega arith))
 
 module _ (ws : List ℕ) (owner group flag size : ℕ) where
   pub judges : (o : Bool) → OwnerJudged owner ws o

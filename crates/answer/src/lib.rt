@@ -38,9 +38,9 @@ pub enum Answer {
     TooSmall(u64),
     // Success, with nothing more.
     Done,
-    // Success, with a new handle.
+    // Success, with a new handle or request 12's level.
     Value(u64),
-    // Success, with the two words of request 5's report.
+    // Success, with the two words of request 5's report, or with what request 13 gave up.
     Values(u64, u64),
     // Success, with the first of request 6's sixteen words; the others are 0, as no token has more than 64 groups.
     Report(u64),

@@ -10,12 +10,15 @@ pub const RIGHT_MISSING: u64 = 3;
 
 pub const PRIVILEGE_NOT_HELD: u64 = 4;
 
-// A field or entry bad, unknown class, installing a non-primary token.
+// A field or entry bad, unknown class, installing a token that isn't primary, or acting for one that is.
 pub const BAD_FIELD: u64 = 5;
 
 pub const PROTECTED_GROUP: u64 = 6;
 
 pub const INSTALL_MISMATCH: u64 = 7;
+
+// The server is restricted, its client isn't, and the gate does not pass.
+pub const RESTRICTED_SERVER: u64 = 7;
 
 // A needed slot is not free, a needed next number is unusable, or over 16 restricting SIDs.
 pub const TABLE_FULL: u64 = 8;

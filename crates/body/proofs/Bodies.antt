@@ -11,8 +11,8 @@ use Rattle.number.specs.Rest.{readFrom, isEnd}
 use Rattle.number.specs.Meaning.{restOf, FieldAfter, Onward}
 use Rattle.number.specs.declared.cursor.Cursor.{Cursor}
 use Rattle.number.specs.declared.cursor.Field.{Field}
-use Rattle.body.specs.Layout.{whole, Begun, NumberRead, valuesAt, Listed, EntriesRead, RestrictRead}
-use Rattle.body.proofs.Layouts.{_then_, field, ends, at-end, values, list-there, list-was, list-ends, pairs-onward}
+use Rattle.body.specs.Layout.{whole, Begun, NothingRead, NumberRead, valuesAt, Listed, EntriesRead, RestrictRead}
+use Rattle.body.proofs.Layouts.{_then_, field, ended, ends, at-end, values, list-there, list-was, list-ends, pairs-onward}
 
 pub begun : (s : List ℕ) (c : Cursor) (n : Field) → (c .at ≡ 0) × (c .ok ≡ true) → FieldAfter s c max32 n → Begun s n
 unfolding parse u32 readFrom
@@ -22,6 +22,9 @@ begun s c n e p = record {
 }
 
 module _ (s : List ℕ) (c : Cursor) (ok : Bool) where
+  pub nothing-read : ok ≡ isEnd (restOf s c) → NothingRead s c ok
+  nothing-read e = record { parsed = λ request. ended request (restOf s c) e }
+
   module _ (a : Field) (p : FieldAfter s c max32 a) where
     pub number-read : ok ≡ isEnd (restOf s (a .next)) → NumberRead s c ok (a .value)
     unfolding numberLayout u32

@@ -49,7 +49,7 @@ field {s = s} {c} f {limit} {r} h = record {
 }
 
 -- nothing is left
-ended : (request : Request) {ok : Bool} (x : Rest) → ok ≡ isEnd x → whole ok request ≡ readFrom (end request) x
+pub ended : (request : Request) {ok : Bool} (x : Rest) → ok ≡ isEnd x → whole ok request ≡ readFrom (end request) x
 unfolding readFrom isEnd isEmpty end
 ended request (rest []) e = rw e
 ended request (rest (b ∷ bytes)) e = rw e

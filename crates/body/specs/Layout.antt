@@ -7,7 +7,7 @@ use lib.ListN.{length, drop, getD}
 use Rattle.rules.specs.Basic.{if_then_else_}
 use Rattle.rules.specs.Number.{Read, got, bad}
 use Rattle.rules.specs.Entry.{Entry}
-use Rattle.rules.specs.Request.{Request, Reader, times, u32, entry, numberLayout, entriesLayout, layouts, unknown, parse, restrict, restrictLayout}
+use Rattle.rules.specs.Request.{Request, Reader, end, times, u32, entry, numberLayout, entriesLayout, layouts, unknown, parse, restrict, restrictLayout}
 use Rattle.number.specs.Rest.{readFrom}
 use Rattle.number.specs.Meaning.{restOf}
 use Rattle.number.specs.declared.cursor.Cursor.{Cursor}
@@ -22,7 +22,11 @@ pub record Begun (s : List ℕ) (r : Field) : Type 0 where
   pub parsed : readFrom (getD layouts (r .value) unknown) (restOf s (r .next)) ≡ parse s
   pub inside : r .next .at ≤ length s
 
--- requests 1, 2 and 11
+-- request 13
+pub record NothingRead (s : List ℕ) (c : Cursor) (ok : Bool) : Type 0 where
+  pub parsed : (request : Request) → whole ok request ≡ readFrom (end request) (restOf s c)
+
+-- requests 1, 2, 11 and 12
 pub record NumberRead (s : List ℕ) (c : Cursor) (ok : Bool) (value : ℕ) : Type 0 where
   pub parsed : (request : ℕ → Request) → whole ok (request value) ≡ readFrom (numberLayout request) (restOf s c)
 

@@ -1,6 +1,6 @@
 // What a body says, by the layout of its request: ok if it was whole, and its fields.
 
-// Requests 1, 2 and 11: a mask or a handle.
+// Requests 1, 2, 11 and 12: a mask or a handle.
 pub struct One {
     pub ok: bool,
     pub value: u32,

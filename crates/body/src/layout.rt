@@ -1,10 +1,10 @@
-// The layouts of the eleven requests. A body is read whole before anything else is judged: numbers by value, lists by skipping them.
+// The layouts of the thirteen requests. A body is read whole before anything else is judged: numbers by value, lists by skipping them.
 ghost use mathlib.Core.Path.{_≡_};
 ghost use Rattle.rules.specs.Request as rules;
 ghost use Rattle.rules.specs.Request.{group, byte, createLayout, queryLayout, scopeLayout, defaultsLayout, duplicateLayout};
 ghost use Rattle.number.specs.Rest.{readFrom};
 ghost use Rattle.number.specs.Meaning.{restOf};
-ghost use Rattle.body.specs.Layout.{whole, Begun, NumberRead, valuesAt, Listed, EntriesRead, RestrictRead};
+ghost use Rattle.body.specs.Layout.{whole, Begun, NothingRead, NumberRead, valuesAt, Listed, EntriesRead, RestrictRead};
 use crate::fields::CreateFields;
 use crate::fields::DefaultsFields;
 use crate::fields::DuplicateFields;
@@ -24,6 +24,13 @@ pub fn request_number(s: &[u8]) -> Field
     ensures { λ r. ⌜ Begun (now (s .entry)) r ⌝ }
 {
     Cursor::new().number(s, U32)
+}
+
+// Nothing follows the request number.
+pub fn nothing(s: &[u8], c: Cursor) -> bool
+    ensures { λ r. ⌜ NothingRead (now (s .entry)) c r ⌝ }
+{
+    c.ended(s)
 }
 
 pub fn number(s: &[u8], c: Cursor) -> One

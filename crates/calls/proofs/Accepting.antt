@@ -14,7 +14,7 @@ use Rattle.rules.specs.Frame as Frame
 use Rattle.rules.specs.Frame.{frame, framed, framedBy, lengthOf}
 use Rattle.rules.specs.Refusal.{streamBroken}
 use Rattle.rules.specs.Station.{Station, startStation, withPending, cleared, brokenOff}
-use Rattle.rules.specs.State.{State, handleSlots, stationCount, withStations, stationAt, changeStation, stationToken}
+use Rattle.rules.specs.State.{State, handleSlots, stationCount, withStations, stationAt, changeStation}
 use Rattle.rules.specs.Valid.{isPart, streamValid, valid}
 use Rattle.rules.specs.Memory as Memory
 use Rattle.rules.specs.Memory.{pendingBytes, slotHandle, stationRow, pendingRow, decode}
@@ -22,7 +22,7 @@ use Rattle.rules.specs.Model.{fedFrom}
 use Rattle.rules.specs.Calls.{written, buffer}
 use Rattle.rules.proofs.Logic.{and-l, and-r, getD-mem}
 use Rattle.rules.proofs.Facts.{valid-facts, facts-valid}
-use Rattle.rules.proofs.Changes.{stream-facts}
+use Rattle.rules.proofs.Changes.{only-cleared, stream-facts}
 use Rattle.rules.proofs.Memory.{valid-state}
 use Rattle.rules.proofs.Rows.{length-pendingRow, part-short}
 use Rattle.rules.proofs.Control.{row-put}
@@ -52,8 +52,8 @@ use Rattle.calls.proofs.PendingRows.{drop-take, joined-longer, row-join
 -- ---- a station's stream changed, in a state and in its parts
 
 pub cleared-valid : (σ : State) (s : ℕ) → valid σ ≡ true → valid (changeStation s cleared σ) ≡ true
-unfolding stationToken cleared withPending streamValid all isPart framed framedBy lengthOf implies isEmpty
-cleared-valid σ s v = facts-valid (changeStation s cleared σ) (stream-facts σ s cleared (λ x. refl) (λ x m. refl) (valid-facts σ v))
+unfolding cleared withPending streamValid all isPart framed framedBy lengthOf implies isEmpty
+cleared-valid σ s v = facts-valid (changeStation s cleared σ) (stream-facts σ s cleared only-cleared (λ x m. refl) (valid-facts σ v))
 
 parts-set : {s n : ℕ} {b : Bool} {hs : List Handle} {cs ts ds cs′ : List ℕ} → StreamSet s n b cs cs′ → (σ : State) (f : Station → Station)
     → ((x : Station) → stationRow (f x) ≡ streamRow n b (stationRow x)) → PartsIn σ ts ds hs cs → PartsIn (changeStation s f σ) ts ds hs cs′

@@ -1,15 +1,16 @@
--- A body that is served leaves every station's pending bytes as they are: no rule changes a station but install, and it only its token. Assumes nothing.
+-- A body that is served leaves every station's pending bytes as they are: what a rule changes of a station is its token, or the one that it acts for. Assumes nothing.
 use Prim.Native.Nat.{ℕ, zero, suc}
 use mathlib.Core.Path.{_≡_, refl, ap, _∙_}
-use mathlib.Core.Bool.{Bool, true, false}
+use mathlib.Core.Bool.{true, false}
 use mathlib.Core.List.{List, [], _∷_, _++_}
+use Rattle.table.specs.Lists.{pad}
 use Rattle.table.specs.Table.{flat}
-use Rattle.rules.specs.Basic.{if_then_else_, changeAt}
+use Rattle.rules.specs.Basic.{changeAt}
 use Rattle.rules.specs.Number.{Read, got, bad}
 use Rattle.rules.specs.Token.{Token}
-use Rattle.rules.specs.Station.{Station, withToken}
-use Rattle.rules.specs.State.{State, withTokens, withHandles, withStations, changeStation, setToken, caller, putToken, changeToken, used, addToken, addHandle, dropHandle, released}
-use Rattle.rules.specs.Memory.{pendingRow}
+use Rattle.rules.specs.Station.{Station, withToken, withClient}
+use Rattle.rules.specs.State.{State, withTokens, withHandles, withStations, changeStation, setToken, setClient, putToken, changeToken, used, addToken, addHandle, dropHandle, released}
+use Rattle.rules.specs.Memory.{pendingBytes, pendingRow}
 use Rattle.rules.specs.Decision.{Decision, need_else_then_, success, carriedOut, withHandle, issued}
 use Rattle.rules.specs.Request as Request
 use Rattle.rules.specs.Request.{Request, parse}
@@ -24,24 +25,28 @@ use Rattle.rules.specs.AdjustDefaults as AdjustDefaults
 use Rattle.rules.specs.Duplicate as Duplicate
 use Rattle.rules.specs.Restrict as Restrict
 use Rattle.rules.specs.Install as Install
-use Rattle.rules.specs.Install.{marked, matches}
+use Rattle.rules.specs.Impersonate as Impersonate
+use Rattle.rules.proofs.Steps.{install-marked, client-marked}
 
 abbrev rows : State → List ℕ
 rows σ = flat pendingRow (σ .stations)
 
-another-token : (s n : ℕ) (xs : List Station) → flat pendingRow (changeAt s (withToken n) xs) ≡ flat pendingRow xs
-unfolding flat changeAt withToken pendingRow
-another-token s n [] = refl
-another-token zero n (x ∷ xs) = refl
-another-token (suc s) n (x ∷ xs) = ap (λ (ws : List ℕ). pendingRow x ++ ws) (another-token s n xs)
+-- a change of a station but for its pending bytes
+same-pending : (f : Station → Station) → ((x : Station) → f x .pending ≡ x .pending) → (s : ℕ) (xs : List Station) → flat pendingRow (changeAt s f xs) ≡ flat pendingRow xs
+unfolding flat changeAt pendingRow
+same-pending f e s [] = refl
+same-pending f e zero (x ∷ xs) = ap (λ (bytes : List ℕ). pad pendingBytes bytes ++ flat pendingRow xs) (e x)
+same-pending f e (suc s) (x ∷ xs) = ap (λ (ws : List ℕ). pendingRow x ++ ws) (same-pending f e s xs)
 
-either : (b : Bool) (x y σ : State) → x .stations ≡ σ .stations → y .stations ≡ σ .stations → (if b then x else y) .stations ≡ σ .stations
-either true x y σ e f = e
-either false x y σ e f = f
+module _ (σ : State) (s : ℕ) (t : Token) where
+  -- used marks change no station
+  install-stations : Install.marked s t σ .stations ≡ σ .stations
+  unfolding used changeToken putToken withTokens
+  install-stations = install-marked (λ τ. τ .stations ≡ σ .stations) σ s t refl refl
 
-marked-stations : (s : ℕ) (t : Token) (σ : State) → marked s t σ .stations ≡ σ .stations
-unfolding marked used changeToken putToken withTokens
-marked-stations s t σ = either (matches t (caller σ s)) _ _ σ refl refl
+  client-stations : Impersonate.marked s t σ .stations ≡ σ .stations
+  unfolding used changeToken putToken withTokens
+  client-stations = client-marked (λ τ. τ .stations ≡ σ .stations) σ s t refl refl
 
 -- where the checks pass, the effect keeps the rows
 Keeps : State → Decision → Type 0
@@ -49,7 +54,7 @@ Keeps σ (need_else_then_ b r rest) = Keeps σ rest
 Keeps σ (success τ bytes) = rows τ ≡ rows σ
 
 by-rule : (σ : State) (s : ℕ) (r : Request) → Keeps σ (rule σ s r)
-unfolding Keeps rule withHandle issued OpenClose.openOwn OpenClose.close Create.create Query.query AdjustPrivileges.adjust AdjustGroups.adjust AdjustScope.scope AdjustDefaults.adjust Duplicate.duplicate Restrict.restrict Install.install withTokens withHandles withStations changeStation setToken putToken changeToken used addToken addHandle dropHandle released
+unfolding Keeps rule withHandle issued OpenClose.openOwn OpenClose.close Create.create Query.query AdjustPrivileges.adjust AdjustGroups.adjust AdjustScope.scope AdjustDefaults.adjust Duplicate.duplicate Restrict.restrict Install.install Impersonate.impersonate Impersonate.revert withTokens withHandles withStations changeStation setToken setClient withToken withClient putToken changeToken used addToken addHandle dropHandle released
 by-rule σ s (Request.openOwn mask) = refl
 by-rule σ s (Request.close n) = refl
 by-rule σ s (Request.create user session integrity present byDefault gs) = refl
@@ -60,7 +65,9 @@ by-rule σ s (Request.scope n v) = refl
 by-rule σ s (Request.defaults n owner group flag bytes) = refl
 by-rule σ s (Request.duplicate n type level mask) = refl
 by-rule σ s (Request.restrict n mark removed deny sids) = refl
-by-rule σ s (Request.install n) = another-token s _ _ ∙ ap (flat pendingRow) (marked-stations s _ σ)
+by-rule σ s (Request.install n) = same-pending (withToken _) (λ x. refl) s _ ∙ ap (flat pendingRow) (install-stations σ s _)
+by-rule σ s (Request.impersonate n) = same-pending (withClient _) (λ x. refl) s _ ∙ ap (flat pendingRow) (client-stations σ s _)
+by-rule σ s Request.revert = same-pending (withClient _) (λ x. refl) s _
 
 by-read : (σ : State) (s : ℕ) (r : Read Request) → Keeps σ (decided σ s r)
 unfolding decided Keeps

@@ -9,13 +9,13 @@ use lib.Dec.{eqb}
 use lib.ListN.{length, getD, set, length-set}
 use Rattle.table.specs.Table.{flat, put-record, length-flat, record-element, put-element, record-flat, put-back}
 use Rattle.table.specs.Sections.{Sectioned, section-long, section-word, section-set}
-use Rattle.rules.specs.Station.{Station, startStation, withToken}
-use Rattle.rules.specs.State.{State, stationCount, withStations, stationAt, changeStation, setToken, callerNumber}
-use Rattle.rules.specs.Memory.{stationWords, primaryWord, countWord, brokenWord, stationSection, controlSizes, stationWordAt, mark, stationRow, sections}
+use Rattle.rules.specs.Station.{Station, startStation, withToken, withClient}
+use Rattle.rules.specs.State.{State, stationCount, withStations, stationAt, changeStation, setToken, clientAt, setClient, callerNumber}
+use Rattle.rules.specs.Memory.{stationWords, primaryWord, countWord, brokenWord, clientWord, levelWord, stationSection, controlSizes, stationWordAt, mark, stationRow, sections}
 use Rattle.rules.proofs.Rows.{length-stationRow}
 use Rattle.rules.proofs.Control.{row-put}
 use Rattle.control.specs.Control.{ControlIn}
-use Rattle.control.specs.Stations.{WordGiven, CallerNumber, TokenSet, StreamGiven, StreamSet}
+use Rattle.control.specs.Stations.{WordGiven, CallerNumber, TokenSet, ClientGiven, ClientSet, StreamGiven, StreamSet}
 
 -- ---- reading
 
@@ -37,6 +37,10 @@ word-given s k ws h l e = record { word = λ σ i. ap (λ (j : ℕ). getD ws j 0
 pub caller-number : (s : ℕ) {ws : List ℕ} {r : ℕ} → WordGiven s primaryWord ws r → CallerNumber s ws r
 unfolding callerNumber stationRow
 caller-number s w = record { number = w .word }
+
+pub client-given : (s : ℕ) {ws : List ℕ} {t l : ℕ} → WordGiven s clientWord ws t → WordGiven s levelWord ws l → ClientGiven s ws (record { token = t; level = l })
+unfolding clientAt stationRow
+client-given s c d = record { client = λ σ i j. record { token = c .word σ i j; level = d .word σ i j } }
 
 is-mark : (b : Bool) → eqb (mark b) 1 ≡ b
 unfolding mark
@@ -93,6 +97,13 @@ module _ (s : ℕ) (h : s < stationCount) where
   unfolding setToken stationRow withToken
   token-set n {ws} e = record {
     control = λ σ i. rw e (row-changed σ (withToken n) refl (row-stored primaryWord n (omega arith) (own-row σ i)));
+  }
+
+  pub client-set : (t l : ℕ) {ws ws₁ ws₂ : List ℕ} → ws₁ ≡ set ws (stationWordAt s clientWord) t → ws₂ ≡ set ws₁ (stationWordAt s levelWord) l → ClientSet s t l ws ws₂
+  unfolding setClient stationRow withClient
+  client-set t l d e = record {
+    control = λ σ i.
+        rw (e, d) (row-changed σ (withClient (record { token = t; level = l })) refl (row-stored levelWord l (omega arith) (row-stored clientWord t (omega arith) (own-row σ i))));
   }
 
   byte-mark : (b : Bool) → boolByte b ≡ mark b

@@ -9,14 +9,18 @@ pub const NEXT_HANDLE: usize = 1;
 
 pub const COUNTER_WORDS: usize = 2;
 
-// A station's row: its primary token, how many bytes are pending, whether the stream is broken.
+// A station's row: its primary token, how many bytes are pending, whether the stream is broken, the token that it acts for and the level in force.
 pub const PRIMARY_WORD: usize = 0;
 
 pub const COUNT_WORD: usize = 1;
 
 pub const BROKEN_WORD: usize = 2;
 
-pub const STATION_WORDS: usize = 3;
+pub const CLIENT_WORD: usize = 3;
+
+pub const LEVEL_WORD: usize = 4;
+
+pub const STATION_WORDS: usize = 5;
 
 // Where the sections begin and end.
 pub const STATIONS_AT: usize = COUNTER_WORDS;

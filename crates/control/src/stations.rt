@@ -4,8 +4,14 @@ ghost use Prim.Native.Nat.{_<_};
 ghost use lib.ListN.{length, set};
 ghost use Rattle.rules.specs.State.{stationCount};
 ghost use Rattle.rules.specs.Memory.{stationWords, stationWordAt, controlWords};
-ghost use Rattle.control.specs.Stations.{WordGiven, CallerNumber, TokenSet, StationsRefer, StreamGiven, StreamSet};
+ghost use Rattle.control.specs.Stations.{WordGiven, CallerNumber, TokenSet, ClientGiven, ClientSet, StationsHave, StationsRefer, StreamGiven, StreamSet};
 use crate::layout::*;
+
+// The token that a station acts for and the level in force: 0 and 0 where there is none.
+pub struct Client {
+    pub token: u64,
+    pub level: u64,
+}
 
 // How many bytes are pending, and whether the stream is broken.
 pub struct Stream {
@@ -54,18 +60,49 @@ pub fn set_token(station: u32, number: u64, control: &mut [u64])
     set_word(station, PRIMARY_WORD, number, control);
 }
 
-// Some station's primary token is this one.
-pub fn refers(token: u64, control: &[u64]) -> bool
-    requires { ⌜ length (now control) ≡ controlWords ⌝ }
-    ensures { λ r. ⌜ StationsRefer token (now (control .entry)) r ⌝ }
+// ---- the token that a station acts for
+
+pub fn client_of(station: u32, control: &[u64]) -> Client
+    requires { ⌜ (station < stationCount) × (length (now control) ≡ controlWords) ⌝ }
+    ensures { λ r. ⌜ ClientGiven station (now (control .entry)) r ⌝ }
+{
+    let token = word(station, CLIENT_WORD, control);
+    let level = word(station, LEVEL_WORD, control);
+    Client { token, level }
+}
+
+pub fn set_client(station: u32, token: u64, level: u64, control: &mut [u64])
+    requires { ⌜ (station < stationCount) × (length (now control) ≡ controlWords) ⌝ }
+    ensures { λ _. ⌜ ClientSet station token level (now (control .entry)) (now (control .exit)) ⌝ }
+{
+    set_word(station, CLIENT_WORD, token, control);
+    set_word(station, LEVEL_WORD, level, control);
+}
+
+// ---- references
+
+// Some station's row has the number in this word.
+fn have(number: u64, at: usize, control: &[u64]) -> bool
+    requires { ⌜ (at < stationWords) × (length (now control) ≡ controlWords) ⌝ }
+    ensures { λ r. ⌜ StationsHave number at (now (control .entry)) r ⌝ }
 {
     let mut found = false;
     let mut i: u32 = 0;
     while i < STATIONS as u32 {
-        found = found | (token == word(i, PRIMARY_WORD, control));
+        found = found | (number == word(i, at, control));
         i += 1;
     }
     found
+}
+
+// Some station's primary token is this one, or the one that it acts for. 0 is no token.
+pub fn refers(token: u64, control: &[u64]) -> bool
+    requires { ⌜ length (now control) ≡ controlWords ⌝ }
+    ensures { λ r. ⌜ StationsRefer token (now (control .entry)) r ⌝ }
+{
+    let primary = have(token, PRIMARY_WORD, control);
+    let client = have(token, CLIENT_WORD, control);
+    primary | ((token != 0) & client)
 }
 
 // ---- the stream

@@ -30,6 +30,7 @@ use Rattle.handle.specs.declared.Handle.{Handle}
 use Rattle.token.proofs.Changing.{few-groups}
 use Rattle.control.specs.Counters.{NextGiven}
 use Rattle.state.specs.ReleaseFacts.{PartsIn}
+use Rattle.state.proofs.TokenScalars.{empty-size}
 use Rattle.state.proofs.InPlace.{lent, in-slot}
 use Rattle.answer.specs.declared.Answer.the-variants as answers
 use Rattle.decide.specs.declared.outcome.Outcome.{Outcome}
@@ -45,7 +46,6 @@ use Rattle.copy.specs.DeniedGroups.{IndexesJudged, Packed, GroupsDenied}
 use Rattle.copy.specs.Restricting.{Listed, ListMade, withRestricting, RestrictedTo}
 use Rattle.copy.specs.Restrict.{Lists, IsSource, SourceAt, limitedTo, CopyMade, refusalNumber, hasRoom, RestrictRefusal, restrictedAs, RestrictedIssued, RestrictCarried}
 use Rattle.copy.proofs.Copies.{issues-made, on-located}
-use Rattle.copy.proofs.RestrictingSids.{empty-size}
 
 -- ---- the token in a slot
 

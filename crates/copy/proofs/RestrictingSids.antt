@@ -3,7 +3,7 @@ use Prim.Native.Nat.{ℕ, suc, _+_, _-_, _≤_, _<_}
 use native.Mathlib.Numerals.{add-one}
 use native.Mathlib.Omega.{arith}
 use mathlib.Core.Path.{_≡_, refl, sym, ap, ap₂, _∙_, subst}
-use mathlib.Core.Bool.{Bool, true, false, _||_, or-assoc, or-true, or-false}
+use mathlib.Core.Bool.{Bool, true, false, _||_, or-true, or-false}
 use mathlib.Core.List.{List, [], _∷_, _++_, map, append-nil, append-assoc}
 use lib.Dec.{eqb}
 use lib.ListN.{length, take, drop, getD, set, replicate, length-append, length-take, length-set}
@@ -19,19 +19,16 @@ use Rattle.rules.specs.Head as Head
 use Rattle.rules.specs.Memory.{headWords, tokenWords, pack, head, tokenRow}
 use Rattle.rules.specs.Request.{times, u32}
 use Rattle.rules.specs.Restrict.{restrictingTo}
+use Rattle.rules.proofs.Logic.{member-append}
 use Rattle.number.specs.declared.Number.{Number}
 use Rattle.number.specs.declared.Number.the-variants as number
 use Rattle.number.specs.Meaning.{NumberAt}
 use Rattle.state.proofs.InPlace.{lent}
+use Rattle.state.proofs.TokenScalars.{empty-size}
 use Rattle.copy.specs.declared.restricting.Sids.{Sids}
 use Rattle.copy.specs.Restricting.{Listed, SidAdded, GivenListed, isKept, Stays, OwnKept, ListMade, withRestricting, RestrictedTo}
 use Rattle.copy.proofs.Numbers.{numbers-long, Walk, walk-begin, walk-end, walk-lost, walk-next}
 use Rattle.copy.proofs.RestrictedRow.{getD-pad}
-
-pub empty-size : (xs : List ℕ) → isEmpty xs ≡ eqb (length xs) 0
-unfolding isEmpty
-empty-size [] = refl
-empty-size (x ∷ xs) = sym (ne-eqb (suc (length xs)) 0 (λ h. omega arith))
 
 -- ---- one SID more
 
@@ -96,11 +93,6 @@ module _ {s : List ℕ} {at count : ℕ} {list : Sids} {from left : ℕ} (k : Gi
     }
 
 -- ---- one of the source's
-
-member-append : (n : ℕ) (xs ys : List ℕ) → member n (xs ++ ys) ≡ (member n xs || member n ys)
-unfolding member
-member-append n [] ys = refl
-member-append n (x ∷ xs) ys = ap (λ (b : Bool). eqb n x || b) (member-append n xs ys) ∙ sym (or-assoc (eqb n x) (member n xs) (member n ys))
 
 -- so far in the loop
 abbrev pub Unseen : (sid : ℕ) (s : List ℕ) (at count from left : ℕ) → Type 0

@@ -31,12 +31,11 @@ use Rattle.token.specs.NewRow.{Headed}
 use Rattle.control.specs.Counters.{NextGiven}
 use Rattle.state.specs.TokenCalls.{Held, Used}
 use Rattle.state.specs.ReleaseFacts.{PartsIn}
-use Rattle.state.proofs.TokenFrames.{used-control, used-handles}
 use Rattle.answer.specs.declared.Answer.the-variants as answers
 use Rattle.decide.specs.declared.outcome.Outcome.{Outcome}
 use Rattle.decide.specs.Carried.{Ends}
 use Rattle.decide.specs.Issue.{IssueRoom, RowIssued}
-use Rattle.decide.proofs.Deciding.{fails, holds, refuses, carried-as}
+use Rattle.decide.proofs.Deciding.{fails, holds, refuses, carried-as, used-parts}
 use Rattle.decide.proofs.Issuing.{room-refuses}
 use Rattle.decide.proofs.RowIssuing.{ends-issuing}
 use Rattle.create.specs.declared.groups.Groups.{Groups}
@@ -75,11 +74,7 @@ module _ (s : ℕ) {ws : List ℕ} {hs : List Handle} {cs ts ds : List ℕ} {b :
   create-issues f in8 m k = record {
     carried = λ u w d. ends-issuing (λ σ. u) (λ σ. used createToken s σ) k λ σ v p. record {
       valid = facts-valid (used createToken s σ) (mark σ s createToken (valid-facts σ v) in8 refl .step .facts);
-      parts = record {
-        handles = used-handles (p .handles) createToken s;
-        control = used-control (p .control) createToken s;
-        tokens = m .tokens σ v (p .tokens) (p .control);
-      };
+      parts = used-parts σ v m p;
       words = w;
       bytes = no-dacl u d;
       decided = holds (canIssue σ) σ tableFull _ (ap not (sym (i .room σ v p)) ∙ f);

@@ -8,7 +8,7 @@ use lib.ListN.{length, length-map}
 use lib.Seq.{set-out}
 use borrow.Author.Tests.{not-true, not-false}
 use Rattle.rules.specs.Refusal.{Refusal, refusal}
-use Rattle.rules.specs.State.{State, handleSlots}
+use Rattle.rules.specs.State.{State, handleSlots, used}
 use Rattle.rules.specs.Valid.{valid}
 use Rattle.rules.specs.Decision.{Decision, need_else_then_, carriedOut}
 use Rattle.rules.specs.Memory.{slotHandle}
@@ -16,8 +16,10 @@ use Rattle.rules.proofs.Facts.{valid-facts}
 use Rattle.handle.specs.Meaning.{handleOf}
 use Rattle.handle.specs.declared.Handle.{Handle}
 use Rattle.state.specs.Parts.{HandlesIn}
+use Rattle.state.specs.TokenCalls.{Used}
 use Rattle.state.specs.HandleFacts.{changed}
 use Rattle.state.specs.ReleaseFacts.{PartsIn}
+use Rattle.state.proofs.TokenFrames.{used-control, used-handles}
 use Rattle.answer.specs.declared.Answer.{Answer}
 use Rattle.answer.specs.declared.Answer.the-variants as answers
 use Rattle.answer.specs.Answer.{answerOf, Fit}
@@ -66,6 +68,12 @@ module _ {x : State → Decision} {hs : List Handle} {cs ts ds : List ℕ} where
     answer = λ σ v p. ap (answerOf ts′ ds′) (e .answer) ∙ d σ v p;
     fit = λ σ v p. subst (Fit ts′ ds′) (sym (e .answer)) (g σ v p);
   }
+
+-- a used bit is set
+pub used-parts : {n s : ℕ} {hs : List Handle} {cs ts ds ts′ : List ℕ} (σ : State) → valid σ ≡ true → Used n s ts cs ts′ → PartsIn σ ts ds hs cs
+    → PartsIn (used n s σ) ts′ ds hs cs
+used-parts {n} {s} σ v u p =
+    record { handles = used-handles (p .handles) n s; control = used-control (p .control) n s; tokens = u .tokens σ v (p .tokens) (p .control) }
 
 -- another decision that comes to the same
 pub carried-as : {x y : State → Decision} {hs : List Handle} {cs ts ds cs′ ts′ ds′ : List ℕ} {r : Outcome}

@@ -25,11 +25,10 @@ use Rattle.token.specs.declared.Identity.{Identity}
 use Rattle.control.specs.Stations.{CallerNumber}
 use Rattle.state.specs.TokenCalls.{IdentityGiven, Held, Used}
 use Rattle.state.specs.ReleaseFacts.{PartsIn, Installed}
-use Rattle.state.proofs.TokenFrames.{used-control, used-handles}
 use Rattle.answer.specs.declared.Answer.the-variants as answers
 use Rattle.decide.specs.declared.outcome.Outcome.{Outcome}
 use Rattle.decide.specs.Carried.{Ends, Carried}
-use Rattle.decide.proofs.Deciding.{refuses, ends-with}
+use Rattle.decide.proofs.Deciding.{refuses, ends-with, used-parts}
 use Rattle.decide.proofs.LookupLaws.{LookedUp, looked-up, looked-up-found, handle-refuses}
 use Rattle.install.specs.Install.{Matching, refusalNumber, Checked, MarksUsed, Placed}
 
@@ -71,11 +70,6 @@ module _ {same : Bool} {token s : ℕ} {ts cs : List ℕ} {may : Bool} (a : Held
       mismatched e = tested 7 (omega arith) (rw e)
 
 -- ---- the used bits
-
-used-parts : {n s : ℕ} {hs : List Handle} {cs ts ds ts′ : List ℕ} (σ : State) → valid σ ≡ true → Used n s ts cs ts′ → PartsIn σ ts ds hs cs
-    → PartsIn (used n s σ) ts′ ds hs cs
-used-parts {n} {s} σ v u p =
-    record { handles = used-handles (p .handles) n s; control = used-control (p .control) n s; tokens = u .tokens σ v (p .tokens) (p .control) }
 
 module _ {same : Bool} {s : ℕ} {cs ts ts′ : List ℕ} (a : Used assignPrimaryToken s ts cs ts′) where
   pub marks-one : not same ≡ false → MarksUsed same s ts cs ts′

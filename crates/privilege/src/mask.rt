@@ -59,6 +59,12 @@ impl Mask {
         self.permits(Mask::DUPLICATE)
     }
 
+    pub fn may_impersonate(self) -> bool
+        ensures { λ r. ⌜ r ≡ permits (self .0) rights.impersonate ⌝ }
+    {
+        self.permits(Mask::IMPERSONATE)
+    }
+
     pub fn may_query(self) -> bool
         ensures { λ r. ⌜ r ≡ permits (self .0) rights.query ⌝ }
     {

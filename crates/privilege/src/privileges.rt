@@ -20,6 +20,8 @@ impl Privileges {
 
     pub const TCB: u64 = 7;
 
+    pub const IMPERSONATE: u64 = 29;
+
     // Privileges 2 to 36, as a word.
     pub const EXISTING: u64 = 0x1F_FFFF_FFFC;
 

@@ -17,7 +17,7 @@ use Rattle.rules.specs.Number.{max32, max64}
 use Rattle.rules.specs.Model.{joined, byteAt, step, refused, fedFrom, feed, Step, Result, silent, answers}
 use Rattle.rules.specs.Refusal.{noStation, shortBuffer}
 use Rattle.rules.specs.Run.{returned, after, answered, ofBytes, eventsOf, events, happens, stateOf, told, afterEvents, answersTo, outcomeOf, outcomeAt, outcomes, servedBy, Call, Event, Serving, feeds, reconnects, byte, reconnected, serves}
-use Rattle.rules.specs.State.{stationCount, start, withStations, stationAt, changeStation, numberOf, handleNumber, stationToken, State}
+use Rattle.rules.specs.State.{stationCount, start, withStations, stationAt, changeStation, numberOf, handleNumber, State}
 use Rattle.rules.specs.Station.{startStation, withPending, cleared, brokenOff, Station}
 use Rattle.rules.specs.Token.{Token}
 use Rattle.rules.specs.Valid.{isByte, isPart, streamValid, valid}
@@ -26,7 +26,7 @@ use Rattle.rules.specs.Throughout.{IsAnswer}
 use Rattle.rules.proofs.Logic.{and-l, and-r, and-i, all-mem, mem-none, mem-append, getD-mem, map-mem, mem-map, all-append}
 use Rattle.rules.proofs.Tables.{on-if, only-one}
 use Rattle.rules.proofs.Facts.{StateFacts}
-use Rattle.rules.proofs.Changes.{later-refl, handles-refl, stream-facts}
+use Rattle.rules.proofs.Changes.{later-refl, handles-refl, OnlyStream, only-pending, only-cleared, only-broken, stream-facts}
 use Rattle.rules.proofs.PrivilegesKept.{sound}
 use Rattle.rules.proofs.Steps.{Advance, stays, _then_}
 use Rattle.rules.proofs.Kept.{serve-step}
@@ -70,22 +70,21 @@ in-frame bytes h = by-length (lengthOf bytes) (first bytes h)
 -- ---- one byte
 
 -- another stream at a station, that could have come from a stream
-streams : (p : State) (s : ℕ) (f : Station → Station) → ((x : Station) → stationToken (f x) ≡ stationToken x)
-    → ((x : Station) → streamValid (f x) ≡ true) → StateFacts p → Advance p (changeStation s f p)
+streams : (p : State) (s : ℕ) (f : Station → Station) → OnlyStream f → ((x : Station) → streamValid (f x) ≡ true) → StateFacts p → Advance p (changeStation s f p)
 unfolding changeStation withStations
 streams p s f e ok k = record { facts = stream-facts p s f e (λ x m. ok x) k; later = later-refl (p .tokens); handles = handles-refl (p .handles) }
 
 pub clears : (p : State) (s : ℕ) → StateFacts p → Advance p (changeStation s cleared p)
-unfolding cleared withPending stationToken streamValid all isPart framed framedBy lengthOf implies
-clears p s f = streams p s cleared (λ x. refl) (λ x. refl) f
+unfolding cleared withPending streamValid all isPart framed framedBy lengthOf implies
+clears p s f = streams p s cleared only-cleared (λ x. refl) f
 
 breaks : (p : State) (s : ℕ) → StateFacts p → Advance p (changeStation s brokenOff p)
-unfolding brokenOff stationToken streamValid all isPart framed framedBy lengthOf implies isEmpty
-breaks p s f = streams p s brokenOff (λ x. refl) (λ x. refl) f
+unfolding brokenOff streamValid all isPart framed framedBy lengthOf implies isEmpty
+breaks p s f = streams p s brokenOff only-broken (λ x. refl) f
 
 keeps : (p : State) (s : ℕ) (bytes : List ℕ) → all isByte bytes ≡ true → framed bytes ≡ part → StateFacts p → Advance p (changeStation s (withPending bytes) p)
-unfolding withPending stationToken streamValid implies isPart
-keeps p s bytes b e f = streams p s (withPending bytes) (λ x. refl) (λ x. and-i (and-i b (ap isPart e)) refl) f
+unfolding withPending streamValid implies isPart
+keeps p s bytes b e f = streams p s (withPending bytes) (only-pending bytes) (λ x. and-i (and-i b (ap isPart e)) refl) f
 
 -- a body is served on a valid state, and is a step from it
 pub record Onward (x : Serving) : Type 0 where

@@ -3,6 +3,7 @@ use Prim.Native.Nat.{ℕ, zero, suc, _+_, _*_, _^_, _≤_, _<_}
 use native.Mathlib.Omega.{arith}
 use mathlib.Core.Path.{_≡_, refl, ap}
 use mathlib.Core.Bool.{Bool, true, false}
+use mathlib.Core.Logic.{_⊎_, ⊎-elim}
 use mathlib.Core.List.{List, [], _∷_, _++_}
 use lib.Bits.{bitAnd, and-le-l}
 use lib.Pow.{pow-mono}
@@ -10,6 +11,7 @@ use native.Mathlib.Nat.{pow-suc}
 use lib.Dec.{leb}
 use lib.ListN.{length, getD, take, drop, length-append, length-take}
 use borrow.Author.Tests.{ltb-true, leb-true}
+use Rattle.rules.specs.Acting.{ActsFor}
 use Rattle.rules.specs.AdjustDefaults as AdjustDefaults
 use Rattle.rules.specs.AdjustGroups as AdjustGroups
 use Rattle.rules.specs.AdjustGroups.{enabledBits, reportWords, enabledWords}
@@ -24,8 +26,9 @@ use Rattle.rules.specs.Duplicate as Duplicate
 use Rattle.rules.specs.Entry.{Entry}
 use Rattle.rules.specs.Frame.{maxAnswer, frame}
 use Rattle.rules.specs.Group.{noGroup, isEnabled, isDenyOnly, Group}
-use Rattle.rules.specs.Growth.{Mem, here, there}
+use Rattle.rules.specs.Growth.{Live, Mem, here, there}
 use Rattle.rules.specs.Handle.{Handle}
+use Rattle.rules.specs.Impersonate as Impersonate
 use Rattle.rules.specs.Install as Install
 use Rattle.rules.specs.Number.{encode, encodeAll, Read, got, bad}
 use Rattle.rules.specs.OpenClose as OpenClose
@@ -37,7 +40,8 @@ use Rattle.rules.specs.Request.{group, parse, Request}
 use Rattle.rules.specs.Restrict as Restrict
 use Rattle.rules.specs.Run.{after}
 use Rattle.rules.specs.Serve.{rule, decided, decision, serve}
-use Rattle.rules.specs.State.{withTokens, numberOf, tokenOf, putToken, changeToken, used, handleOf, State}
+use Rattle.rules.specs.State.{withTokens, clientAt, numberOf, tokenOf, putToken, changeToken, used, handleOf, State}
+use Rattle.rules.specs.Station.{noClient, Client}
 use Rattle.rules.specs.Token.{primary, impersonation, maxGroups, sidAt, Token}
 use Rattle.rules.specs.Valid.{is32, is64, between, identityValid, groupValid, limitsValid, defaultsValid}
 use Rattle.rules.specs.Ladder.{status}
@@ -50,6 +54,8 @@ use Rattle.rules.proofs.Tables.{on-if}
 use Rattle.rules.proofs.Facts.{TokenFacts, StateFacts, few-groups, each-group, between-high}
 use Rattle.rules.proofs.PrivilegesKept.{sound}
 use Rattle.rules.proofs.Steps.{token-ok, Found, found-handle}
+use Rattle.rules.proofs.Kept.{in-force}
+use Rattle.rules.proofs.Acting.{acting}
 use Rattle.rules.proofs.Frames.{frame-whole}
 use Rattle.rules.proofs.Rows.{integrity32}
 
@@ -265,13 +271,16 @@ module _ (σ : State) (f : StateFacts σ) (s : ℕ) where
   unfolding withHandle Fits refusal
   on-handle n right go k = (omega arith, λ known. (omega arith, λ permitted. k (found-handle σ s n f known)))
 
-  number-64 : (n : ℕ) → Found σ (handleOf σ s n) → tokenOf σ (handleOf σ s n .token) .number < 2 ^ 64
-  unfolding numberOf
-  number-64 n k =
-      let t = tokenOf σ (handleOf σ s n .token) in
-      let below = f .loose .tokens .given (t .number) (map-mem numberOf (k .token .was)) .1 in
+  live-64 : (t : Token) → Live t σ → t .number < 2 ^ 64
+  unfolding Live numberOf
+  live-64 t m =
+      let below = f .loose .tokens .given (t .number) (map-mem numberOf m) .1 in
       let high = f .loose .tokens .high in
       omega arith
+
+  number-64 : (n : ℕ) → Found σ (handleOf σ s n) → tokenOf σ (handleOf σ s n .token) .number < 2 ^ 64
+  unfolding Live
+  number-64 n k = live-64 (tokenOf σ (handleOf σ s n .token)) (k .token .was)
 
   queries : (n class capacity : ℕ) → Fits (Query.query σ s n class capacity)
   unfolding Query.query Fits refusal capacityBelow
@@ -301,6 +310,36 @@ module _ (σ : State) (f : StateFacts σ) (s : ℕ) where
   unfolding AdjustGroups.adjust Fits refusal
   adjusts-groups n es = on-handle n _ _ λ k. (omega arith, λ ok. (omega arith, λ may. words-fit (tokenOf σ (handleOf σ s n .token) .groups)))
 
+  -- a level up to that of a live token
+  level-64 : (t : Token) → Live t σ → (n : ℕ) → n ≤ t .identity .level → n < 2 ^ 64
+  unfolding Live
+  level-64 t m n h = let k = numbers t (live-64 t m) (f .loose .eachToken t m) .level in omega arith
+
+  impersonates : (n : ℕ) → Fits (Impersonate.impersonate σ s n)
+  unfolding Impersonate.impersonate Fits refusal Live
+  impersonates n = on-handle n _ _ λ k.
+      let t = tokenOf σ (handleOf σ s n .token) in
+      let level = Impersonate.inForce σ s t in
+      let l = word level (level-64 t (k .token .was) level (in-force σ s t)) in
+      (omega arith, λ ok. (omega arith, λ gate. omega arith))
+
+  -- the number and the level that request 13 answers
+  client-64 : (c : Client) → (c ≡ noClient) ⊎ ActsFor σ c → (c .token < 2 ^ 64) × (c .level < 2 ^ 64)
+  unfolding noClient
+  client-64 c w =
+      ⊎-elim (λ e. rw e (omega arith, omega arith))
+      (λ a. let below = live-64 (a .token) (a .live) in let e = a .number in (omega arith, level-64 (a .token) (a .live) (c .level) (a .level)))
+      w
+
+  reverts : Fits (Impersonate.revert σ s)
+  unfolding Impersonate.revert Fits encodeAll
+  reverts =
+      let c = clientAt σ s in
+      let r = client-64 c (acting σ (f .loose) s) in
+      let a = word (c .token) (r .0) in
+      let b = word (c .level) (r .1) in
+      simp length-append (omega arith)
+
   by-rule : (r : Request) → Fits (rule σ s r)
   unfolding rule OpenClose.openOwn OpenClose.close Create.create AdjustScope.scope AdjustDefaults.adjust Duplicate.duplicate Restrict.restrict Install.install issued used changeToken putToken withTokens Fits refusal
   by-rule (Request.openOwn mask) = (omega arith, λ a. (omega arith, λ b. next-handle))
@@ -314,6 +353,8 @@ module _ (σ : State) (f : StateFacts σ) (s : ℕ) where
   by-rule (Request.duplicate n type level mask) = on-handle n _ _ λ k. (omega arith, λ a. (omega arith, λ b. next-handle))
   by-rule (Request.restrict n mark removed deny sids) = on-handle n _ _ λ k. (omega arith, λ a. (omega arith, λ b. next-handle))
   by-rule (Request.install n) = on-handle n _ _ λ k. (omega arith, λ a. (omega arith, λ b. (omega arith, λ c. omega arith)))
+  by-rule (Request.impersonate n) = impersonates n
+  by-rule Request.revert = reverts
 
   by-read : (r : Read Request) → Fits (decided σ s r)
   unfolding decided Fits refusal

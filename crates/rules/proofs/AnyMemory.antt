@@ -6,7 +6,7 @@ use mathlib.Core.Bool.{true}
 use mathlib.Core.Logic.{_⊎_, inl, inr, ⊎-elim}
 use mathlib.Core.List.{List, [], _∷_, _++_, map}
 use lib.Dec.{leb, ltb}
-use lib.ListN.{length}
+use lib.ListN.{length, drop, getD}
 use Rattle.table.specs.Table.{flat}
 use Rattle.table.specs.Column.{column}
 use Rattle.rules.specs.Basic.{changeAt}
@@ -15,17 +15,17 @@ use Rattle.rules.specs.Table.{Table}
 use Rattle.rules.specs.Token.{Token}
 use Rattle.rules.specs.Handle.{Handle}
 use Rattle.rules.specs.Station.{Station, cleared, withPending}
-use Rattle.rules.specs.State.{State, start, stationCount, stationAt, withStations, changeStation, stationToken}
+use Rattle.rules.specs.State.{State, start, stationCount, stationAt, withStations, changeStation, stationToken, stationClient}
 use Rattle.rules.specs.Serve.{serve}
 use Rattle.rules.specs.Frame.{maxAnswer, frame, lengthOf, framedBy, framed, Framed, part, broken, whole}
 use Rattle.rules.specs.Model.{Result, Step, silent, answers, joined, byteAt, step, fedOn, fedFrom, reconnect}
-use Rattle.rules.specs.Memory.{Memory, stationWords, slotRow, slotDacl, slotHandle, stationRow, sections, control, encode, decode, valid}
+use Rattle.rules.specs.Memory.{Memory, stationWords, primaryWord, clientWord, levelWord, slotRow, slotDacl, slotHandle, stationRow, sections, control, encode, decode, valid}
 use Rattle.rules.specs.Run.{Call, feeds, reconnects, returned, ofBytes, SameRights}
 use Rattle.rules.specs.Growth.{Mem, here, there}
 use Rattle.rules.specs.Calls.{Done, refusedOn, written, feedOn, reconnectOn}
 use Rattle.rules.specs.Throughout.{IsAnswer}
 use Rattle.rules.specs.WholeList.{doneBy}
-use Rattle.rules.specs.AnyMemory.{statusesIn, statuses, counters, primaries, LeftAlone, AnyMemory}
+use Rattle.rules.specs.AnyMemory.{statusesIn, statuses, counters, stationColumn, LeftAlone, AnyMemory}
 use Rattle.rules.proofs.Logic.{mem-none}
 use Rattle.rules.proofs.Tables.{on-if}
 use Rattle.rules.proofs.Facts.{StateFacts, valid-facts, facts-valid}
@@ -108,18 +108,23 @@ module _ (s : ℕ) (c : State) (f : StateFacts c) where
 
 -- ---- the same rights, written
 
--- whatever stands behind the rows
-same-primary : (n : ℕ) (xs ys : List Station) (behind : List ℕ) → map stationToken xs ≡ map stationToken ys
-    → column stationWords n (flat stationRow xs ++ behind) ≡ column stationWords n (flat stationRow ys ++ behind)
-unfolding column flat stationRow stationToken
-same-primary zero xs ys behind e = refl
-same-primary (suc n) [] [] behind e = refl
-same-primary (suc n) [] (y ∷ ys) behind e = absurd (let z : _≡_ {A = ℕ} 0 1 = cc in omega arith)
-same-primary (suc n) (x ∷ xs) [] behind e = absurd (let z : _≡_ {A = ℕ} 0 1 = cc in omega arith)
-same-primary (suc n) (x ∷ xs) (y ∷ ys) behind e = ap₂ (λ k ks. k ∷ ks) (cc) (same-primary n xs ys behind (cc))
+-- word k of each row says h of what p tells of the station; whatever stands behind the rows
+module _ {A : Type 0} (p : Station → A) (h : A → ℕ) (k : ℕ) (word : (x : Station) (l : List ℕ) → getD (drop k (stationRow x ++ l)) 0 0 ≡ h (p x)) (next : (x : Station) (l : List ℕ) → drop stationWords (drop k (stationRow x ++ l)) ≡ drop k l) where
+  same-column : (n : ℕ) (xs ys : List Station) (behind : List ℕ) → map p xs ≡ map p ys
+      → column stationWords n (drop k (flat stationRow xs ++ behind)) ≡ column stationWords n (drop k (flat stationRow ys ++ behind))
+  unfolding column flat stationRow
+  same-column zero xs ys behind e = refl
+  same-column (suc n) [] [] behind e = refl
+  same-column (suc n) [] (y ∷ ys) behind e = absurd (let z : _≡_ {A = ℕ} 0 1 = cc in omega arith)
+  same-column (suc n) (x ∷ xs) [] behind e = absurd (let z : _≡_ {A = ℕ} 0 1 = cc in omega arith)
+  same-column (suc n) (x ∷ xs) (y ∷ ys) behind e =
+      let rest = same-column n xs ys behind (cc) in
+      let at : List Station → List ℕ = λ zs. flat stationRow zs ++ behind in
+      ap₂ (λ i is. i ∷ is) (word x (at xs) ∙ ap h (cc) ∙ sym (word y (at ys)))
+      (ap (column stationWords n) (next x (at xs)) ∙ rest ∙ ap (column stationWords n) (sym (next y (at ys))))
 
 rights-left : {p q : State} → SameRights p q → LeftAlone (encode p) (encode q)
-unfolding encode control sections flat counters primaries
+unfolding encode control sections flat counters stationColumn stationRow stationToken stationClient
 rights-left {p} {q} h =
     let t = sym (h .tokens) in
     record {
@@ -127,7 +132,9 @@ rights-left {p} {q} h =
       dacls = ap (λ (x : Table Token). flat slotDacl (x .slots)) t;
       handles = ap (λ (x : Table Handle). map slotHandle (x .slots)) (sym (h .handles));
       counted = ap₂ (λ (x : Table Token) (y : Table Handle). x .next ∷ y .next ∷ []) t (sym (h .handles));
-      primary = same-primary stationCount (q .stations) (p .stations) [] (sym (h .primary));
+      primary = same-column stationToken (λ n. n) primaryWord (λ x l. refl) (λ x l. refl) stationCount (q .stations) (p .stations) [] (sym (h .primary));
+      clients = same-column stationClient (λ c. c .token) clientWord (λ x l. refl) (λ x l. refl) stationCount (q .stations) (p .stations) [] (sym (h .clients));
+      levels = same-column stationClient (λ c. c .level) levelWord (λ x l. refl) (λ x l. refl) stationCount (q .stations) (p .stations) [] (sym (h .clients));
     }
 
 -- ---- a call
@@ -148,7 +155,7 @@ module _ (m : Memory) where
       record {
         isAnswer = e .isAnswer;
         status = e .status;
-        leftAlone = λ z. record { tokens = refl; dacls = refl; handles = refl; counted = refl; primary = refl };
+        leftAlone = λ z. record { tokens = refl; dacls = refl; handles = refl; counted = refl; primary = refl; clients = refl; levels = refl };
         listed = i;
         refused = λ k. refl;
       }

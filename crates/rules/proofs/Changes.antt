@@ -1,25 +1,25 @@
 -- The changes of a state: each keeps it valid, and what lasts of its tokens. Assumes nothing.
-use Prim.Native.Nat.{ℕ, zero, suc, _<_}
+use Prim.Native.Nat.{ℕ, zero, suc, _<_, _≤_}
 use native.Mathlib.Nat.{le-refl, le-trans}
 use native.Mathlib.Omega.{arith}
-use mathlib.Core.Path.{_≡_, refl, ap, _∙_, subst}
+use mathlib.Core.Path.{_≡_, refl, sym, ap, ap₂, _∙_, subst}
 use mathlib.Core.Bool.{true}
 use mathlib.Core.Logic.{_⊎_, inl, inr, ⊎-elim}
-use mathlib.Core.List.{List, [], _∷_, map}
-use Rattle.rules.specs.Basic.{changeAt}
+use mathlib.Core.List.{List, [], _∷_, _++_, map}
+use Rattle.rules.specs.Basic.{nonZero, changeAt}
 use Rattle.rules.specs.Decision.{canIssue}
 use Rattle.rules.specs.Growth.{Mem, Follows, Before, Later, HandlesLater}
 use Rattle.rules.specs.Handle.{isHandle, Handle}
 use Rattle.rules.specs.Number.{max32, max64}
-use Rattle.rules.specs.State.{tokenSlots, handleSlots, withTokens, withHandles, withStations, changeStation, setToken, numberOf, isNumbered, putToken, canAddToken, addToken, handleNumber, canAddHandle, addHandle, dropHandle, handleToken, stationToken, references, isReferred, released, State}
-use Rattle.rules.specs.Station.{withToken, Station}
+use Rattle.rules.specs.State.{tokenSlots, handleSlots, withTokens, withHandles, withStations, changeStation, setToken, setClient, numberOf, isNumbered, putToken, canAddToken, addToken, handleNumber, canAddHandle, addHandle, dropHandle, handleToken, stationToken, clientToken, references, isReferred, released, State}
+use Rattle.rules.specs.Station.{noClient, withToken, withClient, withPending, cleared, brokenOff, Station, Client}
 use Rattle.rules.specs.Table.{lives, withSlots, canAdd, added, retained, Table, live}
-use Rattle.rules.specs.Token.{primary, Token}
+use Rattle.rules.specs.Token.{primary, impersonation, Token}
 use Rattle.rules.specs.Valid.{handleValid, streamValid}
-use Rattle.rules.proofs.Logic.{and-l, mem-left, mem-right, mem-append, length-changeAt, mem-changeAt, map-mem, mem-by, mem-map}
+use Rattle.rules.proofs.Logic.{and-l, mem-nonZero, nonZero-mem, mem-left, mem-right, mem-append, length-changeAt, mem-changeAt, map-mem, mem-by, mem-map}
 use Rattle.rules.proofs.Bits.{within-refl, within-trans}
 use Rattle.rules.proofs.Tables.{in-placed, placed-new, in-exchanged, some-free, in-retained, retained-in, number-placed, placed-number, in-freed, number-freed, same-numbers, only-one}
-use Rattle.rules.proofs.Facts.{TokenFacts, added-facts, put-facts, freed-facts, retained-facts, Loose, StateFacts, is-referred, referred-is}
+use Rattle.rules.proofs.Facts.{TokenFacts, added-facts, put-facts, freed-facts, retained-facts, Acts, Loose, StateFacts, is-referred, referred-is}
 
 -- ---- what lasts, over any time
 
@@ -77,18 +77,25 @@ drop-later d s n = record { next = le-refl _; old = λ h m k. in-freed handleNum
 abbrev pub numbersOf : State → List ℕ
 numbersOf d = map numberOf (lives (d .tokens .slots))
 
--- a handle's token, and a station's, is referred to
+-- a handle's token, a station's, and the one that it acts for are referred to
 pub by-handle : (d : State) {n : ℕ} → Mem n (map handleToken (lives (d .handles .slots))) → Mem n (references d)
 unfolding references
-by-handle d m = mem-left (map stationToken (d .stations)) m
+by-handle d m = mem-left _ (mem-left _ m)
 
 pub by-station : (d : State) {n : ℕ} → Mem n (map stationToken (d .stations)) → Mem n (references d)
 unfolding references
-by-station d m = mem-right (map handleToken (lives (d .handles .slots))) m
+by-station d m = mem-left _ (mem-right (map handleToken (lives (d .handles .slots))) m)
 
-pub by-either : (d : State) {n : ℕ} → Mem n (references d) → Mem n (map handleToken (lives (d .handles .slots))) ⊎ Mem n (map stationToken (d .stations))
+pub by-client : (d : State) {n : ℕ} → Mem n (map clientToken (d .stations)) → 1 ≤ n → Mem n (references d)
 unfolding references
-by-either d m = mem-append (map handleToken (lives (d .handles .slots))) m
+by-client d m h = mem-right (map handleToken (lives (d .handles .slots)) ++ map stationToken (d .stations)) (nonZero-mem _ m h)
+
+-- whatever is referred to is so by one of them
+pub by-any : (d : State) {n : ℕ} {P : Type 0} → (Mem n (map handleToken (lives (d .handles .slots))) → P) → (Mem n (map stationToken (d .stations)) → P)
+    → (Mem n (map clientToken (d .stations)) → 1 ≤ n → P) → Mem n (references d) → P
+unfolding references
+by-any d h s c m =
+    ⊎-elim (λ a. ⊎-elim h s (mem-append _ a)) (λ b. let r = mem-nonZero _ b in c (r .0) (r .1)) (mem-append _ m)
 
 put-in : (d : State) (u : Token) {v : Token} → Mem v (lives (putToken u d .tokens .slots)) → (v ≡ u) ⊎ Mem v (lives (d .tokens .slots))
 unfolding putToken withTokens withSlots
@@ -114,6 +121,11 @@ module _ (d : State) (t u : Token) (was : Mem t (lives (d .tokens .slots))) (f :
             ⊎-elim (λ e. ap (λ (x : Token). x .identity .type) e ∙ ap (λ x. x .type) (f .identity) ∙ l .stationPrimary t was (subst (λ (x : ℕ). Mem x (map stationToken (d .stations))) (ap (λ (x : Token). x .number) e ∙ f .number) k))
             (λ m. l .stationPrimary v m k)
             (put-in d u m);
+        clients = λ v m x k e.
+            ⊎-elim (λ q. subst (λ i. Acts i (x .client)) (sym (ap (λ (y : Token). y .identity) q ∙ f .identity)) (l .clients t was x k (e ∙ ap (λ (y : Token). y .number) q ∙ f .number)))
+            (λ i. l .clients v i x k e)
+            (put-in d u m);
+        idle = l .idle;
       }
 
   pub put-later : Later (d .tokens) (putToken u d .tokens)
@@ -134,6 +146,11 @@ module _ (d : State) (t : Token) (number : t .number ≡ d .tokens .next) where
   unnumbered : Loose d → Mem (t .number) (numbersOf d) → ⊥
   unnumbered l m = let k = l .tokens .given _ m .1 in omega arith
 
+  unacted : Loose d → (x : Station) → Mem x (d .stations) → clientToken x ≡ t .number → ⊥
+  unacted l x m e =
+      let low = l .tokens .low in
+      unnumbered l (subst (λ (n : ℕ). Mem n (numbersOf d)) e (l .live (clientToken x) (by-client d (map-mem clientToken m) (omega arith))))
+
   pub add-loose : canAddToken d ≡ true → TokenFacts t → Loose d → Loose (addToken t d)
   unfolding addToken withTokens added references canAddToken numberOf
   add-loose room g l =
@@ -147,6 +164,8 @@ module _ (d : State) (t : Token) (number : t .number ≡ d .tokens .next) where
         live = λ n m. placed-number numberOf t (d .tokens .slots) (l .live n m);
         stationPrimary = λ v m k.
             ⊎-elim (λ e. absurd (unnumbered l (subst (λ (x : Token). Mem (x .number) (numbersOf d)) e (l .live (v .number) (by-station d k))))) (λ m. l .stationPrimary v m k) (in-placed t (d .tokens .slots) m);
+        clients = λ v m x k e. ⊎-elim (λ q. absurd (unacted l x k (e ∙ ap (λ (y : Token). y .number) q))) (λ i. l .clients v i x k e) (in-placed t (d .tokens .slots) m);
+        idle = l .idle;
       }
 
   pub add-later : Later (d .tokens) (addToken t d .tokens)
@@ -171,8 +190,12 @@ module _ (d : State) (s n mask : ℕ) where
         eachToken = l .eachToken;
         eachHandle = λ k m. ⊎-elim (λ e. rw e ok) (l .eachHandle k) (in-placed h (d .handles .slots) m);
         eachStation = l .eachStation;
-        live = λ k m. ⊎-elim (λ a. ⊎-elim (λ e. rw e on) (λ b. l .live k (by-handle d b)) (number-placed handleToken h (d .handles .slots) a)) (λ b. l .live k (by-station d b)) (by-either (addHandle s n mask d) m);
+        live = λ k.
+            by-any (addHandle s n mask d) (λ a. ⊎-elim (λ e. rw e on) (λ b. l .live k (by-handle d b)) (number-placed handleToken h (d .handles .slots) a))
+            (λ b. l .live k (by-station d b)) (λ c i. l .live k (by-client d c i));
         stationPrimary = l .stationPrimary;
+        clients = l .clients;
+        idle = l .idle;
       }
 
   -- every token but token n was referred to before
@@ -182,7 +205,7 @@ module _ (d : State) (s n mask : ℕ) where
       let h : Handle = record { station = s; number = d .handles .next; token = n; mask = mask } in
       let e = addHandle s n mask d in
       ⊎-elim (λ q. by-handle e (mem-by handleToken q (placed-new h (d .handles .slots) (and-l _ _ room))))
-      (λ m. ⊎-elim (λ a. by-handle e (placed-number handleToken h (d .handles .slots) a)) (λ b. by-station e b) (by-either d m))
+      (by-any d (λ a. by-handle e (placed-number handleToken h (d .handles .slots) a)) (λ b. by-station e b) (λ c i. by-client e c i))
       (r k m)
 
 -- ---- a handle is dropped, a station gets another token: then tokens may be unreferred
@@ -197,21 +220,42 @@ drop-loose d s n l =
       eachToken = l .eachToken;
       eachHandle = λ k m. l .eachHandle k (in-freed handleNumber (isHandle s n) (d .handles .slots) m);
       eachStation = l .eachStation;
-      live = λ k m. l .live k (⊎-elim (λ a. by-handle d (number-freed handleToken (isHandle s n) (d .handles .slots) a)) (by-station d) (by-either (dropHandle s n d) m));
+      live = λ k m. l .live k (by-any (dropHandle s n d) (λ a. by-handle d (number-freed handleToken (isHandle s n) (d .handles .slots) a)) (by-station d) (λ c i. by-client d c i) m);
       stationPrimary = l .stationPrimary;
+      clients = l .clients;
+      idle = l .idle;
     }
 
--- a change of one station that keeps its token, or gives it another
+-- ---- a change of one station
+
+-- what it leaves alone is the same at all of them
+pub same-map : {A : Type 0} (g : Station → A) (f : Station → Station) → ((x : Station) → g (f x) ≡ g x) → (s : ℕ) (xs : List Station) → map g (changeAt s f xs) ≡ map g xs
+unfolding changeAt
+same-map g f e s [] = refl
+same-map g f e zero (x ∷ xs) = ap (λ a. a ∷ map g xs) (e x)
+same-map g f e (suc s) (x ∷ xs) = ap (λ ys. g x ∷ ys) (same-map g f e s xs)
+
 module _ (d : State) (s : ℕ) (f : Station → Station) (ok : (x : Station) → Mem x (d .stations) → streamValid (f x) ≡ true) where
   each-station : Loose d → (x : Station) → Mem x (changeAt s f (d .stations)) → streamValid x ≡ true
   each-station l x m = ⊎-elim (λ r. ap streamValid (r .2) ∙ ok (r .0) (r .1)) (l .eachStation x) (mem-changeAt (d .stations) s f m)
+
+-- the clients of the others, and that of the station
+each-client : (d : State) (s : ℕ) (f : Station → Station) (P : Client → Type 0) → ((x : Station) → Mem x (d .stations) → P (x .client))
+    → ((x : Station) → Mem x (d .stations) → P (f x .client)) → (x : Station) → Mem x (changeAt s f (d .stations)) → P (x .client)
+each-client d s f P old new x m =
+    ⊎-elim (λ r. subst (λ (y : Station). P (y .client)) (sym (r .2)) (new (r .0) (r .1))) (old x) (mem-changeAt (d .stations) s f m)
 
 with-token : (n : ℕ) (x : Station) → streamValid (withToken n x) ≡ streamValid x
 unfolding withToken streamValid
 with-token n x = refl
 
+with-client : (c : Client) (x : Station) → streamValid (withClient c x) ≡ streamValid x
+unfolding withClient streamValid
+with-client c x = refl
+
+-- another primary token
 pub token-loose : (d : State) (s : ℕ) (t : Token) → Mem t (lives (d .tokens .slots)) → t .identity .type ≡ primary → Loose d → Loose (setToken s (t .number) d)
-unfolding setToken changeStation withStations withToken references numberOf stationToken
+unfolding setToken changeStation withStations withToken references numberOf stationToken clientToken
 token-loose d s t was p l =
     record {
       tokens = l .tokens;
@@ -220,8 +264,13 @@ token-loose d s t was p l =
       eachToken = l .eachToken;
       eachHandle = l .eachHandle;
       eachStation = each-station d s (withToken (t .number)) (λ x m. with-token (t .number) x ∙ l .eachStation x m) l;
-      live = λ n m. ⊎-elim (λ a. l .live n (by-handle d a)) (λ b. ⊎-elim (λ e. rw e (map-mem numberOf was)) (λ c. l .live n (by-station d c)) (token-set n b)) (by-either (setToken s (t .number) d) m);
+      live = λ n.
+          by-any (setToken s (t .number) d) (λ a. l .live n (by-handle d a))
+          (λ b. ⊎-elim (λ e. rw e (map-mem numberOf was)) (λ c. l .live n (by-station d c)) (token-set n b))
+          (λ c i. l .live n (by-client d (rw (same-map clientToken (withToken (t .number)) (λ x. refl) s (d .stations)) at c) i));
       stationPrimary = λ v m k. ⊎-elim (λ e. ap (λ (y : Token). y .identity .type) (only-one numberOf (d .tokens .slots) (l .tokens .apart) m was e) ∙ p) (l .stationPrimary v m) (token-set (v .number) k);
+      clients = λ v m. each-client d s (withToken (t .number)) (λ c. c .token ≡ v .number → Acts (v .identity) c) (l .clients v m) (l .clients v m);
+      idle = each-client d s (withToken (t .number)) (λ c. c .token ≡ 0 → c .level ≡ 0) (l .idle) (l .idle);
     }
   where
     token-set : (n : ℕ) → Mem n (map stationToken (changeAt s (withToken (t .number)) (d .stations))) → (n ≡ numberOf t) ⊎ Mem n (map stationToken (d .stations))
@@ -229,19 +278,84 @@ token-loose d s t was p l =
         let r = mem-map stationToken (changeAt s (withToken (t .number)) (d .stations)) m in
         ⊎-elim (λ y. inl (r .2 ∙ ap stationToken (y .2))) (λ c. inr (mem-by stationToken (r .2) c)) (mem-changeAt (d .stations) s (withToken (t .number)) (r .1))
 
--- a change of a station's stream alone
-pub same-tokens : (f : Station → Station) → ((x : Station) → stationToken (f x) ≡ stationToken x) → (s : ℕ) (xs : List Station) → map stationToken (changeAt s f xs) ≡ map stationToken xs
-unfolding changeAt
-same-tokens f e s [] = refl
-same-tokens f e zero (x ∷ xs) = ap (λ (n : ℕ). n ∷ map stationToken xs) (e x)
-same-tokens f e (suc s) (x ∷ xs) = ap (λ (ns : List ℕ). stationToken x ∷ ns) (same-tokens f e s xs)
+-- another client, or none
+pub record MayAct (d : State) (c : Client) : Type 0 where
+  pub fits : (t : Token) → Mem t (lives (d .tokens .slots)) → c .token ≡ t .number → Acts (t .identity) c
+  pub idle : c .token ≡ 0 → c .level ≡ 0
+  pub live : 1 ≤ c .token → Mem (c .token) (numbersOf d)
 
-pub stream-facts : (d : State) (s : ℕ) (f : Station → Station) → ((x : Station) → stationToken (f x) ≡ stationToken x)
-    → ((x : Station) → Mem x (d .stations) → streamValid (f x) ≡ true) → StateFacts d → StateFacts (changeStation s f d)
-unfolding changeStation withStations references
-stream-facts d s f e ok k =
+pub none-may : (d : State) → Loose d → MayAct d noClient
+unfolding noClient numberOf
+none-may d l =
+    record {
+      fits = λ t m e. absurd (let low = l .tokens .given (t .number) (map-mem numberOf m) .0 in omega arith);
+      idle = λ e. refl;
+      live = λ h. absurd (omega arith);
+    }
+
+pub token-may : (d : State) (t : Token) (level : ℕ) → Mem t (lives (d .tokens .slots)) → t .identity .type ≡ impersonation → level ≤ t .identity .level → Loose d
+    → MayAct d (record { token = t .number; level = level })
+unfolding numberOf
+token-may d t level was type h l =
+    let c : Client = record { token = t .number; level = level } in
+    record {
+      fits = λ u m e. subst (λ (x : Token). Acts (x .identity) c) (only-one numberOf (d .tokens .slots) (l .tokens .apart) was m e) (record { type = type; level = h });
+      idle = λ e. absurd (let low = l .tokens .given (t .number) (map-mem numberOf was) .0 in omega arith);
+      live = λ k. map-mem numberOf was;
+    }
+
+pub client-loose : (d : State) (s : ℕ) (c : Client) → MayAct d c → Loose d → Loose (setClient s c d)
+unfolding setClient changeStation withStations withClient references stationToken clientToken
+client-loose d s c may l =
+    let same = same-map stationToken (withClient c) (λ x. refl) s (d .stations) in
+    record {
+      tokens = l .tokens;
+      handles = l .handles;
+      stations = length-changeAt (d .stations) s (withClient c) ∙ l .stations;
+      eachToken = l .eachToken;
+      eachHandle = l .eachHandle;
+      eachStation = each-station d s (withClient c) (λ x m. with-client c x ∙ l .eachStation x m) l;
+      live = λ n. by-any (setClient s c d) (λ a. l .live n (by-handle d a)) (λ b. l .live n (by-station d (rw same at b))) (client-set n);
+      stationPrimary = λ v m k. l .stationPrimary v m (rw same at k);
+      clients = λ v m. each-client d s (withClient c) (λ c. c .token ≡ v .number → Acts (v .identity) c) (l .clients v m) (λ x k. may .fits v m);
+      idle = each-client d s (withClient c) (λ c. c .token ≡ 0 → c .level ≡ 0) (l .idle) (λ x m. may .idle);
+    }
+  where
+    client-set : (n : ℕ) → Mem n (map clientToken (changeAt s (withClient c) (d .stations))) → 1 ≤ n → Mem n (numbersOf d)
+    client-set n m h =
+        let r = mem-map clientToken (changeAt s (withClient c) (d .stations)) m in
+        ⊎-elim (λ y. let q : n ≡ c .token = r .2 ∙ ap clientToken (y .2) in rw q (may .live (omega arith)))
+        (λ k. l .live n (by-client d (mem-by clientToken (r .2) k) h))
+        (mem-changeAt (d .stations) s (withClient c) (r .1))
+
+-- a change of a station's stream alone
+pub record OnlyStream (f : Station → Station) : Type 0 where
+  pub token : (x : Station) → stationToken (f x) ≡ stationToken x
+  pub client : (x : Station) → f x .client ≡ x .client
+
+pub only-pending : (bytes : List ℕ) → OnlyStream (withPending bytes)
+unfolding withPending stationToken
+only-pending bytes = record { token = λ x. refl; client = λ x. refl }
+
+pub only-cleared : OnlyStream cleared
+unfolding cleared
+only-cleared = only-pending []
+
+pub only-broken : OnlyStream brokenOff
+unfolding brokenOff stationToken
+only-broken = record { token = λ x. refl; client = λ x. refl }
+
+same-references : (d : State) (s : ℕ) (f : Station → Station) → OnlyStream f → references (changeStation s f d) ≡ references d
+unfolding changeStation withStations references clientToken
+same-references d s f only =
+    ap₂ (λ (a b : List ℕ). map handleToken (lives (d .handles .slots)) ++ a ++ nonZero b) (same-map stationToken f (only .token) s (d .stations))
+    (same-map clientToken f (λ x. ap (λ (c : Client). c .token) (only .client x)) s (d .stations))
+
+pub stream-facts : (d : State) (s : ℕ) (f : Station → Station) → OnlyStream f → ((x : Station) → Mem x (d .stations) → streamValid (f x) ≡ true) → StateFacts d → StateFacts (changeStation s f d)
+unfolding changeStation withStations clientToken
+stream-facts d s f only ok k =
     let l = k .loose in
-    let same = same-tokens f e s (d .stations) in
+    let same = same-references d s f only in
     record {
       loose = record {
         tokens = l .tokens;
@@ -250,10 +364,14 @@ stream-facts d s f e ok k =
         eachToken = l .eachToken;
         eachHandle = l .eachHandle;
         eachStation = each-station d s f ok l;
-        live = λ n m. l .live n (rw same at m);
-        stationPrimary = λ v m i. l .stationPrimary v m (rw same at i);
+        live = λ n m. l .live n (subst (Mem n) same m);
+        stationPrimary = λ v m i. l .stationPrimary v m (rw (same-map stationToken f (only .token) s (d .stations)) at i);
+        clients = λ v m.
+            let P : Client → Type 0 = λ c. c .token ≡ v .number → Acts (v .identity) c in
+            each-client d s f P (l .clients v m) (λ x i. subst P (sym (only .client x)) (l .clients v m x i));
+        idle = let P : Client → Type 0 = λ c. c .token ≡ 0 → c .level ≡ 0 in each-client d s f P (l .idle) (λ x i. subst P (sym (only .client x)) (l .idle x i));
       };
-      reached = λ n m. rw same (k .reached n m);
+      reached = λ n m. subst (Mem n) (sym same) (k .reached n m);
     }
 
 -- ---- every token that nothing refers to is freed
@@ -271,6 +389,8 @@ release-facts d l =
         eachStation = l .eachStation;
         live = λ n m. let r = mem-map numberOf (lives (d .tokens .slots)) (l .live n m) in mem-by numberOf (r .2) (retained-in (isReferred d) (d .tokens .slots) (r .1) (referred-is d n (r .0) (r .2) m));
         stationPrimary = λ v m k. l .stationPrimary v (in-retained (isReferred d) (d .tokens .slots) m .0) k;
+        clients = λ v m. l .clients v (in-retained (isReferred d) (d .tokens .slots) m .0);
+        idle = l .idle;
       };
       reached = λ n m. let r = mem-map numberOf (lives (retained (isReferred d) (d .tokens .slots))) m in is-referred d n (r .0) (r .2) (in-retained (isReferred d) (d .tokens .slots) (r .1) .1);
     }

@@ -25,6 +25,7 @@ use Rattle.rules.specs.AdjustDefaults as AdjustDefaults
 use Rattle.rules.specs.Duplicate as Duplicate
 use Rattle.rules.specs.Restrict as Restrict
 use Rattle.rules.specs.Install as Install
+use Rattle.rules.specs.Impersonate as Impersonate
 use Rattle.rules.specs.Serve as Serve
 use Rattle.rules.specs.Frame as Frame
 use Rattle.rules.specs.Model as Model
@@ -32,11 +33,12 @@ use Rattle.rules.specs.Valid as Valid
 use Rattle.rules.specs.Ladder as Ladder
 use Rattle.rules.specs.Run as Run
 use Rattle.rules.specs.Growth as Growth
+use Rattle.rules.specs.Acting as Acting
 use Rattle.rules.specs.Memory as Memory
 
 unfoldable pub computes : Unit {0}
 unfolding
-    Basic.implies Basic.bothOrNeither Basic.all Basic.filter Basic.member Basic.distinct Basic.isEmpty Basic.changeAt
+    Basic.implies Basic.bothOrNeither Basic.all Basic.filter Basic.member Basic.distinct Basic.nonZero Basic.isEmpty Basic.changeAt
     Number.lowFirst Number.encodeIn Number.encode Number.encodeAll Number.longer Number.readNumber
     Bits.has Bits.without Bits.within
     Mask.permits Mask.validMask
@@ -45,8 +47,8 @@ unfolding
     Token.sidAt Token.isRestricted Token.primaryOf Token.noLimits Token.noDefaults Token.newToken Token.startToken Token.withPrivileges Token.withGroups Token.withDefaults Token.withScope Token.nextModified
     Table.isLive Table.orElse Table.lives Table.someFree Table.found Table.withSlots Table.placed Table.canAdd Table.added Table.exchanged Table.retained
     Handle.noHandle Handle.isHandle
-    Station.startStation Station.withToken Station.withPending Station.cleared Station.brokenOff
-    State.start State.withTokens State.withHandles State.withStations State.stationAt State.changeStation State.setToken State.numberOf State.isNumbered State.noToken State.tokenOf State.callerNumber State.caller State.held State.putToken State.changeToken State.usedOn State.used State.canAddToken State.addToken State.handleNumber State.findHandle State.handleOf State.canAddHandle State.addHandle State.dropHandle State.handleToken State.stationToken State.references State.isReferred State.released
+    Station.noClient Station.startStation Station.withToken Station.withClient Station.withPending Station.cleared Station.brokenOff
+    State.start State.withTokens State.withHandles State.withStations State.stationAt State.changeStation State.setToken State.clientAt State.setClient State.numberOf State.isNumbered State.noToken State.tokenOf State.callerNumber State.caller State.held State.putToken State.changeToken State.usedOn State.used State.canAddToken State.addToken State.handleNumber State.findHandle State.handleOf State.canAddHandle State.addHandle State.dropHandle State.handleToken State.stationToken State.stationClient State.clientToken State.references State.isReferred State.released
     Index.freeIndex Index.foundIndex Index.freedOne
     Entry.keyOf Entry.isOnly Entry.validEntries Entry.applyAll
     Refusal.refusal Refusal.capacityBelow
@@ -62,12 +64,14 @@ unfolding
     Duplicate.retyped Duplicate.copied Duplicate.nobody Duplicate.anonymousCopy Duplicate.isAnonymous Duplicate.duplicated Duplicate.validLevel Duplicate.validDuplicate Duplicate.duplicate
     Restrict.isBelow Restrict.restrictingTo Restrict.narrows Restrict.validRestrict Restrict.deniedAll Restrict.limited Restrict.restricted Restrict.restrict
     Install.matches Install.marked Install.install
+    Impersonate.alike Impersonate.passes Impersonate.mayAct Impersonate.inForce Impersonate.marked Impersonate.impersonate Impersonate.revert
     Serve.rule Serve.decided Serve.decision Serve.serve
     Frame.frame Frame.secondOf Frame.lengthOf Frame.framedBy Frame.framed
     Model.joined Model.byteAt Model.step Model.refused Model.fedOn Model.fedFrom Model.feed Model.reconnect
-    Valid.isByte Valid.is32 Valid.is64 Valid.between Valid.identityValid Valid.privilegesValid Valid.groupValid Valid.groupsValid Valid.limitsValid Valid.defaultsValid Valid.tokenValid Valid.handleValid Valid.isPart Valid.streamValid Valid.tableValid Valid.isToken Valid.primaryAtStation Valid.valid
+    Valid.isByte Valid.is32 Valid.is64 Valid.between Valid.identityValid Valid.privilegesValid Valid.groupValid Valid.groupsValid Valid.limitsValid Valid.defaultsValid Valid.tokenValid Valid.handleValid Valid.isPart Valid.streamValid Valid.tableValid Valid.isToken Valid.primaryAtStation Valid.clientFits Valid.clientAtStations Valid.levelValid Valid.valid
     Ladder.failing Ladder.firstOf Ladder.status
     Run.returned Run.after Run.noted Run.answered Run.ofBytes Run.eventsOf Run.events Run.happens Run.stateOf Run.told Run.afterEvents Run.answersTo Run.stationOf Run.notedAt Run.timed Run.placeOf Run.toldAt Run.timedTo Run.untilUsed Run.outcomeOf Run.outcomeAt Run.outcomes Run.servedBy Run.answerTo Run.answeredAt Run.answeredFrom Run.OneByOne
     Growth.sidOf Growth.Live Growth.LiveHandle Growth.sourceAt Growth.sourceOf Growth.Copying Growth.makesRoot Growth.Creating
+    Acting.setsClient Acting.ClientKept
     Memory.sized Memory.mark Memory.pack Memory.unpack Memory.head Memory.tokenRow Memory.daclRow Memory.slotRow Memory.slotDacl Memory.slotHandle Memory.stationRow Memory.pendingRow Memory.sections Memory.control Memory.encode Memory.identityAt Memory.privilegesAt Memory.groupsAt Memory.limitsAt Memory.defaultsAt Memory.tokenAt Memory.slotAt Memory.handleAt Memory.stationAt Memory.decode Memory.same Memory.sameHandle Memory.sameHandles Memory.sameMemory Memory.isImage Memory.valid
 computes = tt

@@ -13,11 +13,11 @@ use Rattle.rules.specs.Group.{Group}
 use Rattle.rules.specs.Growth.{Mem}
 use Rattle.rules.specs.Handle.{Handle}
 use Rattle.rules.specs.Number.{max32, max64}
-use Rattle.rules.specs.State.{tokenSlots, handleSlots, stationCount, numberOf, handleNumber, stationToken, references, isReferred, State}
-use Rattle.rules.specs.Station.{Station}
+use Rattle.rules.specs.State.{tokenSlots, handleSlots, stationCount, numberOf, handleNumber, stationToken, clientToken, references, isReferred, State}
+use Rattle.rules.specs.Station.{Station, Client}
 use Rattle.rules.specs.Table.{lives, someFree, withSlots, canAdd, added, exchanged, retained, Table, free, live}
-use Rattle.rules.specs.Token.{primary, maxGroups, Token}
-use Rattle.rules.specs.Valid.{is32, is64, between, identityValid, privilegesValid, groupValid, groupsValid, limitsValid, defaultsValid, tokenValid, handleValid, streamValid, tableValid, isToken, primaryAtStation, valid}
+use Rattle.rules.specs.Token.{primary, impersonation, maxGroups, Token, Identity}
+use Rattle.rules.specs.Valid.{is32, is64, between, identityValid, privilegesValid, groupValid, groupsValid, limitsValid, defaultsValid, tokenValid, handleValid, streamValid, tableValid, isToken, primaryAtStation, clientFits, clientAtStations, levelValid, valid}
 use Rattle.rules.proofs.Logic.{and-l, and-r, and-i, implies-e, implies-i, all-mem, mem-all, map-mem, mem-map, member-mem, mem-member}
 use Rattle.rules.proofs.Tables.{length-placed, length-exchanged, length-retained, number-placed, number-retained, number-freed, distinct-placed, distinct-retained, distinct-freed, same-numbers}
 
@@ -151,6 +151,11 @@ module _ {A : Type 0} (size top : ℕ) (number : A → ℕ) (x : Table A) (f : T
 
 -- ---- the state: all but that every token is referred to, and that
 
+-- a station acts for a token of this identity
+pub record Acts (i : Identity) (c : Client) : Type 0 where
+  pub type : i .type ≡ impersonation
+  pub level : c .level ≤ i .level
+
 pub record Loose (d : State) : Type 0 where
   pub tokens : TableFacts tokenSlots max64 numberOf (d .tokens)
   pub handles : TableFacts handleSlots max32 handleNumber (d .handles)
@@ -160,6 +165,8 @@ pub record Loose (d : State) : Type 0 where
   pub eachStation : (x : Station) → Mem x (d .stations) → streamValid x ≡ true
   pub live : (n : ℕ) → Mem n (references d) → Mem n (map numberOf (lives (d .tokens .slots)))
   pub stationPrimary : (t : Token) → Mem t (lives (d .tokens .slots)) → Mem (t .number) (map stationToken (d .stations)) → t .identity .type ≡ primary
+  pub clients : (t : Token) → Mem t (lives (d .tokens .slots)) → (x : Station) → Mem x (d .stations) → clientToken x ≡ t .number → Acts (t .identity) (x .client)
+  pub idle : (x : Station) → Mem x (d .stations) → clientToken x ≡ 0 → x .client .level ≡ 0
 
 pub record StateFacts (d : State) : Type 0 where
   pub loose : Loose d
@@ -181,6 +188,30 @@ primary-is : (d : State) (t : Token) → (Mem (t .number) (map stationToken (d .
 unfolding primaryAtStation
 primary-is d t h = implies-i (member (t .number) (map stationToken (d .stations))) _ (λ m. eq-eqb (t .identity .type) primary (h (member-mem _ _ m)))
 
+is-client : (t : Token) (x : Station) → clientFits t x ≡ true → clientToken x ≡ t .number → Acts (t .identity) (x .client)
+unfolding clientFits
+is-client t x h e =
+    let k = implies-e (eqb (clientToken x) (t .number)) _ h (eq-eqb (clientToken x) (t .number) e) in
+    record {
+      type = eqb-true (t .identity .type) impersonation (and-l _ (leb (x .client .level) (t .identity .level)) k);
+      level = leb-true (x .client .level) (t .identity .level) (and-r (eqb (t .identity .type) impersonation) _ k);
+    }
+
+client-is : (t : Token) (x : Station) → (clientToken x ≡ t .number → Acts (t .identity) (x .client)) → clientFits t x ≡ true
+unfolding clientFits
+client-is t x h =
+    implies-i (eqb (clientToken x) (t .number)) _ (λ q.
+    let a = h (eqb-true (clientToken x) (t .number) q) in
+    and-i (eq-eqb (t .identity .type) impersonation (a .type)) (le-leb (x .client .level) (t .identity .level) (a .level)))
+
+is-idle : (x : Station) → levelValid x ≡ true → clientToken x ≡ 0 → x .client .level ≡ 0
+unfolding levelValid
+is-idle x h e = eqb-true (x .client .level) 0 (implies-e (eqb (clientToken x) 0) _ h (eq-eqb (clientToken x) 0 e))
+
+idle-is : (x : Station) → (clientToken x ≡ 0 → x .client .level ≡ 0) → levelValid x ≡ true
+unfolding levelValid
+idle-is x h = implies-i (eqb (clientToken x) 0) _ (λ q. eq-eqb (x .client .level) 0 (h (eqb-true (clientToken x) 0 q)))
+
 pub is-referred : (d : State) (n : ℕ) (t : Token) → n ≡ numberOf t → isReferred d t ≡ true → Mem n (references d)
 unfolding isReferred numberOf
 is-referred d n t e h = rw e (member-mem (t .number) (references d) h)
@@ -190,18 +221,20 @@ unfolding isReferred numberOf
 referred-is d n t e m = mem-member (rw e at m)
 
 pub valid-facts : (d : State) → valid d ≡ true → StateFacts d
-unfolding valid
+unfolding valid clientAtStations
 valid-facts d h =
     let ts = lives (d .tokens .slots) in
-    let tokens : tableValid tokenSlots max64 numberOf (d .tokens) ≡ true = search (and-l, and-r) depth 9 in
-    let handles : tableValid handleSlots max32 handleNumber (d .handles) ≡ true = search (and-l, and-r) depth 9 in
-    let stations : eqb (length (d .stations)) stationCount ≡ true = search (and-l, and-r) depth 9 in
-    let each : all tokenValid ts ≡ true = search (and-l, and-r) depth 9 in
-    let eachHandle : all handleValid (lives (d .handles .slots)) ≡ true = search (and-l, and-r) depth 9 in
-    let eachStation : all streamValid (d .stations) ≡ true = search (and-l, and-r) depth 9 in
-    let alive : all (isToken d) (references d) ≡ true = search (and-l, and-r) depth 9 in
-    let reached : all (isReferred d) ts ≡ true = search (and-l, and-r) depth 9 in
-    let primaries : all (primaryAtStation d) ts ≡ true = search (and-l, and-r) depth 9 in
+    let tokens : tableValid tokenSlots max64 numberOf (d .tokens) ≡ true = search (and-l, and-r) depth 11 in
+    let handles : tableValid handleSlots max32 handleNumber (d .handles) ≡ true = search (and-l, and-r) depth 11 in
+    let stations : eqb (length (d .stations)) stationCount ≡ true = search (and-l, and-r) depth 11 in
+    let each : all tokenValid ts ≡ true = search (and-l, and-r) depth 11 in
+    let eachHandle : all handleValid (lives (d .handles .slots)) ≡ true = search (and-l, and-r) depth 11 in
+    let eachStation : all streamValid (d .stations) ≡ true = search (and-l, and-r) depth 11 in
+    let alive : all (isToken d) (references d) ≡ true = search (and-l, and-r) depth 11 in
+    let reached : all (isReferred d) ts ≡ true = search (and-l, and-r) depth 11 in
+    let primaries : all (primaryAtStation d) ts ≡ true = search (and-l, and-r) depth 11 in
+    let acts : all (clientAtStations d) ts ≡ true = search (and-l, and-r) depth 11 in
+    let idle : all levelValid (d .stations) ≡ true = search (and-l, and-r) depth 11 in
     record {
       loose = record {
         tokens = table-facts tokenSlots max64 numberOf (d .tokens) tokens;
@@ -212,16 +245,18 @@ valid-facts d h =
         eachStation = λ x m. all-mem streamValid (d .stations) eachStation m;
         live = λ n m. is-token d n (all-mem (isToken d) (references d) alive m);
         stationPrimary = λ t m k. is-primary d t (all-mem (primaryAtStation d) ts primaries m) k;
+        clients = λ t m x k. is-client t x (all-mem (clientFits t) (d .stations) (all-mem (clientAtStations d) ts acts m) k);
+        idle = λ x m. is-idle x (all-mem levelValid (d .stations) idle m);
       };
       reached = λ n m. let r = mem-map numberOf ts m in is-referred d n (r .0) (r .2) (all-mem (isReferred d) ts reached (r .1));
     }
 
 pub facts-valid : (d : State) → StateFacts d → valid d ≡ true
-unfolding valid
+unfolding valid clientAtStations
 facts-valid d f =
     let l = f .loose in
     let ts = lives (d .tokens .slots) in
-    and-i (and-i (and-i (and-i (and-i (and-i (and-i (and-i
+    and-i (and-i (and-i (and-i (and-i (and-i (and-i (and-i (and-i (and-i
     (facts-table tokenSlots max64 numberOf (d .tokens) (l .tokens))
     (facts-table handleSlots max32 handleNumber (d .handles) (l .handles)))
     (eq-eqb (length (d .stations)) stationCount (l .stations)))
@@ -230,4 +265,6 @@ facts-valid d f =
     (mem-all streamValid (d .stations) (l .eachStation)))
     (mem-all (isToken d) (references d) (λ n m. token-is d n (l .live n m))))
     (mem-all (isReferred d) ts (λ t m. referred-is d _ t refl (f .reached (numberOf t) (map-mem numberOf m)))))
-    (mem-all (primaryAtStation d) ts (λ t m. primary-is d t (l .stationPrimary t m)))
+    (mem-all (primaryAtStation d) ts (λ t m. primary-is d t (l .stationPrimary t m))))
+    (mem-all (clientAtStations d) ts (λ t m. mem-all (clientFits t) (d .stations) (λ x k. client-is t x (l .clients t m x k)))))
+    (mem-all levelValid (d .stations) (λ x m. idle-is x (l .idle x m)))

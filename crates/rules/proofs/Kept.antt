@@ -2,7 +2,7 @@
 use Prim.Native.Nat.{ℕ, _+_, _^_, _<_, _≤_}
 use native.Mathlib.Omega.{arith}
 use mathlib.Core.Path.{_≡_, refl, sym, ap, _∙_, subst}
-use mathlib.Core.Bool.{true}
+use mathlib.Core.Bool.{true, _&&_}
 use mathlib.Core.List.{List, map}
 use lib.Dec.{leb, ltb}
 use lib.ListN.{length, length-map}
@@ -20,29 +20,31 @@ use Rattle.rules.specs.Entry.{Entry}
 use Rattle.rules.specs.Group.{Group}
 use Rattle.rules.specs.Growth.{Mem}
 use Rattle.rules.specs.Handle.{Handle}
+use Rattle.rules.specs.Impersonate as Impersonate
 use Rattle.rules.specs.Install as Install
 use Rattle.rules.specs.Mask.{allRights, validMask}
 use Rattle.rules.specs.Number.{max64, Read, got, bad}
 use Rattle.rules.specs.OpenClose as OpenClose
-use Rattle.rules.specs.Privileges.{createToken, assignPrimaryToken, tcb, existing, granted}
+use Rattle.rules.specs.Privileges.{createToken, assignPrimaryToken, tcb, impersonate, existing, granted}
 use Rattle.rules.specs.Query as Query
 use Rattle.rules.specs.Request as Request
 use Rattle.rules.specs.Request.{parse, Request}
 use Rattle.rules.specs.Restrict as Restrict
 use Rattle.rules.specs.Serve.{rule, decided, decision, serve}
-use Rattle.rules.specs.State.{stationCount, withTokens, setToken, numberOf, tokenOf, callerNumber, caller, putToken, changeToken, usedOn, used, canAddToken, handleOf, canAddHandle, released, State}
+use Rattle.rules.specs.State.{stationCount, withTokens, setToken, setClient, numberOf, tokenOf, callerNumber, caller, putToken, changeToken, usedOn, used, canAddToken, handleOf, canAddHandle, released, State}
+use Rattle.rules.specs.Station.{noClient}
 use Rattle.rules.specs.Table.{someFree, withSlots, canAdd}
-use Rattle.rules.specs.Token.{maxGroups, maxRestricting, primary, primaryOf, newToken, Token}
+use Rattle.rules.specs.Token.{maxGroups, maxRestricting, primary, impersonation, primaryOf, newToken, Token}
 use Rattle.rules.specs.Valid.{isByte, is32, is64, between, identityValid, privilegesValid, groupsValid, handleValid}
 use Rattle.rules.proofs.Logic.{and-l, and-r, and-i, not-both, mem-by}
 use Rattle.rules.proofs.Bits.{none-within}
 use Rattle.rules.proofs.Tables.{on-if, only-one}
 use Rattle.rules.proofs.Facts.{TokenFacts, StateFacts}
-use Rattle.rules.proofs.Changes.{numbersOf, put-numbers, put-room}
+use Rattle.rules.proofs.Changes.{numbersOf, put-numbers, put-room, none-may, token-may}
 use Rattle.rules.proofs.Widths.{Got, sid32, Fits, parsed}
 use Rattle.rules.proofs.GroupsKept.{all-entered}
 use Rattle.rules.proofs.TokensKept.{After, used-after, privileges-after, groups-after, scope-after, defaults-after, new-facts, duplicated-made, restricted-made}
-use Rattle.rules.proofs.Steps.{Advance, stays, _then_, Is, token-ok, is-live, is-caller, change, open-step, issue-step, close-step, token-step, Ends, Keeps, ended, Found, on-handle}
+use Rattle.rules.proofs.Steps.{Advance, stays, _then_, Is, token-ok, is-live, is-caller, change, open-step, issue-step, close-step, token-step, client-step, Ends, Keeps, ended, Found, on-handle, install-marked, client-marked}
 
 -- ---- the token of a number, over a step
 
@@ -95,13 +97,24 @@ marked-next : (d : State) (s n : ℕ) → used n s d .tokens .next ≡ d .tokens
 unfolding used changeToken putToken withTokens withSlots
 marked-next d s n = refl
 
--- request 11's marks
 pub marks : (d : State) (s : ℕ) (t : Token) → StateFacts d → s < stationCount → Marked d (Install.marked s t d)
-unfolding Install.marked has
+unfolding has
 marks d s t f in8 =
     let once = used assignPrimaryToken s d in
     let m : Marked d once = mark d s assignPrimaryToken f in8 refl in
-    on-if (Marked d) (Install.matches t (caller d s)) once (used tcb s once) (λ e. m) (λ e. mark-again d once (used tcb s once) m (mark once s tcb (m .step .facts) in8 refl))
+    install-marked (Marked d) d s t m (mark-again d once (used tcb s once) m (mark once s tcb (m .step .facts) in8 refl))
+
+pub client-marks : (d : State) (s : ℕ) (t : Token) → StateFacts d → s < stationCount → Marked d (Impersonate.marked s t d)
+unfolding has
+client-marks d s t f in8 = client-marked (Marked d) d s t (mark d s impersonate f in8 refl) (record { step = stays f; is = λ n i. i })
+
+-- ---- the level in force
+
+pub in-force : (d : State) (s : ℕ) (t : Token) → Impersonate.inForce d s t ≤ t .identity .level
+unfolding Impersonate.inForce
+in-force d s t =
+    on-if (λ n. n ≤ t .identity .level) (Impersonate.passes d s t && leb (t .identity .integrity) (caller d s .identity .integrity)) _ _
+    (λ e. omega arith) (λ e. omega arith)
 
 -- ---- what request 3 makes
 
@@ -220,6 +233,27 @@ module _ (d : State) (f : StateFacts d) (s : ℕ) (in8 : s < stationCount) where
       let p : tokenOf e (h .token) .identity .type ≡ primary = ap (λ x. x .type) (same-identity d e (h .token) f (m .step) (k .token) i) ∙ eqb-true (t .identity .type) primary ok in
       m .step then subst (λ (j : ℕ). Advance e (released (setToken s j e))) (i .number) (token-step e s (tokenOf e (h .token)) (m .step .facts) (i .was) p)
 
+  impersonates : (n : ℕ) → Keeps d (Impersonate.impersonate d s n)
+  unfolding Impersonate.impersonate Ends
+  impersonates n =
+      on-handle d s n _ _ f λ k ok passed.
+      let h = handleOf d s n in
+      let t = tokenOf d (h .token) in
+      let e = Impersonate.marked s t d in
+      let m = client-marks d s t f in8 in
+      let g = m .step .facts in
+      let i = m .is (h .token) (k .token) in
+      let same = same-identity d e (h .token) f (m .step) (k .token) i in
+      let level = Impersonate.inForce d s t in
+      let may =
+      token-may e (tokenOf e (h .token)) level (i .was) (ap (λ x. x .type) same ∙ eqb-true (t .identity .type) impersonation ok)
+      (rw same (in-force d s t)) (g .loose) in
+      m .step then subst (λ (j : ℕ). Advance e (released (setClient s (record { token = j; level = level }) e))) (i .number) (client-step e s _ g may)
+
+  reverts : Keeps d (Impersonate.revert d s)
+  unfolding Impersonate.revert Ends
+  reverts = client-step d s noClient f (none-may d (f .loose))
+
   by-rule : (r : Request) → Fits r → Keeps d (rule d s r)
   unfolding rule Fits
   by-rule (Request.openOwn mask) w = opens mask
@@ -233,6 +267,8 @@ module _ (d : State) (f : StateFacts d) (s : ℕ) (in8 : s < stationCount) where
   by-rule (Request.duplicate n t l m) w = duplicates n t l m
   by-rule (Request.restrict n m r ds ss) w = restricts n m r ds ss w
   by-rule (Request.install n) w = installs n
+  by-rule (Request.impersonate n) w = impersonates n
+  by-rule Request.revert w = reverts
 
   by-read : (r : Read Request) → Got Fits r → Keeps d (decided d s r)
   unfolding decided Ends Got

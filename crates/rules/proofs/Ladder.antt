@@ -24,6 +24,7 @@ use Rattle.rules.specs.AdjustDefaults as AdjustDefaults
 use Rattle.rules.specs.Duplicate as Duplicate
 use Rattle.rules.specs.Restrict as Restrict
 use Rattle.rules.specs.Install as Install
+use Rattle.rules.specs.Impersonate as Impersonate
 use Rattle.rules.specs.Serve.{rule, decided, decision, serve}
 use Rattle.rules.specs.Ladder.{failing, firstOf, status, Ladder}
 use Rattle.rules.specs.Growth.{Mem, here, there}
@@ -46,7 +47,7 @@ rises k (success after bytes) = true
 -- ---- of every request
 
 in-order : (σ : State) (s : ℕ) (r : Request) → rises 0 (rule σ s r) ≡ true
-unfolding rises rank place member rule refusal capacityBelow withHandle issued OpenClose.openOwn OpenClose.close Create.create Query.query AdjustPrivileges.adjust AdjustGroups.adjust AdjustScope.scope AdjustDefaults.adjust Duplicate.duplicate Restrict.restrict Install.install
+unfolding rises rank place member rule refusal capacityBelow withHandle issued OpenClose.openOwn OpenClose.close Create.create Query.query AdjustPrivileges.adjust AdjustGroups.adjust AdjustScope.scope AdjustDefaults.adjust Duplicate.duplicate Restrict.restrict Install.install Impersonate.impersonate Impersonate.revert
 in-order σ s (Request.openOwn mask) = refl
 in-order σ s (Request.close n) = refl
 in-order σ s (Request.create user session integrity present byDefault gs) = refl
@@ -58,6 +59,8 @@ in-order σ s (Request.defaults n owner group flag bytes) = refl
 in-order σ s (Request.duplicate n type level mask) = refl
 in-order σ s (Request.restrict n mark removed deny sids) = refl
 in-order σ s (Request.install n) = refl
+in-order σ s (Request.impersonate n) = refl
+in-order σ s Request.revert = refl
 
 of-body : (σ : State) (s : ℕ) (r : Read Request) → rises 0 (decided σ s r) ≡ true
 unfolding decided rises rank place member refusal

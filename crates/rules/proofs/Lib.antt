@@ -14,6 +14,7 @@ pub mod TokensKept
 pub mod Steps
 pub mod Kept
 pub mod Ladder
+pub mod Acting
 pub mod Frames
 pub mod Answers
 pub mod Runs

@@ -1,14 +1,14 @@
 -- Tests of Bool, and membership of lists. Assumes nothing.
-use Prim.Native.Nat.{ℕ, zero, suc, _<_}
+use Prim.Native.Nat.{ℕ, zero, suc, _<_, _≤_}
 use native.Mathlib.Omega.{arith}
 use mathlib.Core.Path.{_≡_, refl, sym, ap, ap₂, _∙_}
-use mathlib.Core.Bool.{Bool, true, false, not, _&&_, _||_, or-true}
+use mathlib.Core.Bool.{Bool, true, false, not, _&&_, _||_, or-true, or-assoc, and-false}
 use mathlib.Core.Logic.{_⊎_, inl, inr, ⊎-elim}
 use mathlib.Core.List.{List, [], _∷_, _++_, map}
 use lib.Dec.{eqb}
 use lib.ListN.{length, getD, set}
 use borrow.Author.Tests.{eqb-true, eq-eqb}
-use Rattle.rules.specs.Basic.{all, member, distinct, implies, changeAt}
+use Rattle.rules.specs.Basic.{if_then_else_, all, filter, member, distinct, nonZero, implies, changeAt}
 use Rattle.rules.specs.Growth.{Mem, here, there}
 
 -- ---- tests
@@ -155,6 +155,11 @@ pub distinct-head : (x : ℕ) (xs : List ℕ) → distinct (x ∷ xs) ≡ true �
 unfolding distinct
 distinct-head x xs h m = not-e (member x xs) (and-l _ (distinct xs) h) (mem-member m)
 
+pub member-append : (n : ℕ) (xs ys : List ℕ) → member n (xs ++ ys) ≡ (member n xs || member n ys)
+unfolding member
+member-append n [] ys = refl
+member-append n (x ∷ xs) ys = ap (λ (b : Bool). eqb n x || b) (member-append n xs ys) ∙ sym (or-assoc (eqb n x) (member n xs) (member n ys))
+
 pub distinct-tail : (x : ℕ) (xs : List ℕ) → distinct (x ∷ xs) ≡ true → distinct xs ≡ true
 unfolding distinct
 distinct-tail x xs h = and-r (not (member x xs)) (distinct xs) h
@@ -167,3 +172,61 @@ pub all-append : {A : Type 0} (f : A → Bool) (xs ys : List A) → all f xs ≡
 unfolding all
 all-append f [] ys h k = k
 all-append f (x ∷ xs) ys h k = and-i (and-l (f x) (all f xs) h) (all-append f xs ys (and-r (f x) (all f xs) h) k)
+
+-- ---- those that pass a test
+
+pub mem-filter : {A : Type 0} (f : A → Bool) (xs : List A) {a : A} → Mem a (filter f xs) → Mem a xs × (f a ≡ true)
+unfolding filter
+mem-filter f (x ∷ xs) {a} m = go (f x) refl m (λ k. mem-filter f xs k)
+  where
+    go : (b : Bool) → f x ≡ b → Mem a (if b then x ∷ filter f xs else filter f xs) → (Mem a (filter f xs) → Mem a xs × (f a ≡ true)) → Mem a (x ∷ xs) × (f a ≡ true)
+    go true p (here e) rest = (here e, ap f e ∙ p)
+    go true p (there m) rest = let r = rest m in (there (r .0), r .1)
+    go false p m rest = let r = rest m in (there (r .0), r .1)
+
+pub filter-mem : {A : Type 0} (f : A → Bool) (xs : List A) {a : A} → Mem a xs → f a ≡ true → Mem a (filter f xs)
+unfolding filter
+filter-mem f (x ∷ xs) (here e) h = rw (ap f (sym e) ∙ h) (here e)
+filter-mem f (x ∷ xs) {a} (there m) h = go (f x) (filter-mem f xs m h)
+  where
+    go : (b : Bool) → Mem a (filter f xs) → Mem a (if b then x ∷ filter f xs else filter f xs)
+    go true k = there k
+    go false k = k
+
+pub member-filter : (f : ℕ → Bool) (n : ℕ) (xs : List ℕ) → member n (filter f xs) ≡ (f n && member n xs)
+unfolding member filter
+member-filter f n [] = sym (and-false (f n))
+member-filter f n (x ∷ xs) = go (f x) (eqb n x) refl refl (member-filter f n xs)
+  where
+    same : {b : Bool} → f x ≡ b → eqb n x ≡ true → f n ≡ b
+    same p q = ap f (eqb-true n x q) ∙ p
+
+    go : (b c : Bool) → f x ≡ b → eqb n x ≡ c → member n (filter f xs) ≡ (f n && member n xs) → member n (if b then x ∷ filter f xs else filter f xs) ≡ (f n && (c || member n xs))
+    go true true p q ih = ap (λ (c : Bool). c || member n (filter f xs)) q ∙ sym (ap (λ (b : Bool). b && true) (same p q))
+    go true false p q ih = ap (λ (c : Bool). c || member n (filter f xs)) q ∙ ih
+    go false true p q ih = ih ∙ ap (λ (b : Bool). b && member n xs) (same p q) ∙ sym (ap (λ (b : Bool). b && true) (same p q))
+    go false false p q ih = ih
+
+-- the numbers that are not 0
+not-zero : {n : ℕ} → 1 ≤ n → not (eqb n 0) ≡ true
+not-zero {n} h = not-i (eqb n 0) (λ q. let z = eqb-true n 0 q in omega arith)
+
+pub mem-nonZero : {n : ℕ} (ns : List ℕ) → Mem n (nonZero ns) → Mem n ns × (1 ≤ n)
+unfolding nonZero
+mem-nonZero {n} ns m =
+    let r = mem-filter _ ns m in
+    let z : n ≡ 0 → ⊥ = λ e. not-e (eqb n 0) (r .1) (eq-eqb n 0 e) in
+    (r .0, omega (arith, z))
+
+pub nonZero-mem : {n : ℕ} (ns : List ℕ) → Mem n ns → 1 ≤ n → Mem n (nonZero ns)
+unfolding nonZero
+nonZero-mem ns m h = filter-mem _ ns m (not-zero h)
+
+-- whether a number is among them: 0 never is
+pub member-nonZero : (n : ℕ) (ns : List ℕ) → 1 ≤ n → member n (nonZero ns) ≡ member n ns
+unfolding nonZero
+member-nonZero n ns h = member-filter _ n ns ∙ ap (λ (b : Bool). b && member n ns) (not-zero h)
+
+pub zero-nonZero : (ns : List ℕ) → member 0 (nonZero ns) ≡ false
+unfolding nonZero
+zero-nonZero ns = member-filter _ 0 ns

@@ -10,14 +10,14 @@ use Rattle.rules.specs.Basic.{if_then_else_, member, distinct}
 use Rattle.rules.specs.Index.{freedOne}
 use Rattle.rules.specs.Growth.{Mem, here, there}
 use Rattle.rules.specs.Handle.{isHandle, Handle}
-use Rattle.rules.specs.State.{withTokens, withHandles, withStations, stationAt, changeStation, setToken, numberOf, isNumbered, callerNumber, findHandle, dropHandle, handleToken, stationToken, references, isReferred, released, State}
-use Rattle.rules.specs.Station.{startStation, withToken}
+use Rattle.rules.specs.State.{withTokens, withHandles, withStations, stationAt, changeStation, setToken, clientAt, setClient, numberOf, isNumbered, callerNumber, findHandle, dropHandle, handleToken, stationToken, clientToken, references, isReferred, released, State}
+use Rattle.rules.specs.Station.{startStation, withToken, withClient, Client}
 use Rattle.rules.specs.Table.{lives, found, withSlots, exchanged, retained, Slot, free, live}
 use Rattle.rules.specs.Token.{Token}
 use Rattle.rules.proofs.Logic.{not-both, either, changeAt-mem, map-mem, mem-by, mem-map, member-mem, mem-member, distinct-head, distinct-tail}
 use Rattle.rules.proofs.Tables.{on-if, numbers}
 use Rattle.rules.proofs.Facts.{Loose, StateFacts, is-referred, referred-is}
-use Rattle.rules.proofs.Changes.{by-handle, by-station, by-either, drop-loose}
+use Rattle.rules.proofs.Changes.{by-handle, by-station, by-client, by-any, same-map, drop-loose}
 use Rattle.rules.proofs.Steps.{_then_}
 
 module _ {A : Type 0} (number : A → ℕ) (n : ℕ) (f : A → Bool) where
@@ -55,7 +55,7 @@ released-one e n l h =
     unreferred : (a : Token) → a .number ≡ n → member n (references e) ≡ false → isReferred e a ≡ false
     unreferred a q t = ⊎-elim (λ k. absurd (not-both (mem-member (subst-mem (sym q) (is-referred e (a .number) a refl k))) t)) (λ k. k) (either (isReferred e a))
 
--- ---- closing a handle, and another primary token of a station
+-- ---- closing a handle, and another primary token or client of a station
 
 module _ {A : Type 0} (f : A → Bool) where
   others : (ps : List (Slot A)) {a b : A} → found f ps ≡ live a → Mem b (lives ps) → (b ≡ a) ⊎ Mem b (lives (exchanged f free ps))
@@ -75,10 +75,10 @@ close-refers : (d : State) (s n : ℕ) (h : Handle) → StateFacts d → findHan
 unfolding dropHandle withHandles withSlots findHandle numberOf handleToken
 close-refers d s n h f e t m ne =
     let c = dropHandle s n d in
-    ⊎-elim (λ a. let r = mem-map handleToken (lives (d .handles .slots)) a in
+    by-any d (λ a. let r = mem-map handleToken (lives (d .handles .slots)) a in
     ⊎-elim (λ q. absurd (ne (r .2 ∙ ap handleToken q))) (λ k. by-handle c (mem-by handleToken (r .2) k)) (others (isHandle s n) (d .handles .slots) e (r .1)))
-    (λ b. by-station c b)
-    (by-either d (f .reached (t .number) (map-mem numberOf m)))
+    (λ b. by-station c b) (λ i k. by-client c i k)
+    (f .reached (t .number) (map-mem numberOf m))
 
 -- closing the handle h: only its token can be freed
 pub close-frees : (d : State) (s n : ℕ) (h : Handle) → StateFacts d → findHandle d s n ≡ live h → released (dropHandle s n d) ≡ freedOne (h .token) (dropHandle s n d)
@@ -86,13 +86,27 @@ close-frees d s n h f e = released-one (dropHandle s n d) (h .token) (drop-loose
 
 -- another primary token: only the one before can be freed
 token-refers : (d : State) (s n : ℕ) → StateFacts d → (t : Token) → Mem t (lives (setToken s n d .tokens .slots)) → (t .number ≡ callerNumber d s → ⊥) → Mem (t .number) (references (setToken s n d))
-unfolding setToken changeStation withStations callerNumber stationAt numberOf stationToken
+unfolding setToken changeStation withStations withToken callerNumber stationAt numberOf stationToken clientToken
 token-refers d s n f t m ne =
     let c = setToken s n d in
-    ⊎-elim (λ a. by-handle c a)
+    by-any d (λ a. by-handle c a)
     (λ b. let r = mem-map stationToken (d .stations) b in
     ⊎-elim (λ q. absurd (ne (r .2 ∙ ap stationToken q))) (λ k. by-station c (mem-by stationToken (r .2) k)) (changeAt-mem (d .stations) s (withToken n) startStation (r .1)))
-    (by-either d (f .reached (t .number) (map-mem numberOf m)))
+    (λ i k. by-client c (rw (same-map clientToken (withToken n) (λ x. refl) s (d .stations)) i) k)
+    (f .reached (t .number) (map-mem numberOf m))
 
 pub token-frees : (d : State) (s n : ℕ) → StateFacts d → Loose (setToken s n d) → released (setToken s n d) ≡ freedOne (callerNumber d s) (setToken s n d)
 token-frees d s n f l = released-one (setToken s n d) (callerNumber d s) l (token-refers d s n f)
+
+-- another client, or none: only the one before can be freed
+client-refers : (d : State) (s : ℕ) (c : Client) → StateFacts d → (t : Token) → Mem t (lives (setClient s c d .tokens .slots)) → (t .number ≡ clientAt d s .token → ⊥) → Mem (t .number) (references (setClient s c d))
+unfolding setClient changeStation withStations withClient clientAt stationAt numberOf stationToken clientToken
+client-refers d s c f t m ne =
+    let e = setClient s c d in
+    by-any d (λ a. by-handle e a) (λ b. by-station e (rw (same-map stationToken (withClient c) (λ x. refl) s (d .stations)) b))
+    (λ i k. let r = mem-map clientToken (d .stations) i in
+    ⊎-elim (λ q. absurd (ne (r .2 ∙ ap clientToken q))) (λ j. by-client e (mem-by clientToken (r .2) j) k) (changeAt-mem (d .stations) s (withClient c) startStation (r .1)))
+    (f .reached (t .number) (map-mem numberOf m))
+
+pub client-frees : (d : State) (s : ℕ) (c : Client) → StateFacts d → Loose (setClient s c d) → released (setClient s c d) ≡ freedOne (clientAt d s .token) (setClient s c d)
+client-frees d s c f l = released-one (setClient s c d) (clientAt d s .token) l (client-refers d s c f)

@@ -9,28 +9,18 @@ use lib.Dec.{leb}
 use lib.ListN.{length}
 use borrow.Author.Tests.{le-leb, leb-true}
 use Rattle.rules.specs.Basic.{if_then_else_, all, filter, isEmpty}
-use Rattle.rules.specs.Growth.{Mem, here, there}
+use Rattle.rules.specs.Growth.{Mem}
 use Rattle.rules.specs.Token.{Token, maxRestricting, isRestricted}
 use Rattle.rules.specs.Valid.{is32, limitsValid}
 use Rattle.rules.specs.Restrict.{restrictingTo}
-use Rattle.rules.proofs.Logic.{not-both, and-l}
-
-mem-filter : (f : ℕ → Bool) (xs : List ℕ) {n : ℕ} → Mem n (filter f xs) → Mem n xs
-unfolding filter
-mem-filter f [] m = m
-mem-filter f (x ∷ xs) {n} m = go (f x) (mem-filter f xs) m
-  where
-    go : (b : Bool) → (Mem n (filter f xs) → Mem n xs) → Mem n (if b then x ∷ filter f xs else filter f xs) → Mem n (x ∷ xs)
-    go true k (here e) = here e
-    go true k (there m) = there (k m)
-    go false k m = there (k m)
+use Rattle.rules.proofs.Logic.{not-both, and-l, mem-filter}
 
 -- a restricted token's copy has nothing that the token lacked
 pub narrower : (given own : List ℕ) → not (isEmpty own) ≡ true → {n : ℕ} → Mem n (restrictingTo given own) → Mem n own
 unfolding restrictingTo isEmpty
 narrower given [] r m = absurd (not-both r refl)
 narrower [] (x ∷ xs) r m = m
-narrower (y ∷ ys) (x ∷ xs) r m = mem-filter _ (x ∷ xs) m
+narrower (y ∷ ys) (x ∷ xs) r m = mem-filter _ (x ∷ xs) m .0
 
 length-filter : (f : ℕ → Bool) (xs : List ℕ) → length (filter f xs) ≤ length xs
 unfolding filter

@@ -19,25 +19,25 @@ use Rattle.rules.specs.Duplicate.{isAnonymous}
 use Rattle.rules.specs.Group.{Group}
 use Rattle.rules.specs.Growth.{Creating, Live, Mem, here, there, Source, sourceAt, sourceOf, Copying, makesRoot, Rooted, none, old, created}
 use Rattle.rules.specs.Handle.{Handle}
+use Rattle.rules.specs.Impersonate as Impersonate
 use Rattle.rules.specs.Install as Install
 use Rattle.rules.specs.Ladder.{status}
 use Rattle.rules.specs.Number.{Read, got, bad}
 use Rattle.rules.specs.OpenClose as OpenClose
-use Rattle.rules.specs.Privileges.{createToken, assignPrimaryToken, tcb}
+use Rattle.rules.specs.Privileges.{createToken}
 use Rattle.rules.specs.Query as Query
 use Rattle.rules.specs.Request as Request
 use Rattle.rules.specs.Request.{parse, Request}
 use Rattle.rules.specs.Restrict as Restrict
 use Rattle.rules.specs.Run.{Call, Outcome, Serving, serves, breaks, servedBy, after, ofBytes, events, outcomes, OneByOne}
 use Rattle.rules.specs.Serve.{rule, decided, decision, serve}
-use Rattle.rules.specs.State.{State, withTokens, withHandles, withStations, changeStation, setToken, numberOf, caller, putToken, changeToken, used, findHandle, addHandle, dropHandle, released}
+use Rattle.rules.specs.State.{State, withTokens, withHandles, withStations, changeStation, setToken, setClient, numberOf, putToken, changeToken, used, findHandle, addHandle, dropHandle, released}
 use Rattle.rules.specs.Table.{Slot, free, live, isLive, withSlots}
 use Rattle.rules.specs.Token.{Token, newToken, primaryOf}
 use Rattle.rules.proofs.Logic.{not-both, either, map-mem}
-use Rattle.rules.proofs.Tables.{on-if}
 use Rattle.rules.proofs.Facts.{StateFacts}
 use Rattle.rules.proofs.Changes.{put-numbers}
-use Rattle.rules.proofs.Steps.{Ends, ended}
+use Rattle.rules.proofs.Steps.{Ends, ended, install-marked, client-marked}
 use Rattle.rules.proofs.Ladder.{ladder}
 use Rattle.rules.proofs.Always.{Onward, run-serves}
 use Rattle.rules.proofs.Sources.{Fresh, none-fresh, made, issues, of-serving}
@@ -77,13 +77,16 @@ module _ (d : State) (f : StateFacts d) (s : ℕ) where
   unfolding Create.create Ends IsRoot newToken primaryOf
   creates user session integrity present byDefault gs may ok room = issues d (used createToken s d) (IsRoot d) s _ _ marked-fresh (refl, refl)
 
-  -- request 11's marks
-  marks : (t : Token) → SameNext d (Install.marked s t d)
-  unfolding Install.marked SameNext used changeToken putToken withTokens withSlots
-  marks t = let once = used assignPrimaryToken s d in on-if (SameNext d) (Install.matches t (caller d s)) once (used tcb s once) (λ e. refl) (λ e. refl)
+  install-marks : (t : Token) → SameNext d (Install.marked s t d)
+  unfolding SameNext used changeToken putToken withTokens withSlots
+  install-marks t = install-marked (SameNext d) d s t refl refl
+
+  client-marks : (t : Token) → SameNext d (Impersonate.marked s t d)
+  unfolding SameNext used changeToken putToken withTokens withSlots
+  client-marks t = client-marked (SameNext d) d s t refl refl
 
   gives : (r : Read Request) → Gives d s r
-  unfolding decided rule sourceOf makesRoot Ends SameNext withHandle OpenClose.openOwn OpenClose.close Query.query AdjustPrivileges.adjust AdjustGroups.adjust AdjustScope.scope AdjustDefaults.adjust Duplicate.duplicate Restrict.restrict Install.install released addHandle dropHandle setToken changeStation withStations withHandles withTokens withSlots used changeToken putToken
+  unfolding decided rule sourceOf makesRoot Ends SameNext withHandle OpenClose.openOwn OpenClose.close Query.query AdjustPrivileges.adjust AdjustGroups.adjust AdjustScope.scope AdjustDefaults.adjust Duplicate.duplicate Restrict.restrict Install.install Impersonate.impersonate Impersonate.revert released addHandle dropHandle setToken setClient changeStation withStations withHandles withTokens withSlots used changeToken putToken
   gives bad = nothing refl (λ h. absurd (not-both h refl))
   gives (got (Request.openOwn mask) bytes) = nothing refl (λ ok room. refl)
   gives (got (Request.close n) bytes) = nothing refl (λ known. refl)
@@ -95,7 +98,9 @@ module _ (d : State) (f : StateFacts d) (s : ℕ) where
   gives (got (Request.defaults n o g x dacl) bytes) = nothing refl (λ known may ok. refl)
   gives (got (Request.duplicate n type level mask) bytes) = of-handle n (isAnonymous type level) _ refl refl (λ no known. absurd (no known))
   gives (got (Request.restrict n mark removed deny sids) bytes) = of-handle n false _ refl refl (λ no known. absurd (no known))
-  gives (got (Request.install n) bytes) = nothing refl (λ known may held ok match. marks _)
+  gives (got (Request.install n) bytes) = nothing refl (λ known may held ok match. install-marks _)
+  gives (got (Request.impersonate n) bytes) = nothing refl (λ known may ok gate. client-marks _)
+  gives (got Request.revert bytes) = nothing refl refl
 
 -- ---- one body
 

@@ -242,6 +242,7 @@ station-back x h =
     let short = part-short (x .pending) (search (and-l, and-r)) in
     λ i. record {
       token = x .token;
+      client = x .client;
       pending = take-pad pendingBytes (x .pending) (omega arith) i;
       isBroken = mark-back (x .isBroken) i;
     }

@@ -8,9 +8,9 @@ use Rattle.rules.specs.Number.{lowFirst, encodeIn, encode}
 use Rattle.rules.specs.Frame.{frame, framed, Framed, part, broken, whole}
 use Rattle.rules.specs.Model.{joined, byteAt, step, silent}
 use Rattle.rules.specs.Run.{happens, stateOf, afterEvents, Timed, placeOf, toldAt, timedTo, Event, byte, reconnected, Outcome, outcomeOf, outcomeAt, outcomes, servedBy, answerTo, answeredAt, answeredFrom, SameRights, OneByOne}
-use Rattle.rules.specs.State.{State, stationAt, withStations, changeStation, stationToken}
+use Rattle.rules.specs.State.{State, stationAt, withStations, changeStation, stationToken, stationClient}
 use Rattle.rules.specs.Station.{Station, cleared, withPending, brokenOff}
-use Rattle.rules.proofs.Changes.{same-tokens}
+use Rattle.rules.proofs.Changes.{OnlyStream, only-pending, only-cleared, only-broken, same-map}
 
 -- ---- the answers
 
@@ -41,34 +41,38 @@ answers-served n (e ∷ es) p =
 -- ---- one by one
 
 pub rights-refl : (p : State) → SameRights p p
-rights-refl p = record { tokens = refl; handles = refl; primary = refl }
+rights-refl p = record { tokens = refl; handles = refl; primary = refl; clients = refl }
 
 pub rights-trans : {p q r : State} → SameRights p q → SameRights q r → SameRights p r
-rights-trans a b = record { tokens = a .tokens ∙ b .tokens; handles = a .handles ∙ b .handles; primary = a .primary ∙ b .primary }
+rights-trans a b = record { tokens = a .tokens ∙ b .tokens; handles = a .handles ∙ b .handles; primary = a .primary ∙ b .primary; clients = a .clients ∙ b .clients }
 
 pub rights-sym : {p q : State} → SameRights p q → SameRights q p
-rights-sym a = record { tokens = sym (a .tokens); handles = sym (a .handles); primary = sym (a .primary) }
+rights-sym a = record { tokens = sym (a .tokens); handles = sym (a .handles); primary = sym (a .primary); clients = sym (a .clients) }
 
 -- another stream at a station
-stream-rights : (p : State) (s : ℕ) (f : Station → Station) → ((x : Station) → stationToken (f x) ≡ stationToken x) → SameRights p (changeStation s f p)
-unfolding changeStation withStations
-stream-rights p s f e = record { tokens = refl; handles = refl; primary = sym (same-tokens f e s (p .stations)) }
+stream-rights : (p : State) (s : ℕ) (f : Station → Station) → OnlyStream f → SameRights p (changeStation s f p)
+unfolding changeStation withStations stationClient
+stream-rights p s f only =
+    record {
+      tokens = refl;
+      handles = refl;
+      primary = sym (same-map stationToken f (only .token) s (p .stations));
+      clients = sym (same-map stationClient f (only .client) s (p .stations));
+    }
 
 pub cleared-rights : (p : State) (s : ℕ) → SameRights p (changeStation s cleared p)
-unfolding cleared withPending stationToken
-cleared-rights p s = stream-rights p s cleared (λ x. refl)
+cleared-rights p s = stream-rights p s cleared only-cleared
 
 pub broken-rights : (p : State) (s : ℕ) → SameRights p (changeStation s brokenOff p)
-unfolding brokenOff stationToken
-broken-rights p s = stream-rights p s brokenOff (λ x. refl)
+broken-rights p s = stream-rights p s brokenOff only-broken
 
 -- after a byte, the rest goes on from what it left
 Goes : State → List Outcome → State → Type 0
 Goes p xs q = (d z : State) (ys : List Outcome) → SameRights d p → ((c : State) → SameRights c q → OneByOne c ys z) → OneByOne d (xs ++ ys) z
 
 joined-goes : (p : State) (s : ℕ) (bytes : List ℕ) (x : Framed) → Goes p (outcomeOf p s x) (stateOf (joined p s bytes x))
-unfolding Goes joined stateOf outcomeOf OneByOne servedBy withPending stationToken
-joined-goes p s bytes part d z ys a go = go d (rights-trans a (stream-rights p s (withPending bytes) (λ x. refl)))
+unfolding Goes joined stateOf outcomeOf OneByOne servedBy
+joined-goes p s bytes part d z ys a go = go d (rights-trans a (stream-rights p s (withPending bytes) (only-pending bytes)))
 joined-goes p s bytes broken d z ys a go = go d (rights-trans a (broken-rights p s))
 joined-goes p s bytes (whole body) d z ys a go = (rights-trans a (cleared-rights p s), go _ (rights-refl _))
 

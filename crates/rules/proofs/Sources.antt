@@ -129,6 +129,8 @@ module _ (d : State) (f : StateFacts d) (x : Source) where
   of-request s (got (Request.restrict n mark removed deny sids) bytes) e =
       on-handle s n _ _ _ e λ b ok room. copies s (handleOf d s n .mask) _ (restricted (d .tokens .next) mark removed deny sids b (search (and-l, and-r)))
   of-request s (got (Request.install n) bytes) e = none e
+  of-request s (got (Request.impersonate n) bytes) e = none e
+  of-request s (got Request.revert bytes) e = none e
 
 -- ---- every body that is served in a run
 

@@ -1,7 +1,7 @@
 -- A request that succeeds takes a valid state to a valid one, and what lasts of its tokens and handles lasts. Assumes nothing.
 use Prim.Native.Nat.{ℕ, _<_}
 use mathlib.Core.Path.{_≡_, refl}
-use mathlib.Core.Bool.{true, false}
+use mathlib.Core.Bool.{true, false, not, _&&_}
 use mathlib.Core.Logic.{_⊎_, inr}
 use mathlib.Core.List.{map}
 use lib.Dec.{eqb}
@@ -9,16 +9,19 @@ use borrow.Author.Tests.{eqb-true, lt-ltb}
 use Rattle.rules.specs.Decision.{carriedOut, withHandle, canIssue, Decision, need_else_then_, success}
 use Rattle.rules.specs.Growth.{Mem, Follows, Later, HandlesLater, here}
 use Rattle.rules.specs.Handle.{noHandle, isHandle, Handle}
+use Rattle.rules.specs.Impersonate as Impersonate
+use Rattle.rules.specs.Install as Install
 use Rattle.rules.specs.Mask.{validMask}
-use Rattle.rules.specs.State.{stationCount, withHandles, withStations, stationAt, changeStation, setToken, numberOf, isNumbered, tokenOf, callerNumber, putToken, withTokens, changeToken, canAddToken, addToken, findHandle, handleOf, canAddHandle, addHandle, dropHandle, handleToken, stationToken, references, released, State}
-use Rattle.rules.specs.Station.{startStation}
+use Rattle.rules.specs.Privileges.{assignPrimaryToken, tcb, impersonate}
+use Rattle.rules.specs.State.{stationCount, withHandles, withStations, stationAt, changeStation, setToken, setClient, numberOf, isNumbered, tokenOf, callerNumber, caller, held, putToken, withTokens, changeToken, used, canAddToken, addToken, findHandle, handleOf, canAddHandle, addHandle, dropHandle, handleToken, stationToken, references, released, State}
+use Rattle.rules.specs.Station.{startStation, Client}
 use Rattle.rules.specs.Table.{isLive, orElse, lives, found, live}
 use Rattle.rules.specs.Token.{primary, Token}
 use Rattle.rules.specs.Valid.{handleValid}
 use Rattle.rules.proofs.Logic.{and-l, and-r, and-i, getD-mem, map-mem}
-use Rattle.rules.proofs.Tables.{live-slot, found-in, found-some}
+use Rattle.rules.proofs.Tables.{on-if, live-slot, found-in, found-some}
 use Rattle.rules.proofs.Facts.{TokenFacts, Loose, StateFacts}
-use Rattle.rules.proofs.Changes.{later-refl, later-trans, handles-refl, handles-trans, handle-later, drop-later, numbersOf, by-handle, by-station, put-loose, put-later, put-reached, add-loose, add-later, handle-loose, handle-reached, drop-loose, token-loose, release-facts, release-later, add-reached, add-there, add-room}
+use Rattle.rules.proofs.Changes.{later-refl, later-trans, handles-refl, handles-trans, handle-later, drop-later, numbersOf, by-handle, by-station, put-loose, put-later, put-reached, add-loose, add-later, handle-loose, handle-reached, drop-loose, token-loose, MayAct, client-loose, release-facts, release-later, add-reached, add-there, add-room}
 
 pub record Advance (d e : State) : Type 0 where
   pub facts : StateFacts e
@@ -105,6 +108,15 @@ token-step d s t f m p =
       handles = handles-refl (d .handles);
     }
 
+pub client-step : (d : State) (s : ℕ) (c : Client) → StateFacts d → MayAct d c → Advance d (released (setClient s c d))
+unfolding setClient changeStation withStations released withTokens
+client-step d s c f may =
+    record {
+      facts = release-facts (setClient s c d) (client-loose d s c may (f .loose));
+      later = release-later (setClient s c d);
+      handles = handles-refl (d .handles);
+    }
+
 -- ---- how a request is decided
 
 -- the state that the effect leads to, where the checks pass, has the property
@@ -136,3 +148,13 @@ pub on-handle : (d : State) (s n right : ℕ) (go : Handle → Token → Decisio
     → (Found d (handleOf d s n) → Keeps d (go (handleOf d s n) (tokenOf d (handleOf d s n .token)))) → Keeps d (withHandle d s n right go)
 unfolding withHandle Ends
 on-handle d s n right go f k known permitted = k (found-handle d s n f known)
+
+-- ---- the used marks of requests 11 and 12: what holds in each case holds with them
+
+pub install-marked : (P : State → Type 0) (d : State) (s : ℕ) (t : Token) → P (used assignPrimaryToken s d) → P (used tcb s (used assignPrimaryToken s d)) → P (Install.marked s t d)
+unfolding Install.marked
+install-marked P d s t once twice = on-if P (Install.matches t (caller d s)) _ _ (λ e. once) (λ e. twice)
+
+pub client-marked : (P : State → Type 0) (d : State) (s : ℕ) (t : Token) → P (used impersonate s d) → P d → P (Impersonate.marked s t d)
+unfolding Impersonate.marked
+client-marked P d s t once none = on-if P (not (Impersonate.alike (caller d s) t) && held d s impersonate) _ _ (λ e. once) (λ e. none)

@@ -16,6 +16,7 @@ use Rattle.rules.proofs.Facts.{valid-facts, facts-valid}
 use Rattle.rules.proofs.Always.{run-step, lasts, handle-kept, handle-numbers, token-numbers, enabled-present, default-present, all-fit}
 use Rattle.rules.proofs.Bound.{bound, closed}
 use Rattle.rules.proofs.Ladder.{ladder}
+use Rattle.rules.proofs.Acting.{acting, client-kept}
 use Rattle.rules.proofs.Sources.{no-more}
 use Rattle.rules.proofs.Served.{answers-served, one-by-one}
 use Rattle.rules.proofs.Roots.{creations, roots}
@@ -51,6 +52,8 @@ throughout σ v cs w =
       handles = λ more x. rw (after-append cs more σ) (run-step more τ x g .handles);
       handleNumbers = handle-numbers τ g;
       tokenNumbers = token-numbers τ g;
+      acting = acting τ (g .loose);
+      clients = λ x m s. client-kept x s;
       enabled = enabled-present τ g;
       byDefault = default-present τ g;
       copies = no-more cs σ w f;

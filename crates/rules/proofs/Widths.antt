@@ -123,6 +123,8 @@ Fits (Request.defaults h owner group flag bytes) = all isByte bytes ≡ true
 Fits (Request.duplicate h type level mask) = Unit {0}
 Fits (Request.restrict h mark removed deny sids) = all is32 sids ≡ true
 Fits (Request.install h) = Unit {0}
+Fits (Request.impersonate h) = Unit {0}
+Fits Request.revert = Unit {0}
 
 in-number : (f : ℕ → Request) → ((n : ℕ) → Fits (f n)) → Reads Fits (numberLayout f)
 unfolding numberLayout
@@ -182,7 +184,7 @@ unfolding layouts Each Fits
 all-fit =
     let one : (n : ℕ) → Unit {0} = λ n. tt in
     let two : (n : ℕ) (es : List Entry) → Unit {0} = λ n es. tt in
-    (in-none, (in-number _ one, (in-number _ one, (in-create, (in-query, (in-entries _ two, (in-entries _ two, (in-scope, (in-defaults, (in-duplicate, (in-restrict, (in-number _ one, tt))))))))))))
+    (in-none, (in-number _ one, (in-number _ one, (in-create, (in-query, (in-entries _ two, (in-entries _ two, (in-scope, (in-defaults, (in-duplicate, (in-restrict, (in-number _ one, (in-number _ one, (ends _ tt, tt))))))))))))))
 
 pub parsed : (body : List ℕ) → all isByte body ≡ true → Got Fits (parse body)
 unfolding parse

@@ -10,7 +10,7 @@ use Rattle.table.specs.Sections.{section}
 use Rattle.rules.specs.Refusal.{ranks, streamBroken, noStation, shortBuffer, invalidMemory}
 use Rattle.rules.specs.State.{stationCount}
 use Rattle.rules.specs.Frame.{Framed, part, broken, whole, framed, maxAnswer}
-use Rattle.rules.specs.Memory.{Memory, stationWords, primaryWord, counterSection, controlSizes, stationWordAt, valid}
+use Rattle.rules.specs.Memory.{Memory, stationWords, primaryWord, clientWord, levelWord, counterSection, controlSizes, stationWordAt, valid}
 use Rattle.rules.specs.Run.{Call, ofBytes}
 use Rattle.rules.specs.Growth.{Mem}
 use Rattle.rules.specs.Calls.{refusedOn}
@@ -34,16 +34,19 @@ statuses answer = statusesIn (framed answer)
 unfoldable pub counters : Memory → List ℕ
 counters m = section controlSizes counterSection m.control
 
--- each station's primary token, a word of its row
-unfoldable pub primaries : Memory → List ℕ
-primaries m = column stationWords stationCount (drop (stationWordAt 0 primaryWord) m.control)
+-- word k of each station's row
+unfoldable pub stationColumn : ℕ → Memory → List ℕ
+stationColumn k m = column stationWords stationCount (drop (stationWordAt 0 k) m.control)
 
 pub record LeftAlone (m m′ : Memory) : Type 0 where
   pub tokens : m′ .tokens ≡ m .tokens
   pub dacls : m′ .dacls ≡ m .dacls
   pub handles : m′ .handles ≡ m .handles
   pub counted : counters m′ ≡ counters m
-  pub primary : primaries m′ ≡ primaries m
+  -- each station's primary token, the token that it acts for and the level in force
+  pub primary : stationColumn primaryWord m′ ≡ stationColumn primaryWord m
+  pub clients : stationColumn clientWord m′ ≡ stationColumn clientWord m
+  pub levels : stationColumn levelWord m′ ≡ stationColumn levelWord m
 
 -- ---- the claim
 
@@ -58,8 +61,8 @@ pub record AnyMemory (m : Memory) (c : Call) : Type 0 where
   pub listed : Mem (doneBy m c .refusal) (0 ∷ noStation ∷ shortBuffer ∷ invalidMemory ∷ [])
   -- a call that is refused alters, uses and answers nothing
   pub refused : (doneBy m c .refusal ≡ 0 → ⊥) → doneBy m c ≡ refusedOn (doneBy m c .refusal) m
-  -- 'a refusal alters no token, no handle and no counter', and no station's primary token: nor does a part, a break or a reconnect. Only a
-  -- request that is answered 0 does
+  -- 'a refusal alters no token, no handle and no counter', and no station's primary token or client: nor does a part, a break or a
+  -- reconnect. Only a request that is answered 0 does
   pub leftAlone : (Mem 0 (statuses (doneBy m c .answer)) → ⊥) → LeftAlone m (doneBy m c .after)
   -- memory in order stays in order
   pub order : valid m ≡ true → ofBytes c ≡ true → valid (doneBy m c .after) ≡ true

@@ -36,6 +36,9 @@ unfoldable pub distinct : List ℕ → Bool
 distinct [] = true
 distinct (x ∷ xs) = not (member x xs) && distinct xs
 
+unfoldable pub nonZero : List ℕ → List ℕ
+nonZero ns = filter (λ n. not (eqb n 0)) ns
+
 unfoldable pub isEmpty : {A : Type 0} → List A → Bool
 isEmpty [] = true
 isEmpty (x ∷ xs) = false

@@ -95,6 +95,8 @@ sourceOf σ s (got (Request.defaults n owner group flag dacl) bytes) = free
 sourceOf σ s (got (Request.duplicate n type level mask) bytes) = sourceAt σ (Duplicate.isAnonymous type level) (findHandle σ s n)
 sourceOf σ s (got (Request.restrict n mark removed deny sids) bytes) = sourceAt σ false (findHandle σ s n)
 sourceOf σ s (got (Request.install n) bytes) = free
+sourceOf σ s (got (Request.impersonate n) bytes) = free
+sourceOf σ s (got Request.revert bytes) = free
 
 -- u, just made, and its source: it has no more, and the source's root
 pub record FromSource (x : Source) (u : Token) : Type 0 where
@@ -131,6 +133,8 @@ makesRoot (got (Request.defaults n owner group flag dacl) bytes) = false
 makesRoot (got (Request.duplicate n type level mask) bytes) = false
 makesRoot (got (Request.restrict n mark removed deny sids) bytes) = false
 makesRoot (got (Request.install n) bytes) = false
+makesRoot (got (Request.impersonate n) bytes) = false
+makesRoot (got Request.revert bytes) = false
 
 -- of a body that is served: a token that it makes of none is its own root
 unfoldable pub Creating : Serving → Type 0

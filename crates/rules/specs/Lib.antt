@@ -24,6 +24,7 @@ pub mod AdjustDefaults
 pub mod Duplicate
 pub mod Restrict
 pub mod Install
+pub mod Impersonate
 pub mod Serve
 pub mod Frame
 pub mod Model
@@ -31,6 +32,7 @@ pub mod Valid
 pub mod Ladder
 pub mod Run
 pub mod Growth
+pub mod Acting
 pub mod Head
 pub mod Memory
 pub mod Throughout

@@ -55,7 +55,8 @@ handleCounter = 1
 abbrev pub counterWords : ℕ
 counterWords = 2
 
--- a station's row: its primary token, how many bytes are pending, whether the stream is broken
+-- a station's row: its primary token, how many bytes are pending, whether the stream is broken, the token that it acts for and the level in
+-- force
 abbrev pub primaryWord : ℕ
 primaryWord = 0
 
@@ -65,8 +66,14 @@ countWord = 1
 abbrev pub brokenWord : ℕ
 brokenWord = 2
 
+abbrev pub clientWord : ℕ
+clientWord = 3
+
+abbrev pub levelWord : ℕ
+levelWord = 4
+
 abbrev pub stationWords : ℕ
-stationWords = 3
+stationWords = 5
 
 -- the sections
 abbrev pub counterSection : ℕ
@@ -156,7 +163,7 @@ slotHandle free = noHandle
 slotHandle (live h) = h
 
 unfoldable pub stationRow : Station → List ℕ
-stationRow x = x.token ∷ length x.pending ∷ mark x.isBroken ∷ []
+stationRow x = x.token ∷ length x.pending ∷ mark x.isBroken ∷ x .client .token ∷ x .client .level ∷ []
 
 abbrev pub counters : State → List ℕ
 counters σ = σ .tokens .next ∷ σ .handles .next ∷ []
@@ -232,7 +239,13 @@ unfoldable pub handleAt : Handle → Slot Handle
 handleAt h = if eqb h.number 0 then free else live h
 
 unfoldable pub stationAt : List ℕ → List ℕ → Station
-stationAt ws bs = record { token = getD ws primaryWord 0; pending = take (getD ws countWord 0) bs; isBroken = eqb (getD ws brokenWord 0) 1 }
+stationAt ws bs =
+    record {
+      token = getD ws primaryWord 0;
+      client = record { token = getD ws clientWord 0; level = getD ws levelWord 0 };
+      pending = take (getD ws countWord 0) bs;
+      isBroken = eqb (getD ws brokenWord 0) 1;
+    }
 
 unfoldable pub decode : Memory → State
 decode m =

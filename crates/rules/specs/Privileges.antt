@@ -20,6 +20,9 @@ assignPrimaryToken = 3
 abbrev pub tcb : ℕ
 tcb = 7
 
+abbrev pub impersonate : ℕ
+impersonate = 29
+
 -- privileges 2 to 36, as a word: 2^37 - 2^2
 abbrev pub existing : ℕ
 existing = 0x1FFFFFFFFC

@@ -25,15 +25,20 @@ rightMissing = refusal 3
 abbrev pub privilegeNotHeld : Refusal
 privilegeNotHeld = refusal 4
 
--- a field or entry bad, unknown class, installing a non-primary token
+-- a field or entry bad, unknown class, installing a token that is not primary, or acting for one that is
 abbrev pub badField : Refusal
 badField = refusal 5
 
 abbrev pub protectedGroup : Refusal
 protectedGroup = refusal 6
 
+-- installing a token of another user or session
 abbrev pub installMismatch : Refusal
 installMismatch = refusal 7
+
+-- a restricted server, and a client that isn't: gate one does not pass
+abbrev pub restrictedServer : Refusal
+restrictedServer = refusal 7
 
 -- a needed slot is not free, a needed next number is unusable, or over 16 restricting SIDs
 abbrev pub tableFull : Refusal

@@ -1,4 +1,4 @@
--- The eleven requests and their layouts: the request number, then the fields; nothing may be left. Assumes nothing.
+-- The thirteen requests and their layouts: the request number, then the fields; nothing may be left. Assumes nothing.
 use Prim.Native.Nat.{ℕ, zero, suc}
 use mathlib.Core.List.{List, [], _∷_}
 use lib.ListN.{getD}
@@ -18,6 +18,8 @@ pub data Request : Type 0 where
   duplicate : ℕ → ℕ → ℕ → ℕ → Request
   restrict : ℕ → ℕ → ℕ → List ℕ → List ℕ → Request
   install : ℕ → Request
+  impersonate : ℕ → Request
+  revert : Request
 
 -- ---- reading one thing after the other
 
@@ -70,7 +72,7 @@ entry = do
 
 -- ---- the layouts
 
--- one number: a mask or a handle (1, 2, 11)
+-- one number: a mask or a handle (1, 2, 11, 12)
 unfoldable pub numberLayout : (ℕ → Request) → Reader Request
 numberLayout request = do
   n ← u32
@@ -155,6 +157,8 @@ layouts =
     ∷ duplicateLayout
     ∷ restrictLayout
     ∷ numberLayout install
+    ∷ numberLayout impersonate
+    ∷ end revert
     ∷ []
 
 -- the request that a body is

@@ -8,7 +8,7 @@ use lib.Dec.{leb}
 use Rattle.rules.specs.Basic.{if_then_else_, all}
 use Rattle.rules.specs.Frame.{Framed, part, broken, whole, framed, frame}
 use Rattle.rules.specs.Station.{cleared}
-use Rattle.rules.specs.State.{State, stationCount, stationAt, changeStation, stationToken}
+use Rattle.rules.specs.State.{State, stationCount, stationAt, changeStation, stationToken, stationClient}
 use Rattle.rules.specs.Decision.{Served}
 use Rattle.rules.specs.Serve.{serve}
 use Rattle.rules.specs.Model.{Result, Step, silent, answers, step, feed, reconnect}
@@ -160,13 +160,14 @@ unfoldable pub answeredFrom : ℕ → List Event → State → List Timed
 answeredFrom n [] σ = []
 answeredFrom n (e ∷ es) σ = map (answeredAt (n + 1)) (outcomeAt σ e) ++ answeredFrom (n + 1) es (stateOf (happens σ e))
 
--- the same tokens, handles and primary tokens of the stations: all but the streams
+-- the same tokens, handles, and primary tokens and clients of the stations: all but the streams
 pub record SameRights (σ τ : State) : Type 0 where
   pub tokens : σ .tokens ≡ τ .tokens
   pub handles : σ .handles ≡ τ .handles
   pub primary : map stationToken (σ .stations) ≡ map stationToken (τ .stations)
+  pub clients : map stationClient (σ .stations) ≡ map stationClient (τ .stations)
 
--- from σ to τ each body is served on what the one before it left, and nothing else alters a token, a handle or a primary token
+-- from σ to τ each body is served on what the one before it left, and nothing else alters a token, a handle, a primary token or a client
 unfoldable pub OneByOne : State → List Outcome → State → Type 0
 OneByOne σ [] τ = SameRights σ τ
 OneByOne σ (breaks s ∷ xs) τ = OneByOne σ xs τ

@@ -17,6 +17,7 @@ use Rattle.rules.specs.AdjustDefaults as AdjustDefaults
 use Rattle.rules.specs.Duplicate as Duplicate
 use Rattle.rules.specs.Restrict as Restrict
 use Rattle.rules.specs.Install as Install
+use Rattle.rules.specs.Impersonate as Impersonate
 
 unfoldable pub rule : State → ℕ → Request → Decision
 rule σ s (Request.openOwn mask) = OpenClose.openOwn σ s mask
@@ -30,6 +31,8 @@ rule σ s (Request.defaults n owner group flag bytes) = AdjustDefaults.adjust σ
 rule σ s (Request.duplicate n type level mask) = Duplicate.duplicate σ s n type level mask
 rule σ s (Request.restrict n mark removed deny sids) = Restrict.restrict σ s n mark removed deny sids
 rule σ s (Request.install n) = Install.install σ s n
+rule σ s (Request.impersonate n) = Impersonate.impersonate σ s n
+rule σ s Request.revert = Impersonate.revert σ s
 
 -- a body that is not in a layout fails the first check
 unfoldable pub decided : State → ℕ → Read Request → Decision

@@ -4,13 +4,13 @@ use mathlib.Core.Bool.{Bool}
 use mathlib.Core.List.{List, [], _++_, map}
 use lib.ListN.{getD, replicate}
 use lib.Dec.{eqb}
-use Rattle.rules.specs.Basic.{member, changeAt}
+use Rattle.rules.specs.Basic.{member, nonZero, changeAt}
 use Rattle.rules.specs.Number.{max32, max64}
 use Rattle.rules.specs.Privileges.{isEnabled, markUsed, granted}
 use Rattle.rules.specs.Token.{Token, withPrivileges, startToken, newToken, primaryOf}
 use Rattle.rules.specs.Table.{Slot, free, live, Table, orElse, lives, canAdd, placed, added, found, exchanged, retained, withSlots}
 use Rattle.rules.specs.Handle.{Handle, noHandle, isHandle}
-use Rattle.rules.specs.Station.{Station, startStation, withToken}
+use Rattle.rules.specs.Station.{Station, Client, startStation, withToken, withClient}
 
 pub record State : Type 0 where
   pub tokens : Table Token
@@ -54,6 +54,13 @@ changeStation s f σ = withStations (changeAt s f σ.stations) σ
 -- station s gets token n for its primary one
 unfoldable pub setToken : ℕ → ℕ → State → State
 setToken s n σ = changeStation s (withToken n) σ
+
+-- the token that a station acts for, with the level in force
+unfoldable pub clientAt : State → ℕ → Client
+clientAt σ s = stationAt σ s .client
+
+unfoldable pub setClient : ℕ → Client → State → State
+setClient s c σ = changeStation s (withClient c) σ
 
 -- ---- tokens
 
@@ -125,7 +132,7 @@ addHandle s n mask σ = withHandles (added (record { station = s; number = σ .h
 unfoldable pub dropHandle : ℕ → ℕ → State → State
 dropHandle s n σ = withHandles (withSlots (exchanged (isHandle s n) free (σ .handles .slots)) σ.handles) σ
 
--- ---- references: a token lives while a handle or a station refers to it
+-- ---- references: a token lives while a handle or a station refers to it, a station by its primary token or by the one that it acts for
 
 unfoldable pub handleToken : Handle → ℕ
 handleToken h = h.token
@@ -133,8 +140,17 @@ handleToken h = h.token
 unfoldable pub stationToken : Station → ℕ
 stationToken x = x.token
 
+unfoldable pub stationClient : Station → Client
+stationClient x = x.client
+
+unfoldable pub clientToken : Station → ℕ
+clientToken x = x .client .token
+
 unfoldable pub references : State → List ℕ
-references σ = map handleToken (lives (σ .handles .slots)) ++ map stationToken σ.stations
+references σ =
+    map handleToken (lives (σ .handles .slots))
+    ++ map stationToken σ.stations
+    ++ nonZero (map clientToken σ.stations)
 
 unfoldable pub isReferred : State → Token → Bool
 isReferred σ t = member t.number (references σ)

@@ -10,13 +10,15 @@ use Rattle.rules.specs.Bits.{within}
 use Rattle.rules.specs.Number.{max32, max64}
 use Rattle.rules.specs.Token.{Token}
 use Rattle.rules.specs.Handle.{Handle}
+use Rattle.rules.specs.Station.{noClient}
 use Rattle.rules.specs.Table.{free, live}
-use Rattle.rules.specs.State.{State, stationCount, findHandle}
+use Rattle.rules.specs.State.{State, stationCount, clientAt, findHandle}
 use Rattle.rules.specs.Frame.{frame, framed, whole, maxAnswer}
 use Rattle.rules.specs.Valid.{valid}
 use Rattle.rules.specs.Ladder.{Ladder}
 use Rattle.rules.specs.Run.{Call, byte, ofBytes, after, answered, events, afterEvents, answersTo, timed, timedTo, untilUsed, Serving, serves, outcomes, answeredFrom, OneByOne}
 use Rattle.rules.specs.Growth.{Mem, Live, LiveHandle, Follows, Later, HandlesLater, StillHandle, Copying, Creating, Rooted}
+use Rattle.rules.specs.Acting.{ActsFor, ClientKept}
 
 -- an answer: one valid frame that fits the buffer
 pub record IsAnswer (bytes : List ℕ) : Type 0 where
@@ -74,6 +76,10 @@ pub record Throughout (σ : State) (cs : List Call) : Type 0 where
   -- 'the largest never': of handles and of tokens
   pub handleNumbers : (h : Handle) → LiveHandle h (after cs σ) → (1 ≤ h .number) × (h .number < max32)
   pub tokenNumbers : (t : Token) → Live t (after cs σ) → (1 ≤ t .number) × (t .number < max64)
+  -- a station acts for none, or for a live impersonation token, and the level in force is never above the token's own
+  pub acting : (s : ℕ) → let c = clientAt (after cs σ) s in (c ≡ noClient) ⊎ ActsFor (after cs σ) c
+  -- what a station acts for changes only by its own requests 12 and 13 (between the bodies it stays: `oneByOne`)
+  pub clients : (x : Serving) → Mem (serves x) (outcomes (events cs σ) σ) → (s : ℕ) → ClientKept x s
   -- 'enabled ones stay among the present', and default ones
   pub enabled : (t : Token) → Live t (after cs σ) → within (t .privileges .enabled) (t .privileges .present) ≡ true
   pub byDefault : (t : Token) → Live t (after cs σ) → within (t .privileges .byDefault) (t .privileges .present) ≡ true

@@ -55,6 +55,10 @@ primary = 1
 abbrev pub impersonation : ℕ
 impersonation = 2
 
+-- a level, of Anonymous (0), Identification, Impersonation and Delegation (3)
+abbrev pub identification : ℕ
+identification = 1
+
 -- a token of no root
 abbrev pub noRoot : ℕ
 noRoot = 0

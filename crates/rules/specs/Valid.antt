@@ -14,7 +14,7 @@ use Rattle.rules.specs.Token.{Token, Identity, Limits, Defaults, maxGrou
 use Rattle.rules.specs.Table.{Table, lives}
 use Rattle.rules.specs.Handle.{Handle}
 use Rattle.rules.specs.Station.{Station}
-use Rattle.rules.specs.State.{State, tokenSlots, handleSlots, stationCount, numberOf, handleNumber, stationToken, references, isReferred}
+use Rattle.rules.specs.State.{State, tokenSlots, handleSlots, stationCount, numberOf, handleNumber, stationToken, clientToken, references, isReferred}
 use Rattle.rules.specs.Create.{validIntegrity}
 use Rattle.rules.specs.AdjustDefaults.{validOwner, validGroup}
 use Rattle.rules.specs.Frame.{Framed, part, broken, whole, framed}
@@ -102,7 +102,19 @@ isToken σ n = member n (map numberOf (lives (σ .tokens .slots)))
 unfoldable pub primaryAtStation : State → Token → Bool
 primaryAtStation σ t = implies (member t.number (map stationToken σ.stations)) (eqb (t .identity .type) primary)
 
--- references are live, every token is referred to, and station tokens are primary in type
+-- a station that acts for the token acts for an impersonation token, and its level in force is at most the token's own
+unfoldable pub clientFits : Token → Station → Bool
+clientFits t x =
+    implies (eqb (clientToken x) t.number) (eqb (t .identity .type) impersonation && leb (x .client .level) (t .identity .level))
+
+unfoldable pub clientAtStations : State → Token → Bool
+clientAtStations σ t = all (clientFits t) σ.stations
+
+-- the level is 0 where a station acts for none
+unfoldable pub levelValid : Station → Bool
+levelValid x = implies (eqb (clientToken x) 0) (eqb (x .client .level) 0)
+
+-- references are live, every token is referred to, station tokens are primary in type, and those acted for fit their stations
 unfoldable pub valid : State → Bool
 valid σ =
     tableValid tokenSlots max64 numberOf σ.tokens
@@ -114,3 +126,5 @@ valid σ =
     && all (isToken σ) (references σ)
     && all (isReferred σ) (lives (σ .tokens .slots))
     && all (primaryAtStation σ) (lives (σ .tokens .slots))
+    && all (clientAtStations σ) (lives (σ .tokens .slots))
+    && all levelValid σ.stations

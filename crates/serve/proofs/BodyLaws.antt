@@ -26,10 +26,10 @@ no-layout (rest bytes) = refl
 no-layout lost = refl
 
 -- no request has this number
-none-of : (n : ℕ) → Apart 11 n → getD layouts n unknown ≡ unknown
+none-of : (n : ℕ) → Apart 13 n → getD layouts n unknown ≡ unknown
 unfolding layouts
 none-of zero u = refl
-none-of (suc n) u = List·getD-eq-default layouts unknown {n = suc n} (above 11 (suc n) u (omega arith))
+none-of (suc n) u = List·getD-eq-default layouts unknown {n = suc n} (above 13 (suc n) u (omega arith))
 
 module _ {body : List ℕ} {first : Field} (b : Begun body first) where
   -- the rest of the body is read by the layout of its number
@@ -42,7 +42,7 @@ module _ {body : List ℕ} {first : Field} (b : Begun body first) where
     unfolding decision
     by-number n e x = record { carried = read-alike station r (same-layout (getD layouts n unknown) (ap (λ (m : ℕ). getD layouts m unknown) e)) (x .carried) }
 
-    pub by-none : Apart 11 (first .value) → Ends (answers.Refused 1) r → BodyCarried station body ts ds hs cs ts ds cs r
+    pub by-none : Apart 13 (first .value) → Ends (answers.Refused 1) r → BodyCarried station body ts ds hs cs ts ds cs r
     unfolding decision
     by-none u i = record {
       carried = malformed station r (parse body) (sym (same-layout unknown (none-of (first .value) u)) ∙ no-layout (restOf body (first .next))) i;

@@ -10,7 +10,7 @@ use Rattle.rules.specs.Number.{Read, bad}
 use Rattle.rules.specs.Entry.{Entry}
 use Rattle.rules.specs.Refusal.{refusal}
 use Rattle.rules.specs.Request as requests
-use Rattle.rules.specs.Request.{Request, Reader, byte, group, u32, numberLayout, entriesLayout, createLayout, defaultsLayout, restrictLayout}
+use Rattle.rules.specs.Request.{Request, Reader, end, byte, group, u32, numberLayout, entriesLayout, createLayout, defaultsLayout, restrictLayout}
 use Rattle.rules.specs.Decision.{carriedOut}
 use Rattle.rules.specs.Serve.{rule, decided}
 use Rattle.number.specs.Rest.{readFrom}
@@ -18,7 +18,7 @@ use Rattle.number.specs.Meaning.{restOf}
 use Rattle.number.specs.declared.cursor.Cursor.{Cursor}
 use Rattle.handle.specs.declared.Handle.{Handle}
 use Rattle.answer.specs.declared.Answer.the-variants as answers
-use Rattle.body.specs.Layout.{whole, valuesAt, There, NumberRead, Listed, EntriesRead, RestrictRead}
+use Rattle.body.specs.Layout.{whole, valuesAt, There, NothingRead, NumberRead, Listed, EntriesRead, RestrictRead}
 use Rattle.decide.specs.declared.outcome.Outcome.{Outcome}
 use Rattle.decide.specs.Carried.{Ends, Carried}
 use Rattle.decide.proofs.Deciding.{refuses}
@@ -47,7 +47,7 @@ module _ (station : ℕ) {hs : List Handle} {cs ts ds : List ℕ} (r : Outcome) 
     unfolding decided
     served f x = record { carried = read-alike (ap (λ (b : Bool). whole b request) (sym (not-false ok f)) ∙ e) x }
 
--- requests 1, 2 and 11
+-- requests 1, 2, 11 and 12
 module _ (request : ℕ → Request) (station : ℕ) {s : List ℕ} {c : Cursor} (ok : Bool) (value : ℕ) (n : NumberRead s c ok value)
     {hs : List Handle} {cs ts ds : List ℕ} (r : Outcome) where
   pub number-not-read : not ok ≡ true → Ends (answers.Refused 1) r → LayoutCarried (numberLayout request) station s c ts ds hs cs ts ds cs r
@@ -56,6 +56,15 @@ module _ (request : ℕ → Request) (station : ℕ) {s : List ℕ} {c : Cursor}
   pub number-served : {cs′ ts′ ds′ : List ℕ} → not ok ≡ false → Carried (λ σ. rule σ station (request value)) ts ds hs cs ts′ ds′ cs′ r
       → LayoutCarried (numberLayout request) station s c ts ds hs cs ts′ ds′ cs′ r
   number-served f x = served station r (request value) ok (n .parsed request) f x
+
+-- request 13
+module _ (request : Request) (station : ℕ) {s : List ℕ} {c : Cursor} {ok : Bool} (n : NothingRead s c ok) {hs : List Handle} {cs ts ds : List ℕ} (r : Outcome) where
+  pub nothing-not-read : not ok ≡ true → Ends (answers.Refused 1) r → LayoutCarried (end request) station s c ts ds hs cs ts ds cs r
+  nothing-not-read f i = not-read station r request ok (n .parsed request) f i
+
+  pub nothing-served : {cs′ ts′ ds′ : List ℕ} → not ok ≡ false → Carried (λ σ. rule σ station request) ts ds hs cs ts′ ds′ cs′ r
+      → LayoutCarried (end request) station s c ts ds hs cs ts′ ds′ cs′ r
+  nothing-served f x = served station r request ok (n .parsed request) f x
 
 -- requests 5 and 6
 module _ (request : ℕ → List Entry → Request) (station : ℕ) {s : List ℕ} {c : Cursor} (ok : Bool) (handle at count : ℕ) (n : EntriesRead s c ok handle at count)

@@ -48,6 +48,8 @@ fn carry_out(
         9 => by_number::duplicate(station, body, c, handles, tokens, dacls, control),
         10 => by_number::restrict(station, body, c, handles, tokens, dacls, control),
         11 => by_number::install(station, body, c, handles, tokens, dacls, control),
+        12 => by_number::impersonate(station, body, c, handles, tokens, dacls, control),
+        13 => by_number::revert(station, body, c, handles, tokens, dacls, control),
         _ => outcome::refused(refusal::MALFORMED),
     }
 }

@@ -1,14 +1,21 @@
--- Who a token is, read in its row; its privileges, read and marked there. Assumes nothing.
-use Prim.Native.Nat.{ℕ, _%_, _^_, _≤_, _<_}
+-- Who a token is and whether it is restricted, read in its row; its privileges, read and marked there. Assumes nothing.
+use Prim.Native.Nat.{ℕ, suc, _+_, _*_, _%_, _^_, _≤_, _<_}
+use native.Mathlib.Omega.{arith}
 use mathlib.Core.Path.{_≡_, refl, sym, ap, subst, _∙_}
-use mathlib.Core.Bool.{Bool}
-use mathlib.Core.List.{List}
+use mathlib.Core.Bool.{Bool, false, not}
+use mathlib.Core.List.{List, [], _∷_}
+use lib.Dec.{eqb}
+use lib.ListN.{length, getD}
+use borrow.Author.Tests.{ne-eqb}
+use Rattle.table.specs.Table.{record-element}
+use Rattle.rules.specs.Basic.{isEmpty}
 use Rattle.rules.specs.Privileges as Rules
 use Rattle.rules.specs.Privileges.{isEnabled, markUsed, granted}
-use Rattle.rules.specs.Token.{Token, withPrivileges, newToken, primaryOf}
+use Rattle.rules.specs.Token.{Token, withPrivileges, isRestricted, newToken, noLimits, primaryOf}
 use Rattle.rules.specs.State as State
 use Rattle.rules.specs.State.{State, tokenSlots, noToken, held, usedOn, used, caller, changeToken}
-use Rattle.rules.specs.Memory.{head, tokenRow, tokenAt, identityAt}
+use Rattle.rules.specs.Head as Head
+use Rattle.rules.specs.Memory.{tokenWords, head, tokenRow, tokenAt, identityAt}
 use Rattle.rules.proofs.Rows.{token-back}
 use Rattle.rules.proofs.Bits.{power-inside}
 use Rattle.privilege.specs.Meaning.{privilegesOf}
@@ -18,10 +25,15 @@ use Rattle.token.specs.Row.{identityIn, privilegesIn, Becomes}
 use Rattle.token.specs.declared.Identity.{Identity}
 use Rattle.control.specs.Stations.{CallerNumber}
 use Rattle.state.specs.Parts.{TokensIn}
-use Rattle.state.specs.TokenCalls.{FoundAt, IdentityGiven, IdentityAt, PrivilegesAt, Held, Marked, WordsChanged, Used}
+use Rattle.state.specs.TokenCalls.{FoundAt, IdentityGiven, IdentityAt, RestrictedGiven, RestrictedAt, PrivilegesAt, Held, Marked, WordsChanged, Used}
 use Rattle.state.proofs.InPlace.{lent, back, in-slot, lent-row, no-token, words-changed, words-unchanged}
 
 -- ---- reading
+
+pub empty-size : (xs : List ℕ) → isEmpty xs ≡ eqb (length xs) 0
+unfolding isEmpty
+empty-size [] = refl
+empty-size (x ∷ xs) = sym (ne-eqb (suc (length xs)) 0 (λ h. omega arith))
 
 module _ {i : ℕ} {ts : List ℕ} where
   pub identity-at : {r : Identity} → i < tokenSlots → r ≡ identityIn (lent i ts) → IdentityAt i ts r
@@ -40,6 +52,25 @@ module _ {i : ℕ} {ts : List ℕ} where
 
   pub identity-of : {n : ℕ} {r : Identity} → FoundAt n ts i → IdentityAt i ts r → IdentityGiven n ts r
   identity-of {n} at g = g .given n at
+
+  pub restricted-at : i < tokenSlots → RestrictedAt i ts (not (eqb (getD ts (i * tokenWords + Head.restrictingCount) 0) 0))
+  unfolding tokenRow head isRestricted
+  restricted-at l = record {
+    given = λ n at. record {
+      restricted = λ σ v h.
+          let sids = State.tokenOf σ n .limits .restricting in
+          let count : getD ts (i * tokenWords + Head.restrictingCount) 0 ≡ length sids =
+          record-element tokenWords i Head.restrictingCount ts 0 (omega arith) ∙ ap (λ (ws : List ℕ). getD ws Head.restrictingCount 0) (in-slot n at v h l .words) in
+          ap (λ (k : ℕ). not (eqb k 0)) count ∙ ap not (sym (empty-size sids));
+    };
+  }
+
+  pub not-restricted : tokenSlots ≤ i → RestrictedAt i ts false
+  unfolding noToken newToken noLimits isRestricted isEmpty
+  not-restricted l = record { given = λ n at. record { restricted = λ σ v h. sym (ap isRestricted (no-token n at v h l)) } }
+
+  pub restricted-of : {n : ℕ} {r : Bool} → FoundAt n ts i → RestrictedAt i ts r → RestrictedGiven n ts r
+  restricted-of {n} at g = g .given n at
 
 pub privileges-in-row : (ws : List ℕ) (t : Token) → ws ≡ tokenRow t → privilegesOf (privilegesIn ws) ≡ t .privileges
 unfolding tokenRow head

@@ -2,13 +2,16 @@
 use Prim.Native.Nat.{ℕ}
 use mathlib.Core.Path.{_≡_}
 use mathlib.Core.Bool.{true}
+use mathlib.Core.Logic.{_⊎_}
 use mathlib.Core.List.{List}
 use Rattle.rules.specs.Growth.{Mem}
 use Rattle.rules.specs.Token.{Token, primary}
 use Rattle.rules.specs.Table.{isLive, lives}
 use Rattle.rules.specs.Valid.{valid}
+use Rattle.rules.specs.Station.{Client, noClient}
+use Rattle.rules.specs.Acting.{ActsFor}
 use Rattle.rules.specs.Index.{freedOne}
-use Rattle.rules.specs.State.{State, findHandle, dropHandle, setToken, released}
+use Rattle.rules.specs.State.{State, findHandle, dropHandle, setToken, setClient, released}
 use Rattle.handle.specs.declared.Handle.{Handle}
 use Rattle.control.specs.Control.{ControlIn}
 use Rattle.state.specs.Parts.{TokensIn, HandlesIn}
@@ -34,3 +37,11 @@ pub record Installed (station number : ℕ) (ts ds : List ℕ) (hs : List Handle
   pub parts : (σ : State) → valid σ ≡ true → PartsIn σ ts ds hs cs
       → (t : Token) → Mem t (lives (σ .tokens .slots)) → t .number ≡ number → t .identity .type ≡ primary
       → PartsIn (released (setToken station number σ)) ts′ ds′ hs cs′
+
+abbrev pub client : (token level : ℕ) → Client
+client token level = record { token = token; level = level }
+
+-- where it is no token, or one that the station may act for at that level
+pub record ActsFrom (station token level : ℕ) (ts ds : List ℕ) (hs : List Handle) (cs ts′ ds′ cs′ : List ℕ) : Type 0 where
+  pub parts : (σ : State) → valid σ ≡ true → PartsIn σ ts ds hs cs → (client token level ≡ noClient) ⊎ ActsFor σ (client token level)
+      → PartsIn (released (setClient station (client token level) σ)) ts′ ds′ hs cs′

@@ -34,6 +34,12 @@ pub record IdentityGiven (n : ℕ) (ts : List ℕ) (r : Identity) : Type 0 where
 pub record IdentityAt (slot : ℕ) (ts : List ℕ) (r : Identity) : Type 0 where
   pub given : (n : ℕ) → FoundAt n ts slot → IdentityGiven n ts r
 
+pub record RestrictedGiven (n : ℕ) (ts : List ℕ) (r : Bool) : Type 0 where
+  pub restricted : (σ : State) → valid σ ≡ true → {ds : List ℕ} → TokensIn σ ts ds → r ≡ Rules.isRestricted (State.tokenOf σ n)
+
+pub record RestrictedAt (slot : ℕ) (ts : List ℕ) (r : Bool) : Type 0 where
+  pub given : (n : ℕ) → FoundAt n ts slot → RestrictedGiven n ts r
+
 pub record PrivilegesAt (slot : ℕ) (ts : List ℕ) (r : Privileges) : Type 0 where
   pub given : (n : ℕ) → FoundAt n ts slot → (σ : State) → valid σ ≡ true → {ds : List ℕ} → TokensIn σ ts ds → privilegesOf r ≡ State.tokenOf σ n .privileges
 

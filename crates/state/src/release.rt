@@ -5,7 +5,7 @@ ghost use Rattle.rules.specs.State.{stationCount};
 ghost use Rattle.handle.specs.Meaning.{none};
 ghost use Rattle.handle.specs.Words.{recordsIn};
 ghost use Rattle.state.specs.Parts.{Lent};
-ghost use Rattle.state.specs.ReleaseFacts.{TokenFreed, Closed, Installed};
+ghost use Rattle.state.specs.ReleaseFacts.{TokenFreed, Closed, Installed, ActsFrom};
 use crate::handles::Change;
 use control::stations;
 use handle::HANDLE_WORDS;
@@ -73,4 +73,22 @@ pub fn install(
     let before = stations::caller_number(station, control);
     stations::set_token(station, number, control);
     free_unreferenced(before, SLOTS, handles, tokens, dacls, control);
+}
+
+// The station acts for a token at a level, or with 0 and 0 for none, and the token that it acted for is freed if that was its last reference.
+pub fn act_for(
+    station: u32,
+    token: u64,
+    level: u64,
+    handles: &[u64; HANDLE_WORDS],
+    tokens: &mut [u64],
+    dacls: &mut [u8],
+    control: &mut [u64],
+)
+    requires { ⌜ (station < stationCount) × Lent (now tokens) (now dacls) (now control) ⌝ }
+    ensures { λ _. ⌜ ActsFrom station token level (now (tokens .entry)) (now (dacls .entry)) (recordsIn (now (handles .entry))) (now (control .entry)) (now (tokens .exit)) (now (dacls .exit)) (now (control .exit)) ⌝ }
+{
+    let before = stations::client_of(station, control);
+    stations::set_client(station, token, level, control);
+    free_unreferenced(before.token, SLOTS, handles, tokens, dacls, control);
 }

@@ -7,7 +7,7 @@ ghost use Rattle.rules.specs.Token.{maxDacl};
 ghost use Rattle.rules.specs.State.{tokenSlots, stationCount};
 ghost use Rattle.rules.specs.Memory.{tokenWords, controlWords, nextToken};
 ghost use Rattle.state.specs.Parts.{Lent};
-ghost use Rattle.state.specs.TokenCalls.{IdentityGiven, IdentityAt, PrivilegesAt, Held, Marked, CanAdd, RowsPut, RowAdded, Used};
+ghost use Rattle.state.specs.TokenCalls.{IdentityGiven, IdentityAt, RestrictedGiven, RestrictedAt, PrivilegesAt, Held, Marked, CanAdd, RowsPut, RowAdded, Used};
 use control::counters;
 use control::layout::MAX_TOKEN;
 use control::layout::NEXT_TOKEN;
@@ -15,6 +15,7 @@ use control::stations::caller_number;
 use privilege::privileges::Privileges;
 use privilege::words;
 use token::Identity;
+use token::layout::RESTRICTING_COUNT;
 use token::layout::TOKEN_SLOTS;
 use token::layout::TOKEN_WORDS;
 use token::row;
@@ -49,6 +50,27 @@ pub fn identity_of(number: u64, tokens: &[u64]) -> Identity
 {
     let slot = slots::find(tokens, number);
     identity_at(slot, tokens)
+}
+
+// The token in a slot has restricting SIDs; past the last slot there are none.
+fn restricted_at(slot: usize, tokens: &[u64]) -> bool
+    requires { ⌜ length (now tokens) ≡ tokenSlots * tokenWords ⌝ }
+    ensures { λ r. ⌜ RestrictedAt slot (now (tokens .entry)) r ⌝ }
+{
+    if slot < TOKEN_SLOTS {
+        let at = slot * TOKEN_WORDS + RESTRICTING_COUNT;
+        return tokens[at] != 0;
+    }
+    false
+}
+
+// The same of the live token of a number.
+pub fn is_restricted(number: u64, tokens: &[u64]) -> bool
+    requires { ⌜ length (now tokens) ≡ tokenSlots * tokenWords ⌝ }
+    ensures { λ r. ⌜ RestrictedGiven number (now (tokens .entry)) r ⌝ }
+{
+    let slot = slots::find(tokens, number);
+    restricted_at(slot, tokens)
 }
 
 // The privileges of the token in a slot; none past the last slot.

@@ -87,7 +87,7 @@ module _ (σ : State) (s : ℕ) where
       unfolding changeStation withStations withPending stationAt
       unchanged =
           let x = stationAt σ s in
-          ap (λ xs. withStations xs σ) (same s (withPending (x .pending)) (σ .stations) startStation (λ i. record { token = x .token; pending = x .pending; isBroken = sym intact i }))
+          ap (λ xs. withStations xs σ) (same s (withPending (x .pending)) (σ .stations) startStation (λ i. record { token = x .token; client = x .client; pending = x .pending; isBroken = sym intact i }))
 
       fed : fedFrom 0 s chunk σ ≡ fedBy (stopAt σ s chunk)
       fed = sym (ap (fedFrom 0 s chunk) unchanged) ∙ fed-pending 0 (stationAt σ s .pending) chunk

@@ -6,5 +6,6 @@ pub mod Groups
 pub mod TokenRow
 pub mod StationRow
 pub mod Lists
+pub mod Acting
 pub mod Whole
 pub mod Sizes

@@ -10,7 +10,7 @@ use native.Mathlib.Omega.{arith}
 use borrow.Author.Tests.{eqb-false, leb-true, le-leb, ltb-true, lt-ltb}
 use lib.Dec.{eqb, leb, ltb}
 use lib.ListN.{length, take, drop, getD, set, length-set, length-drop}
-use lib.Seq.{drop-drop, take-all, take-suc, take-set-le, take-suc-set, drop-set-add}
+use lib.Seq.{drop-drop, take-all, take-add, take-suc, take-set-le, take-suc-set, drop-set-add}
 use Rattle.table.specs.Rows.{readRows}
 use Rattle.rules.specs.Basic.{if_then_else_, all, member, distinct, implies}
 use Rattle.rules.specs.Token.{Token, maxDacl, primary}
@@ -21,9 +21,10 @@ use Rattle.rules.specs.Valid.{between, handleValid}
 use Rattle.rules.specs.Head as Head
 use Rattle.rules.specs.Memory.{slotAt, tokenAt, identityAt, handleAt, slotHandle, sameHandle, sameHandles, stationAt, tokenWords, stationWords, pendingBytes}
 use Rattle.rules.proofs.Logic.{and-r, and-i, or-e, or-l, or-r, either}
-use Rattle.valid.specs.Tests.{slotTest, columnBy, firstWord, otherWord, tokenIn, kept, nonzero, isKept, referenceSlots, Referred, count, isGiven, isApart, fieldsTest}
+use Rattle.valid.specs.Tests.{slotTest, columnBy, firstWord, otherWord, tokenIn, clientIn, kept, nonzero, isKept, Room, stationReferences, referenceSlots, Added, Referred, count, isGiven, isApart, fieldsTest}
 use Rattle.valid.proofs.Truth.{same-truth, all-cong, all-and, all-map, eqb-same, eqb-flip}
-use Rattle.valid.proofs.Loops.{Keeping, keeping-none, keeping-more}
+use Rattle.valid.proofs.TokenRow.{drop-take}
+use Rattle.valid.proofs.Loops.{Keeping, keeping-none, keeping-more, Sorting, sorting-first, sorting-second}
 use Rattle.valid.proofs.Counts.{count-none, distinct-count}
 
 -- ---- loops over rows: they keep what is not 0 of a column, or write a column behind other elements
@@ -55,23 +56,23 @@ module _ (f : List ℕ → ℕ) (w : ℕ) where
       let x = column-lent n i ws h e in
       keeping-more _ _ _ 0 t h x (ej ∙ ap isKept x)
 
--- the stations' tokens are written behind the first n elements of an array
-module _ (n : ℕ) (ws before : List ℕ) where
+-- f of every station's row is written behind the first n elements of an array
+module _ (f : List ℕ → ℕ) (n : ℕ) (ws before : List ℕ) where
   abbrev added : List ℕ
-  added = columnBy tokenIn stationWords stationCount ws
+  added = columnBy f stationWords stationCount ws
 
   -- after i of them
   pub record Adding (items : List ℕ) (i : ℕ) : Type 0 where
     pub within : i ≤ stationCount
-    pub fits : n ≤ handleSlots
+    pub fits : n + stationCount ≤ referenceSlots
     pub long : length items ≡ referenceSlots
     pub held : take n items ≡ take n before
     pub behind : take i (drop n items) ≡ take i added
 
-  pub adding-none : n ≤ handleSlots → length before ≡ referenceSlots → Adding before 0
-  adding-none f l = record { within = omega arith; fits = f; long = l; held = refl; behind = refl }
+  pub adding-none : n + stationCount ≤ referenceSlots → length before ≡ referenceSlots → Adding before 0
+  adding-none h l = record { within = omega arith; fits = h; long = l; held = refl; behind = refl }
 
-  pub adding-more : {items : List ℕ} {i v : ℕ} → Adding items i → i < stationCount → v ≡ tokenIn (take (i * stationWords + stationWords - i * stationWords) (drop (i * stationWords) ws))
+  pub adding-more : {items : List ℕ} {i v : ℕ} → Adding items i → i < stationCount → v ≡ f (take (i * stationWords + stationWords - i * stationWords) (drop (i * stationWords) ws))
       → Adding (set items (n + i) v) (i + 1)
   adding-more {items} {i} {v} t h e = record {
     within = omega arith;
@@ -81,19 +82,39 @@ module _ (n : ℕ) (ws before : List ℕ) where
     behind =
         ap₂ take (add-one i) (drop-set-add n items i v)
         ∙ take-suc-set (drop n items) i v (simp length-drop (omega (arith, t .fits, t .long)))
-        ∙ ap₂ (λ l x. l ++ (x ∷ [])) (t .behind) (column-lent tokenIn stationWords stationCount i ws h e)
-        ∙ sym (take-suc added i 0 (omega (arith, length-column tokenIn stationWords stationCount ws)))
+        ∙ ap₂ (λ l x. l ++ (x ∷ [])) (t .behind) (column-lent f stationWords stationCount i ws h e)
+        ∙ sym (take-suc added i 0 (omega (arith, length-column f stationWords stationCount ws)))
         ∙ ap (λ (k : ℕ). take k added) (sym (add-one i));
   }
 
-  pub adding-done : {items : List ℕ} {i : ℕ} → Adding items i → stationCount ≤ i → Referred (take n before) added n items
+  pub adding-done : {items : List ℕ} {i : ℕ} → Adding items i → stationCount ≤ i → Added f n ws before items
   adding-done {items} {i} t h =
       let e : i ≡ stationCount = omega (arith, t .within) in
       record {
-        room = record { fits = omega (arith, t .fits); long = t .long };
+        long = t .long;
         held = t .held;
-        behind = ap (λ (k : ℕ). take k (drop n items)) (sym e) ∙ t .behind ∙ take-all i added (omega (arith, length-column tokenIn stationWords stationCount ws));
+        behind = ap (λ (k : ℕ). take k (drop n items)) (sym e) ∙ t .behind ∙ take-all i added (omega (arith, length-column f stationWords stationCount ws));
       }
+
+-- the stations' references stand behind those that were kept
+pub at-referred : {A : Type 0} (t : A → Bool) (k f g : A → ℕ) (d : A) (src : List A) {ok : Bool} {n i : ℕ} {fs gs ws ps items : List ℕ}
+    → Sorting t k f g d src handleSlots referenceSlots ok fs gs n i → handleSlots ≤ i
+    → Added tokenIn n ws gs ps → Added clientIn (n + stationCount) ws ps items
+    → Referred (kept k g src) (columnBy tokenIn stationWords stationCount ws) (columnBy clientIn stationWords stationCount ws) n items
+at-referred t k f g d src {n = n} {items = items} s h a b =
+    let r : Room handleSlots n _ = sorting-first t k f g d src s h .room in
+    let held : take n _ ≡ kept k g src = sorting-second t k f g d src s h .front in
+    let e : n + stationReferences ≡ n + stationCount + stationCount = omega arith in
+    let cut : (xs : List ℕ) → drop n (take (n + stationCount) xs) ≡ take stationCount (drop n xs) =
+    λ xs. drop-take n (n + stationCount) xs ∙ ap (λ (j : ℕ). take j (drop n xs)) (add-sub-cancel-left n stationCount) in
+    record {
+      room = record { fits = omega arith; long = b .long };
+      front =
+          ap (λ (j : ℕ). take j items) e
+          ∙ take-add (n + stationCount) stationCount items
+          ∙ ap₂ (λ l m. l ++ m) (b .held ∙ take-add n stationCount _ ∙ ap₂ (λ l m. l ++ m) (a .held ∙ held) (a .behind)) (b .behind);
+      primaries = sym (cut items) ∙ ap (drop n) (b .held) ∙ cut _ ∙ a .behind;
+    }
 
 -- ---- what is kept of a list
 

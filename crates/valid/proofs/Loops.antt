@@ -11,7 +11,7 @@ use lib.Dec.{eqb, leb}
 use lib.ListN.{length, take, drop, getD, set, length-set, drop-of-length-le}
 use lib.Seq.{drop-cons, take-set-le, take-suc-set}
 use Rattle.rules.specs.Basic.{if_then_else_, all}
-use Rattle.valid.specs.Tests.{one, count, tally, isReferred, refsTest, kept, isKept, Front, referenceSlots, Referred}
+use Rattle.valid.specs.Tests.{one, count, tally, isReferred, refsTest, kept, isKept, Front, referenceSlots}
 
 -- ---- every element passes
 
@@ -244,7 +244,5 @@ module _ {A : Type 0} (t : A → Bool) (k f g : A → ℕ) (d : A) (src : List A
   pub sorting-first : {size room : ℕ} {ok : Bool} {fs gs : List ℕ} {n i : ℕ} → Sorting size room ok fs gs n i → size ≤ i → Front size (kept k f src) n fs
   sorting-first s h = keeping-done k f src (s .first) h
 
-  -- others stand behind those that were kept
-  pub sorting-second : {size room : ℕ} {ok : Bool} {fs gs ss out : List ℕ} {n i : ℕ} → Sorting size room ok fs gs n i → size ≤ i
-      → Referred (take n gs) ss n out → Referred (kept k g src) ss n out
-  sorting-second s h r = record { room = r .room; held = r .held ∙ keeping-done k g src (s .second) h .front; behind = r .behind }
+  pub sorting-second : {size room : ℕ} {ok : Bool} {fs gs : List ℕ} {n i : ℕ} → Sorting size room ok fs gs n i → size ≤ i → Front room (kept k g src) n gs
+  sorting-second s h = keeping-done k g src (s .second) h

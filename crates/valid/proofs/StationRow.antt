@@ -1,4 +1,4 @@
--- A station's row, and a proper part of a frame by its first bytes: the tests come to `stationTest`. Assumes nothing.
+-- A station's row, and a proper part of a frame by its first bytes: the tests come to `streamTest` and `stationTest`. Assumes nothing.
 use mathlib.Core.Path.{_≡_, refl, sym, ap, ap₂, _∙_}
 use mathlib.Core.Bool.{Bool, true, false, not, _&&_, and-true, and-assoc, or-true, or-false}
 use mathlib.Core.List.{List, [], _∷_}
@@ -13,14 +13,15 @@ use Rattle.table.specs.Lists.{pad, named-take}
 use Rattle.table.specs.Rows.{testRows}
 use Rattle.rules.specs.Basic.{all, member, isEmpty}
 use Rattle.rules.specs.Frame.{lengthOf, framedBy, framed}
-use Rattle.rules.specs.Memory.{same, stationRow, pendingRow, stationAt, stationWords, countWord, brokenWord, pendingBytes}
-use Rattle.rules.specs.State.{stationCount}
-use Rattle.rules.specs.Valid.{isByte, isPart, streamValid}
+use Rattle.rules.specs.Memory.{same, stationRow, pendingRow, stationAt, stationWords, countWord, brokenWord, clientWord, levelWord, pendingBytes}
+use Rattle.rules.specs.Station.{Station}
+use Rattle.rules.specs.State.{stationCount, clientToken}
+use Rattle.rules.specs.Valid.{isByte, isPart, streamValid, levelValid}
 use Rattle.rules.proofs.Logic.{and-l, and-r}
 use Rattle.stream.specs.Meaning.{framedOf, FramedAs}
 use Rattle.stream.specs.declared.Framed.{Framed}
 use Rattle.stream.specs.declared.Framed.the-variants as what
-use Rattle.valid.specs.Tests.{isZero, stationTest, idleTest, allIdle}
+use Rattle.valid.specs.Tests.{isZero, streamTest, levelTest, stationTest, idleTest, allIdle}
 use Rattle.valid.proofs.Truth.{same-tests, implies-or, all-below, all-append, eqb-same}
 use Rattle.valid.proofs.Same.{same-pad-take, cut-mark, cut-count}
 
@@ -50,24 +51,24 @@ empty-length [] = refl
 empty-length (x ∷ xs) = ne-eqb (suc (length xs)) 0 (λ h. omega arith)
 
 module _ (ws bs : List ℕ) (lw : length ws ≡ stationWords) (lb : length bs ≡ pendingBytes) where
-  station-same : stationTest ws bs
+  stream-same : streamTest ws bs
       ≡ (leb (getD ws countWord 0) pendingBytes && ltb (getD ws brokenWord 0) 2 && same (pad pendingBytes (take (getD ws countWord 0) bs)) bs && streamValid (stationAt ws bs))
-  unfolding stationTest stationAt stationRow pendingRow same
-  station-same =
+  unfolding streamTest stationAt stationRow pendingRow same
+  stream-same =
       let e : same (stationRow (stationAt ws bs)) ws ≡ (leb (getD ws countWord 0) pendingBytes && ltb (getD ws brokenWord 0) 2) =
       ap (same (stationRow (stationAt ws bs))) (sym (named-take stationWords 0 ws (omega arith) ∙ take-all stationWords ws (omega arith)))
       ∙ simp (eqb-same, cut-mark, cut-count pendingBytes (getD ws countWord 0) bs lb, and-true) in
       ap (λ b. b && same (pad pendingBytes (take (getD ws countWord 0) bs)) bs && streamValid (stationAt ws bs)) e
 
-  pub too-long : pendingBytes < getD ws countWord 0 → false ≡ stationTest ws bs
-  too-long h = sym (station-same ∙ rw (lt-leb (getD ws countWord 0) pendingBytes h))
+  pub too-long : pendingBytes < getD ws countWord 0 → false ≡ streamTest ws bs
+  too-long h = sym (stream-same ∙ rw (lt-leb (getD ws countWord 0) pendingBytes h))
 
   -- nothing pending
-  pub station-idle : {z : Bool} → getD ws countWord 0 ≡ 0 → z ≡ all isZero bs → (ltb (getD ws brokenWord 0) 2 && z) ≡ stationTest ws bs
+  pub stream-idle : {z : Bool} → getD ws countWord 0 ≡ 0 → z ≡ all isZero bs → (ltb (getD ws brokenWord 0) 2 && z) ≡ streamTest ws bs
   unfolding streamValid stationAt all isPart framed framedBy lengthOf isEmpty
-  station-idle {z} e ez =
+  stream-idle {z} e ez =
       let zeros : same (pad pendingBytes []) bs ≡ all isZero bs = same-pad-take pendingBytes 0 bs lb (omega arith) ∙ ap (all isZero) (take-all pendingBytes bs (omega arith)) in
-      sym (station-same ∙ rw (e, zeros, ← ez, ← implies-or, or-true, and-true))
+      sym (stream-same ∙ rw (e, zeros, ← ez, ← implies-or, or-true, and-true))
 
 -- a mark of a stream that is not broken
 not-broken : (w : ℕ) → (ltb w 2 && not (eqb w 1)) ≡ eqb w 0
@@ -80,22 +81,37 @@ unfolding all member
 swapped a z p b = simp and-assoc (simp and-true at (same-tests (a ∷ z ∷ p ∷ b ∷ []) (0 ∷ 1 ∷ 2 ∷ 3 ∷ []) (0 ∷ 3 ∷ 2 ∷ 1 ∷ []) refl refl))
 
 -- bytes pending
-pub station-part : (ws bs : List ℕ) → ((i : ℕ) → getD bs i 0 < 256) → {p z : Bool} → length ws ≡ stationWords → length bs ≡ pendingBytes
+pub stream-part : (ws bs : List ℕ) → ((i : ℕ) → getD bs i 0 < 256) → {p z : Bool} → length ws ≡ stationWords → length bs ≡ pendingBytes
     → (getD ws countWord 0 ≡ 0 → ⊥) → getD ws countWord 0 ≤ pendingBytes
     → p ≡ isPart (framed (take (getD ws countWord 0 - 0) bs)) → z ≡ all isZero (take (pendingBytes - getD ws countWord 0) (drop (getD ws countWord 0) bs))
-    → (eqb (getD ws brokenWord 0) 0 && p && z) ≡ stationTest ws bs
+    → (eqb (getD ws brokenWord 0) 0 && p && z) ≡ streamTest ws bs
 unfolding streamValid stationAt isByte
-station-part ws bs kb {p} {z} lw lb nz h ep ez =
+stream-part ws bs kb {p} {z} lw lb nz h ep ez =
     let n : ℕ = getD ws countWord 0 in
     let a : p ≡ isPart (framed (take n bs)) = ep ∙ ap (λ (k : ℕ). isPart (framed (take k bs))) {x = n - 0} {y = n} (omega arith) in
     let e : isEmpty (take n bs) ≡ false = sym (empty-length (take n bs)) ∙ ap (λ (k : ℕ). eqb k 0) (length-take-le n bs (omega arith)) ∙ ne-eqb n 0 nz in
     sym
-    (station-same ws bs lw lb
+    (stream-same ws bs lw lb
     ∙ rw (le-leb n pendingBytes h, same-pad-take pendingBytes n bs lb h, ← ez, all-below 256 bs kb n, ← a, e, ← implies-or, or-false)
     (swapped (ltb (getD ws brokenWord 0) 2) z p (not (eqb (getD ws brokenWord 0) 1)))
     ∙ ap (λ b. b && p && z) (not-broken (getD ws brokenWord 0)))
 
+-- ---- with the level
+
+with-level : (ws bs : List ℕ) → (streamTest ws bs && levelTest ws) ≡ stationTest ws bs
+unfolding streamTest stationTest stationAt levelValid clientToken
+with-level ws bs =
+    let x : Station = stationAt ws bs in
+    and-assoc (same (stationRow x) ws && same (pendingRow x) bs) (streamValid x) (levelTest ws)
+    ∙ ap (λ b. same (stationRow x) ws && same (pendingRow x) bs && (streamValid x && b)) (implies-or (eqb (getD ws clientWord 0) 0) (eqb (getD ws levelWord 0) 0))
+
+pub at-station : (ws bs : List ℕ) {s l : Bool} → s ≡ streamTest ws bs → l ≡ levelTest ws → (s && l) ≡ stationTest ws bs
+at-station ws bs es el = ap₂ (λ a b. a && b) es el ∙ with-level ws bs
+
 -- ---- rows that are all idle
+
+pub at-idle : (ws : List ℕ) {l : Bool} → l ≡ levelTest ws → (eqb (getD ws countWord 0) 0 && ltb (getD ws brokenWord 0) 2 && l) ≡ idleTest ws
+at-idle ws e = ap (λ b. eqb (getD ws countWord 0) 0 && ltb (getD ws brokenWord 0) 2 && b) e
 
 idle-rows : (n : ℕ) (xs bs : List ℕ) → length xs ≡ n * stationWords → length bs ≡ n * pendingBytes
     → testRows {B = ℕ} (λ row none. idleTest row) stationWords 0 n xs [] ≡ true → testRows stationTest stationWords pendingBytes n xs bs ≡ all isZero bs
@@ -106,8 +122,11 @@ idle-rows (suc n) xs bs lx lb h =
     let ws : List ℕ = take stationWords xs in
     let ps : List ℕ = take pendingBytes bs in
     let idle : idleTest ws ≡ true = and-l (idleTest ws) _ h in
-    let row : stationTest ws ps ≡ all isZero ps =
-    sym (sym (rw (and-r (eqb (getD ws countWord 0) 0) _ idle)) ∙ station-idle ws ps (length-take-le stationWords xs (omega (arith, suc-mul n stationWords))) (length-take-le pendingBytes bs (omega (arith, suc-mul n pendingBytes))) (eqb-true (getD ws countWord 0) 0 (and-l (eqb (getD ws countWord 0) 0) _ idle)) refl) in
+    let quiet : (eqb (getD ws countWord 0) 0 && ltb (getD ws brokenWord 0) 2) ≡ true = and-l _ (levelTest ws) idle in
+    let level : levelTest ws ≡ true = and-r (eqb (getD ws countWord 0) 0 && ltb (getD ws brokenWord 0) 2) (levelTest ws) idle in
+    let stream : streamTest ws ps ≡ all isZero ps =
+    sym (sym (rw (and-r (eqb (getD ws countWord 0) 0) _ quiet)) ∙ stream-idle ws ps (length-take-le stationWords xs (omega (arith, suc-mul n stationWords))) (length-take-le pendingBytes bs (omega (arith, suc-mul n pendingBytes))) (eqb-true (getD ws countWord 0) 0 (and-l (eqb (getD ws countWord 0) 0) _ quiet)) refl) in
+    let row : stationTest ws ps ≡ all isZero ps = sym (at-station ws ps refl refl) ∙ ap₂ (λ a b. a && b) stream level ∙ and-true (all isZero ps) in
     ap₂ (λ a b. a && b) row
     (idle-rows n (drop stationWords xs) (drop pendingBytes bs) (length-drop stationWords xs ∙ omega (arith, lx, suc-mul n stationWords)) (length-drop pendingBytes bs ∙ omega (arith, lb, suc-mul n pendingBytes)) (and-r (idleTest ws) _ h))
     ∙ sym (all-append isZero ps (drop pendingBytes bs))

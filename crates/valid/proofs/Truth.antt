@@ -83,6 +83,11 @@ module _ {A : Type 0} where
       by true e = e
       by false e = refl
 
+pub all-swap : {A B : Type 0} (f : A → B → Bool) (xs : List A) (ys : List B) → all (λ x. all (f x) ys) xs ≡ all (λ y. all (λ x. f x y) xs) ys
+unfolding all
+all-swap f [] ys = sym (all-holds (λ y. true) (λ y. refl) ys)
+all-swap f (x ∷ xs) ys = ap (λ b. all (f x) ys && b) (all-swap f xs ys) ∙ all-and (f x) (λ y. all (λ x. f x y) xs) ys
+
 pub all-map : {A B : Type 0} (f : A → B) (p : B → Bool) (xs : List A) → all p (map f xs) ≡ all (λ x. p (f x)) xs
 unfolding all
 all-map f p [] = refl

@@ -6,51 +6,52 @@ use Prim.Native.Nat.{ℕ, _+_, _-_, _*_, _^_, _<_}
 use native.Mathlib.Omega.{arith}
 use borrow.Author.Tests.{eq-eqb, le-leb}
 use lib.Dec.{eqb, leb}
-use lib.ListN.{length, take, drop, length-drop, length-map, take-append-drop}
-use lib.Seq.{length-take-le, take-all, take-take}
+use lib.ListN.{length, take, drop, length-drop, length-map}
+use lib.Seq.{length-take-le, take-take}
 use Rattle.table.specs.Lists.{named-take}
 use Rattle.table.specs.Table.{flat, length-flat}
 use Rattle.table.specs.Rows.{readRows, testRows, length-rows}
 use Rattle.handle.specs.declared.Handle as code
 use Rattle.handle.specs.Meaning.{handleOf}
-use Rattle.rules.specs.Basic.{all, member, distinct}
+use Rattle.rules.specs.Basic.{all, member, distinct, nonZero}
 use Rattle.rules.specs.Number.{max32, max64}
 use Rattle.rules.specs.Token.{Token, maxDacl}
 use Rattle.rules.specs.Table.{Slot, lives}
 use Rattle.rules.specs.Handle.{Handle}
 use Rattle.rules.specs.Station.{Station}
 use Rattle.rules.specs.State as State
-use Rattle.rules.specs.State.{tokenSlots, handleSlots, stationCount, numberOf, handleNumber, handleToken, stationToken, references}
+use Rattle.rules.specs.State.{tokenSlots, handleSlots, stationCount, numberOf, handleNumber, handleToken, stationToken, clientToken, references}
 use Rattle.rules.specs.Valid as Valid
-use Rattle.rules.specs.Valid.{between, tableValid, tokenValid, handleValid, streamValid, isToken, primaryAtStation}
+use Rattle.rules.specs.Valid.{between, tableValid, tokenValid, handleValid, streamValid, levelValid, isToken, primaryAtStation, clientFits, clientAtStations}
 use Rattle.rules.specs.Memory.{Memory, same, sameHandles, sameMemory, sized, isImage, valid, encode, decode, slotAt, slotRow, slotDacl, slotHandle, handleAt, stationAt, stationRow, counters, sections, control, pendingRow, tokenWords, counterWords, stationWords, controlWords, nextToken, nextHandle, stationsIn, pendingBytes}
 use Rattle.rules.proofs.Same.{same-refl}
 use Rattle.rules.proofs.Rows.{length-slotRow, length-slotDacl, length-stationRow, length-pendingRow}
-use Rattle.valid.specs.Tests.{slotTest, tokenTest, stationTest, columnBy, firstWord, otherWord, tokenIn, kept, nonzero, Front, Referred, tally, isGiven, isApart, isReferred, refsTest, fieldsTest, numbersTest, linksTest, partsTest}
+use Rattle.valid.specs.Tests.{slotTest, tokenTest, stationTest, columnBy, firstWord, otherWord, tokenIn, clientIn, kept, nonzero, Front, stationReferences, Referred, tally, isGiven, isApart, isReferred, refsTest, fieldsTest, clientsTest, numbersTest, linksTest, partsTest}
 use Rattle.valid.specs.Meaning as Meaning
 use Rattle.valid.specs.Meaning.{memoryOf, Lent, tokenOf, fieldsOf}
-use Rattle.valid.proofs.Truth.{same-tests, all-cong, all-map}
+use Rattle.valid.proofs.Truth.{same-tests, all-cong, all-and, all-map}
 use Rattle.valid.proofs.Counts.{listed, referred}
 use Rattle.valid.proofs.Same.{allSame, same-joined, same-rows}
 use Rattle.valid.proofs.TokenRow.{drop-take}
+use Rattle.valid.proofs.Acting.{all-references, member-references, clients}
 use Rattle.valid.proofs.Lists.{given, kept-map, kept-lives, token-numbers, primaryIn, other-numbers, station-tokens, all-lives, fields}
 
 -- ---- the tests, as they stand in the code and as they stand in the rules
 
 -- L′ is L where A₁ holds
-shuffle : (T D H S P a A₁ A₂ b B₁ B₂ c E F G L R Q : Bool) {L′ : Bool} → (A₁ ≡ true → L′ ≡ L)
-    → ((T && D && E) && (S && P && G) && ((H && F) && ((a && (A₁ && A₂)) && (b && (B₁ && B₂)) && c && (R && L′) && Q)))
-    ≡ ((T && D && H && S && P) && ((a && A₁ && A₂) && (b && c && B₁ && B₂) && E && F && G && L && R && Q))
+shuffle : (T D H S P a A₁ A₂ b B₁ B₂ c E F G L R Q C I : Bool) {L′ : Bool} → (A₁ ≡ true → L′ ≡ L)
+    → ((T && D && E) && (S && P && (G && I)) && ((H && F) && ((a && (A₁ && A₂)) && (b && (B₁ && B₂)) && c && (R && L′) && Q) && C))
+    ≡ ((T && D && H && S && P) && ((a && A₁ && A₂) && (b && c && B₁ && B₂) && E && F && G && L && R && Q && C && I))
 unfolding all member
-shuffle T D H S P a false A₂ b B₁ B₂ c E F G L R Q l = simp (and-false)
-shuffle T D H S P a true A₂ b B₁ B₂ c E F G L R Q l =
+shuffle T D H S P a false A₂ b B₁ B₂ c E F G L R Q C I l = simp (and-false)
+shuffle T D H S P a true A₂ b B₁ B₂ c E F G L R Q C I l =
     rw (l refl)
     (simp and-assoc
     (simp and-true at
     (same-tests
-    (T ∷ D ∷ E ∷ S ∷ P ∷ G ∷ H ∷ F ∷ a ∷ A₂ ∷ b ∷ B₁ ∷ B₂ ∷ c ∷ R ∷ L ∷ Q ∷ [])
-    (0 ∷ 1 ∷ 2 ∷ 3 ∷ 4 ∷ 5 ∷ 6 ∷ 7 ∷ 8 ∷ 9 ∷ 10 ∷ 11 ∷ 12 ∷ 13 ∷ 14 ∷ 15 ∷ 16 ∷ [])
-    (0 ∷ 1 ∷ 6 ∷ 3 ∷ 4 ∷ 8 ∷ 9 ∷ 10 ∷ 13 ∷ 11 ∷ 12 ∷ 2 ∷ 7 ∷ 5 ∷ 15 ∷ 14 ∷ 16 ∷ [])
+    (T ∷ D ∷ E ∷ S ∷ P ∷ G ∷ I ∷ H ∷ F ∷ a ∷ A₂ ∷ b ∷ B₁ ∷ B₂ ∷ c ∷ R ∷ L ∷ Q ∷ C ∷ [])
+    (0 ∷ 1 ∷ 2 ∷ 3 ∷ 4 ∷ 5 ∷ 6 ∷ 7 ∷ 8 ∷ 9 ∷ 10 ∷ 11 ∷ 12 ∷ 13 ∷ 14 ∷ 15 ∷ 16 ∷ 17 ∷ 18 ∷ [])
+    (0 ∷ 1 ∷ 7 ∷ 3 ∷ 4 ∷ 9 ∷ 10 ∷ 11 ∷ 14 ∷ 12 ∷ 13 ∷ 2 ∷ 8 ∷ 5 ∷ 16 ∷ 15 ∷ 17 ∷ 18 ∷ 6 ∷ [])
     refl refl)))
 
 module _ (m : Memory)
@@ -81,17 +82,17 @@ module _ (m : Memory)
       ∙ rw (counted, long, and-true)
 
   stations-tested : let xs : List Station = readRows stationAt stationWords pendingBytes stationCount (stationsIn (m .control)) (m .pending) in
-      (same (control (decode m)) (m .control) && same (flat pendingRow xs) (m .pending) && all streamValid xs)
+      (same (control (decode m)) (m .control) && same (flat pendingRow xs) (m .pending) && (all streamValid xs && all levelValid xs))
       ≡ testRows stationTest stationWords pendingBytes stationCount (stationsIn (m .control)) (m .pending)
   unfolding stationTest
   stations-tested =
       let xs : List Station = readRows stationAt stationWords pendingBytes stationCount (stationsIn (m .control)) (m .pending) in
-      ap (λ b. b && same (flat pendingRow xs) (m .pending) && all streamValid xs) control-tested
-      ∙ same-rows stationAt stationWords pendingBytes streamValid stationRow pendingRow length-stationRow length-pendingRow stationCount
+      ap₂ (λ b v. b && same (flat pendingRow xs) (m .pending) && v) control-tested (all-and streamValid levelValid xs)
+      ∙ same-rows stationAt stationWords pendingBytes (λ x. streamValid x && levelValid x) stationRow pendingRow length-stationRow length-pendingRow stationCount
       (stationsIn (m .control)) (m .pending) (length-take-le (stationCount * stationWords) (drop counterWords (m .control)) (simp length-drop (omega arith))) lp
 
   pub parts : partsTest m ≡ (isImage m && Valid.valid (decode m))
-  unfolding partsTest linksTest numbersTest refsTest isImage sameMemory encode decode Valid.valid tableValid between references isToken State.isReferred primaryAtStation primaryIn numberOf
+  unfolding partsTest linksTest numbersTest refsTest isImage sameMemory encode decode Valid.valid tableValid between references isToken State.isReferred primaryAtStation primaryIn clientAtStations numberOf
   parts =
       let rows : List (Slot Token) = readRows slotAt tokenWords maxDacl tokenSlots (m .tokens) (m .dacls) in
       let xs : List Station = readRows stationAt stationWords pendingBytes stationCount (stationsIn (m .control)) (m .pending) in
@@ -100,8 +101,10 @@ module _ (m : Memory)
       let col : List ℕ = columnBy firstWord tokenWords tokenSlots (m .tokens) in
       let ns : List ℕ = nonzero col in
       let ss : List ℕ = columnBy tokenIn stationWords stationCount (stationsIn (m .control)) in
+      let nz : List ℕ = nonZero (map clientToken xs) in
       let hn : List ℕ = kept handleNumber handleNumber hs in
       let ht : List ℕ = kept handleNumber handleToken hs in
+      let rs : List ℕ = ht ++ ss ++ columnBy clientIn stationWords stationCount (stationsIn (m .control)) in
       let tn : List ℕ = map numberOf (lives rows) in
       let nt : ℕ = nextToken (m .control) in
       let nh : ℕ = nextHandle (m .control) in
@@ -111,9 +114,12 @@ module _ (m : Memory)
       let et : map handleToken hl ≡ ht = kept-lives handleToken hs in
       let g₁ : (leb 1 nt && all (isGiven nt ns) ns) ≡ (leb 1 nt && (distinct tn && all (between 1 (nt - 1)) tn)) = sym (rw en (given (λ x. x) nt col)) in
       let g₂ : (leb 1 nh && all (isGiven nh hn) hn) ≡ (leb 1 nh && (distinct (map handleNumber hl) && all (between 1 (nh - 1)) (map handleNumber hl))) = sym (rw eh (given handleNumber nh hs)) in
-      let l : distinct tn ≡ true → eqb (tally ns (ht ++ ss)) (length (ht ++ ss)) ≡ all (λ n. member n tn) (map handleToken hl ++ map stationToken xs) = λ d. sym (rw (en, et, es) (sym (listed ns (sym (ap distinct en) ∙ d) (ht ++ ss)))) in
-      let r : all (isReferred (ht ++ ss)) ns ≡ all (λ t. member (t .number) (map handleToken hl ++ map stationToken xs)) (lives rows) =
-      sym (sym (all-map numberOf (λ n. member n (map handleToken hl ++ map stationToken xs)) (lives rows)) ∙ rw (en, es, et) (all-cong _ _ (λ x. sym (referred (ht ++ ss) x)) ns)) in
+      let l : distinct tn ≡ true → eqb (tally ns rs) (length rs) ≡ all (λ n. member n tn) (map handleToken hl ++ map stationToken xs ++ nz) =
+      λ d. sym (rw (en, et, es) (sym (listed ns (sym (ap distinct en) ∙ d) rs ∙ all-references (λ n. member n ns) ht stationCount (stationsIn (m .control)) (m .pending)))) in
+      let r : all (isReferred rs) ns ≡ all (λ t. member (t .number) (map handleToken hl ++ map stationToken xs ++ nz)) (lives rows) =
+      sym
+      (sym (all-map numberOf (λ n. member n (map handleToken hl ++ map stationToken xs ++ nz)) (lives rows))
+      ∙ rw (en, es, et) (all-cong _ _ (λ x. sym (referred rs x ∙ member-references x ht stationCount (stationsIn (m .control)) (m .pending))) ns)) in
       let q : all (isApart ss) (nonzero (columnBy otherWord tokenWords tokenSlots (m .tokens))) ≡ all (primaryIn (map stationToken xs)) (lives rows) =
       sym (ap (λ zs. all (primaryIn zs) (lives rows)) es ∙ other-numbers ss tokenSlots (m .tokens) (m .dacls)) in
       let c₁ : eqb (length rows) tokenSlots ≡ true = eq-eqb (length rows) tokenSlots (length-rows slotAt tokenWords maxDacl tokenSlots (m .tokens) (m .dacls)) in
@@ -121,51 +127,51 @@ module _ (m : Memory)
       let c₃ : eqb (length xs) stationCount ≡ true = eq-eqb (length xs) stationCount (length-rows stationAt stationWords pendingBytes stationCount (stationsIn (m .control)) (m .pending)) in
       let c₄ : leb nt max64 ≡ true = le-leb nt max64 (omega arith) in
       ap₂ _&&_ (ap₂ _&&_ (sym tokens-tested) (sym stations-tested))
-      (ap₂ _&&_ (sym (fields hs)) (ap₂ _&&_ (ap₂ _&&_ (ap (λ b. b && leb nh max32) (ap₂ _&&_ g₁ g₂)) (ap (λ b. b && eqb (tally ns (ht ++ ss)) (length (ht ++ ss))) r)) q))
+      (ap₂ _&&_ (ap₂ _&&_ (sym (fields hs)) (ap₂ _&&_ (ap₂ _&&_ (ap (λ b. b && leb nh max32) (ap₂ _&&_ g₁ g₂)) (ap (λ b. b && eqb (tally ns rs) (length rs)) r)) q))
+      (sym (clients (m .tokens) (m .dacls) stationCount (stationsIn (m .control)) (m .pending))))
       ∙ shuffle
       (same (flat slotRow rows) (m .tokens)) (same (flat slotDacl rows) (m .dacls)) (sameHandles (map slotHandle (map handleAt hs)) hs)
       (same (control (decode m)) (m .control)) (same (flat pendingRow xs) (m .pending))
       (leb 1 nt) (distinct tn) (all (between 1 (nt - 1)) tn)
       (leb 1 nh) (distinct (map handleNumber hl)) (all (between 1 (nh - 1)) (map handleNumber hl)) (leb nh max32)
       (all tokenValid (lives rows)) (all handleValid hl) (all streamValid xs)
-      (all (λ n. member n tn) (map handleToken hl ++ map stationToken xs))
-      (all (λ t. member (t .number) (map handleToken hl ++ map stationToken xs)) (lives rows)) (all (primaryIn (map stationToken xs)) (lives rows))
+      (all (λ n. member n tn) (map handleToken hl ++ map stationToken xs ++ nz))
+      (all (λ t. member (t .number) (map handleToken hl ++ map stationToken xs ++ nz)) (lives rows)) (all (primaryIn (map stationToken xs)) (lives rows))
+      (all (λ t. all (clientFits t) xs) (lives rows)) (all levelValid xs)
       l
       ∙ sym (rw (c₁, c₂, c₃, c₄, and-true, and-true))
 
 -- ---- with what the code has at each return
 
 pub at-numbers : (ns os hs rs : List ℕ) (h nt nh : ℕ) {a b r q : Bool}
-    → a ≡ all (isGiven nt ns) ns → b ≡ all (isGiven nh hs) hs → r ≡ refsTest ns rs → q ≡ all (isApart (take (length rs - h) (drop h rs))) os
-    → ((leb 1 nt && a) && (leb 1 nh && b) && leb nh max32 && r && q) ≡ numbersTest ns os hs (take h rs) (drop h rs) nt nh
+    → a ≡ all (isGiven nt ns) ns → b ≡ all (isGiven nh hs) hs → r ≡ refsTest ns rs → q ≡ all (isApart (take (h + stationCount - h) (drop h rs))) os
+    → ((leb 1 nt && a) && (leb 1 nh && b) && leb nh max32 && r && q) ≡ numbersTest ns os hs rs (take stationCount (drop h rs)) nt nh
 unfolding numbersTest
 at-numbers ns os hs rs h nt nh ea eb er eq =
-    let e : refsTest ns rs ≡ refsTest ns (take h rs ++ drop h rs) = ap (refsTest ns) (sym (take-append-drop h rs)) in
-    let d : take (length rs - h) (drop h rs) ≡ drop h rs = take-all (length rs - h) (drop h rs) (simp length-drop (omega arith)) in
+    let d : h + stationCount - h ≡ stationCount = omega arith in
     cc
 
 pub at-fronts : (ns os hs rs : List ℕ) (n o h nt nh : ℕ) {r : Bool}
-    → r ≡ numbersTest (take (n - 0) ns) (take (o - 0) os) (take (h - 0) hs) (take h (take (h + stationCount - 0) rs)) (drop h (take (h + stationCount - 0) rs)) nt nh
-    → r ≡ numbersTest (take n ns) (take o os) (take h hs) (take h rs) (take stationCount (drop h rs)) nt nh
+    → r ≡ numbersTest (take (n - 0) ns) (take (o - 0) os) (take (h - 0) hs) (take (h + stationReferences - 0) rs) (take stationCount (drop h (take (h + stationReferences - 0) rs))) nt nh
+    → r ≡ numbersTest (take n ns) (take o os) (take h hs) (take (h + stationReferences) rs) (take stationCount (drop h rs)) nt nh
 at-fronts ns os hs rs n o h nt nh e =
     let c : (k : ℕ) → k - 0 ≡ k = λ k. omega arith in
-    let t : take h (take (h + stationCount - 0) rs) ≡ take h rs = take-take h (h + stationCount - 0) rs (omega arith) in
-    let d : drop h (take (h + stationCount - 0) rs) ≡ take stationCount (drop h rs) =
-    drop-take h (h + stationCount - 0) rs ∙ ap (λ (k : ℕ). take k (drop h rs)) {x = h + stationCount - 0 - h} {y = stationCount} (omega arith) in
-    cc (c n, c o, c h)
+    let d : take stationCount (drop h (take (h + stationReferences - 0) rs)) ≡ take stationCount (drop h rs) =
+    ap (take stationCount) (drop-take h (h + stationReferences - 0) rs) ∙ take-take stationCount (h + stationReferences - 0 - h) (drop h rs) (omega arith) in
+    cc (c n, c o, c h, c (h + stationReferences))
 
-pub at-links : (ts : List ℕ) (hs : List code.Handle) (cs : List ℕ) {ns os hn rs : List ℕ} {n o h : ℕ} {f r : Bool}
-    → r ≡ numbersTest (take n ns) (take o os) (take h hn) (take h rs) (take stationCount (drop h rs)) (nextToken cs) (nextHandle cs)
+pub at-links : (ts : List ℕ) (hs : List code.Handle) (cs : List ℕ) {ns os hn rs : List ℕ} {n o h : ℕ} {f r q : Bool}
+    → r ≡ numbersTest (take n ns) (take o os) (take h hn) (take (h + stationReferences) rs) (take stationCount (drop h rs)) (nextToken cs) (nextHandle cs)
     → Front tokenSlots (nonzero (columnBy firstWord tokenWords tokenSlots ts)) n ns → Front tokenSlots (nonzero (columnBy otherWord tokenWords tokenSlots ts)) o os
     → Front handleSlots (kept Meaning.numberOf Meaning.numberOf hs) h hn
-    → Referred (kept Meaning.numberOf tokenOf hs) (columnBy tokenIn stationWords stationCount (stationsIn cs)) h rs
-    → f ≡ all fieldsOf hs → (f && r) ≡ linksTest ts (map handleOf hs) cs
+    → Referred (kept Meaning.numberOf tokenOf hs) (columnBy tokenIn stationWords stationCount (stationsIn cs)) (columnBy clientIn stationWords stationCount (stationsIn cs)) h rs
+    → f ≡ all fieldsOf hs → q ≡ clientsTest ts (stationsIn cs) → (f && r && q) ≡ linksTest ts (map handleOf hs) cs
 unfolding linksTest handleNumber handleToken
-at-links ts hs cs {hn = hn} {rs = rs} {h = h} er en eo eh ek ef =
+at-links ts hs cs {hn = hn} {rs = rs} {h = h} er en eo eh ek ef eq =
     let z : all fieldsOf hs ≡ all fieldsTest (map handleOf hs) = sym (all-map handleOf fieldsTest hs) in
     let u : take h hn ≡ kept handleNumber handleNumber (map handleOf hs) = eh .front ∙ sym (kept-map handleNumber handleNumber handleOf hs) in
-    let v : take h rs ≡ kept handleNumber handleToken (map handleOf hs) = ek .held ∙ sym (kept-map handleNumber handleToken handleOf hs) in
-    cc (en .front, eo .front, ek .behind)
+    let v : kept Meaning.numberOf tokenOf hs ≡ kept handleNumber handleToken (map handleOf hs) = sym (kept-map handleNumber handleToken handleOf hs) in
+    cc (en .front, eo .front, ek .front, ek .primaries)
 
 pub at-parts : (ts ds : List ℕ) (hs : List code.Handle) (cs ps : List ℕ) {t s l : Bool}
     → t ≡ testRows tokenTest tokenWords maxDacl tokenSlots ts ds

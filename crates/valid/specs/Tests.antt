@@ -11,13 +11,14 @@ use Rattle.table.specs.Rows.{testRows}
 use Rattle.rules.specs.Basic.{if_then_else_, all}
 use Rattle.rules.specs.Number.{max32}
 use Rattle.rules.specs.Privileges.{existing}
-use Rattle.rules.specs.Token.{maxGroups, maxRestricting, maxDacl, primary}
+use Rattle.rules.specs.Token.{maxGroups, maxRestricting, maxDacl, primary, impersonation}
 use Rattle.rules.specs.Table.{Slot, free, live}
 use Rattle.rules.specs.Handle.{Handle}
+use Rattle.rules.specs.Station.{Station}
 use Rattle.rules.specs.State.{handleNumber, handleToken, tokenSlots, handleSlots, stationCount}
-use Rattle.rules.specs.Valid.{groupValid, tokenValid, handleValid, streamValid}
+use Rattle.rules.specs.Valid.{groupValid, tokenValid, handleValid, streamValid, levelValid}
 use Rattle.rules.specs.Head as Head
-use Rattle.rules.specs.Memory.{Memory, same, slotRow, slotDacl, slotAt, tokenRow, daclRow, tokenAt, stationRow, pendingRow, stationAt, unpack, word32, headWords, tokenWords, stationWords, primaryWord, countWord, brokenWord, nextToken, nextHandle, stationsIn, pendingBytes}
+use Rattle.rules.specs.Memory.{Memory, same, slotRow, slotDacl, slotAt, tokenRow, daclRow, tokenAt, stationRow, pendingRow, stationAt, unpack, word32, headWords, tokenWords, stationWords, primaryWord, countWord, brokenWord, clientWord, levelWord, nextToken, nextHandle, stationsIn, pendingBytes}
 
 abbrev pub isZero : ℕ → Bool
 isZero w = eqb w 0
@@ -83,9 +84,9 @@ carriedTo w = (bitAnd w 0xC000001400000000 + 0x4000000C00000000) % 2 ^ 64
 abbrev pub headTest : List ℕ → Bool
 headTest ws =
     isNarrow (getD ws Head.user 0)
-    && (leb 1 (getD ws Head.type 0) && leb (getD ws Head.type 0) 2)
+    && (leb primary (getD ws Head.type 0) && leb (getD ws Head.type 0) impersonation)
     && leb (getD ws Head.level 0) 3
-    && (not (eqb (getD ws Head.type 0) 1) || eqb (getD ws Head.level 0) 0)
+    && (not (eqb (getD ws Head.type 0) primary) || eqb (getD ws Head.level 0) 0)
     && (leb 1 (getD ws Head.elevation 0) && leb (getD ws Head.elevation 0) 3)
     && ltb (getD ws Head.writeRestricted 0) 2
     && ltb (getD ws Head.userDenyOnly 0) 2
@@ -98,12 +99,23 @@ headTest ws =
 
 -- ---- a station's row
 
-unfoldable pub stationTest : List ℕ → List ℕ → Bool
-stationTest ws bs = same (stationRow (stationAt ws bs)) ws && same (pendingRow (stationAt ws bs)) bs && streamValid (stationAt ws bs)
+-- it is what the station in it is written as, which passes p
+abbrev pub rowTest : (Station → Bool) → List ℕ → List ℕ → Bool
+rowTest p ws bs = same (stationRow (stationAt ws bs)) ws && same (pendingRow (stationAt ws bs)) bs && p (stationAt ws bs)
 
--- nothing pending
+unfoldable pub streamTest : List ℕ → List ℕ → Bool
+streamTest ws bs = rowTest streamValid ws bs
+
+unfoldable pub stationTest : List ℕ → List ℕ → Bool
+stationTest ws bs = rowTest (λ x. streamValid x && levelValid x) ws bs
+
+-- the level is 0 where the station acts for none
+abbrev pub levelTest : List ℕ → Bool
+levelTest ws = not (eqb (getD ws clientWord 0) 0) || eqb (getD ws levelWord 0) 0
+
+-- nothing pending, and no level without a client
 abbrev pub idleTest : List ℕ → Bool
-idleTest ws = eqb (getD ws countWord 0) 0 && ltb (getD ws brokenWord 0) 2
+idleTest ws = eqb (getD ws countWord 0) 0 && ltb (getD ws brokenWord 0) 2 && levelTest ws
 
 -- of each row; the bytes beside it are not looked at
 abbrev pub allIdle : List ℕ → Bool
@@ -121,6 +133,10 @@ firstWord row = getD row Head.number 0
 -- a station's primary token
 abbrev pub tokenIn : List ℕ → ℕ
 tokenIn row = getD row primaryWord 0
+
+-- the token that a station acts for; its primary one again where there is none, so that every station has one
+abbrev pub clientIn : List ℕ → ℕ
+clientIn row = if eqb (getD row clientWord 0) 0 then getD row primaryWord 0 else getD row clientWord 0
 
 -- the number of a token that is not primary, else 0
 abbrev pub otherWord : List ℕ → ℕ
@@ -147,16 +163,26 @@ pub record Front (size : ℕ) (xs : List ℕ) (n : ℕ) (items : List ℕ) : Typ
   pub room : Room size n items
   pub front : take n items ≡ xs
 
--- the references of handles and stations
+-- the references of handles and stations: each station has two
+
+abbrev pub stationReferences : ℕ
+stationReferences = stationCount + stationCount
 
 abbrev pub referenceSlots : ℕ
-referenceSlots = handleSlots + stationCount
+referenceSlots = handleSlots + stationReferences
 
--- an array has n handles' tokens in its front, which are ts, and behind them the stations', which are ss
-pub record Referred (ts ss : List ℕ) (n : ℕ) (items : List ℕ) : Type 0 where
-  pub room : Room referenceSlots (n + stationCount) items
-  pub held : take n items ≡ ts
-  pub behind : take stationCount (drop n items) ≡ ss
+-- f of every station's row is written behind the first n elements of an array
+pub record Added (f : List ℕ → ℕ) (n : ℕ) (ws before items : List ℕ) : Type 0 where
+  pub long : length items ≡ referenceSlots
+  pub held : take n items ≡ take n before
+  pub behind : take stationCount (drop n items) ≡ columnBy f stationWords stationCount ws
+
+-- an array has n handles' tokens in its front, which are ts, behind them the stations' primary ones, which are ss, and those that the
+-- stations act for, which are cs
+pub record Referred (ts ss cs : List ℕ) (n : ℕ) (items : List ℕ) : Type 0 where
+  pub room : Room referenceSlots (n + stationReferences) items
+  pub front : take (n + stationReferences) items ≡ ts ++ ss ++ cs
+  pub primaries : take stationCount (drop n items) ≡ ss
 
 abbrev pub one : ℕ → ℕ → ℕ
 one x y = if eqb x y then 1 else 0
@@ -191,15 +217,33 @@ refsTest ns rs = all (isReferred rs) ns && eqb (tally ns rs) (length rs)
 abbrev pub fieldsTest : Handle → Bool
 fieldsTest h = if eqb h.number 0 then eqb h.station 0 && eqb h.token 0 && eqb h.mask 0 else handleValid h
 
+-- ---- the tokens that stations act for
+
+-- a token's row, where a station acts for token n with this level in force: it is of another, or of an impersonation token of that level or more
+abbrev pub fitTest : ℕ → ℕ → List ℕ → Bool
+fitTest n level row =
+    not (eqb n (getD row Head.number 0))
+    || (eqb (getD row Head.type 0 % 256) impersonation && leb level (getD row Head.level 0 % 256))
+
+abbrev pub allFit : ℕ → ℕ → List ℕ → Bool
+allFit n level ts = testRows {B = ℕ} (λ row none. fitTest n level row) tokenWords 0 tokenSlots ts []
+
+-- a station's row: it acts for none, or all tokens fit
+abbrev pub clientTest : List ℕ → List ℕ → Bool
+clientTest ts row = eqb (getD row clientWord 0) 0 || allFit (getD row clientWord 0) (getD row levelWord 0) ts
+
+abbrev pub clientsTest : List ℕ → List ℕ → Bool
+clientsTest ts ws = testRows {B = ℕ} (λ row none. clientTest ts row) stationWords 0 stationCount ws []
+
 -- ---- all of it
 
--- numbers of tokens, of those that are not primary, of handles, of handles' tokens and of stations' tokens
+-- numbers of tokens, of those that are not primary, of handles, of all that is referred to and of stations' primary tokens
 unfoldable pub numbersTest : List ℕ → List ℕ → List ℕ → List ℕ → List ℕ → ℕ → ℕ → Bool
-numbersTest ns os hs ts ss nextToken nextHandle =
+numbersTest ns os hs rs ss nextToken nextHandle =
     (leb 1 nextToken && all (isGiven nextToken ns) ns)
     && (leb 1 nextHandle && all (isGiven nextHandle hs) hs)
     && leb nextHandle max32
-    && refsTest ns (ts ++ ss)
+    && refsTest ns rs
     && all (isApart ss) os
 
 -- the parts of the lent memory: tokens, handles, control words
@@ -207,7 +251,10 @@ unfoldable pub linksTest : List ℕ → List Handle → List ℕ → Bool
 linksTest ts hs cs =
     all fieldsTest hs
     && numbersTest (nonzero (columnBy firstWord tokenWords tokenSlots ts)) (nonzero (columnBy otherWord tokenWords tokenSlots ts))
-    (kept handleNumber handleNumber hs) (kept handleNumber handleToken hs) (columnBy tokenIn stationWords stationCount (stationsIn cs)) (nextToken cs) (nextHandle cs)
+    (kept handleNumber handleNumber hs)
+    (kept handleNumber handleToken hs ++ columnBy tokenIn stationWords stationCount (stationsIn cs) ++ columnBy clientIn stationWords stationCount (stationsIn cs))
+    (columnBy tokenIn stationWords stationCount (stationsIn cs)) (nextToken cs) (nextHandle cs)
+    && clientsTest ts (stationsIn cs)
 
 unfoldable pub partsTest : Memory → Bool
 partsTest m =

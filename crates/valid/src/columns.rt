@@ -1,11 +1,13 @@
 // The numbers of tokens, in the order of their slots, and of stations' tokens. Those of free slots are left out, so that loops over the list are short.
 ghost use mathlib.Core.Path.{_≡_};
-ghost use Prim.Native.Nat.{_*_, _≤_};
-ghost use lib.ListN.{length, take};
-ghost use Rattle.rules.specs.State.{tokenSlots, handleSlots, stationCount};
+ghost use Prim.Native.Nat.{_+_, _*_, _≤_};
+ghost use lib.ListN.{length};
+ghost use Rattle.rules.specs.State.{tokenSlots, stationCount};
 ghost use Rattle.rules.specs.Memory.{tokenWords, stationWords};
-ghost use Rattle.valid.specs.Tests.{columnBy, firstWord, otherWord, tokenIn, nonzero, isKept, Front, referenceSlots, Referred};
+ghost use Rattle.valid.specs.Tests.{columnBy, firstWord, otherWord, tokenIn, clientIn, nonzero, isKept, Front, referenceSlots, Added};
+use crate::layout::PRIMARY;
 use crate::layout::REFERENCES;
+use control::layout::CLIENT_WORD;
 use control::layout::PRIMARY_WORD;
 use control::layout::STATION_WORDS;
 use control::layout::STATIONS;
@@ -39,7 +41,11 @@ fn other_word(row: &[u64]) -> u64
     requires { ⌜ length (now row) ≡ tokenWords ⌝ }
     ensures { λ r. ⌜ r ≡ otherWord (now (row .entry)) ⌝ }
 {
-    if row[KIND] % 256 == 1 { 0 } else { row[NUMBER] }
+    if row[KIND] % 256 == PRIMARY {
+        0
+    } else {
+        row[NUMBER]
+    }
 }
 
 // A station's primary token.
@@ -48,6 +54,18 @@ fn token_in(row: &[u64]) -> u64
     ensures { λ r. ⌜ r ≡ tokenIn (now (row .entry)) ⌝ }
 {
     row[PRIMARY_WORD]
+}
+
+// The token that a station acts for; its primary one again where there is none, so that every station has one.
+fn client_in(row: &[u64]) -> u64
+    requires { ⌜ length (now row) ≡ stationWords ⌝ }
+    ensures { λ r. ⌜ r ≡ clientIn (now (row .entry)) ⌝ }
+{
+    if row[CLIENT_WORD] == 0 {
+        row[PRIMARY_WORD]
+    } else {
+        row[CLIENT_WORD]
+    }
 }
 
 pub fn token_numbers(tokens: &[u64]) -> Given
@@ -93,10 +111,10 @@ pub fn other_numbers(tokens: &[u64]) -> Given
     }
 }
 
-// The stations' tokens, behind the first n of `referred`.
-pub fn add_stations(referred: &mut [u64; REFERENCES], n: usize, rows: &[u64])
-    requires { ⌜ (length (now referred) ≡ referenceSlots) × (n ≤ handleSlots) × (length (now rows) ≡ stationCount * stationWords) ⌝ }
-    ensures { λ _. ⌜ Referred (take n (now (referred .entry))) (columnBy tokenIn stationWords stationCount (now (rows .entry))) n (now (referred .exit)) ⌝ }
+// The stations' primary tokens, behind the first n of `referred`.
+pub fn add_primaries(referred: &mut [u64; REFERENCES], n: usize, rows: &[u64])
+    requires { ⌜ (length (now referred) ≡ referenceSlots) × (n + stationCount ≤ referenceSlots) × (length (now rows) ≡ stationCount * stationWords) ⌝ }
+    ensures { λ _. ⌜ Added tokenIn n (now (rows .entry)) (now (referred .entry)) (now (referred .exit)) ⌝ }
 {
     let mut i: usize = 0;
     while i < STATIONS {
@@ -104,6 +122,21 @@ pub fn add_stations(referred: &mut [u64; REFERENCES], n: usize, rows: &[u64])
         let end = at + STATION_WORDS;
         let behind = n + i;
         referred[behind] = token_in(&rows[at..end]);
+        i += 1;
+    }
+}
+
+// The tokens that they act for.
+pub fn add_clients(referred: &mut [u64; REFERENCES], n: usize, rows: &[u64])
+    requires { ⌜ (length (now referred) ≡ referenceSlots) × (n + stationCount ≤ referenceSlots) × (length (now rows) ≡ stationCount * stationWords) ⌝ }
+    ensures { λ _. ⌜ Added clientIn n (now (rows .entry)) (now (referred .entry)) (now (referred .exit)) ⌝ }
+{
+    let mut i: usize = 0;
+    while i < STATIONS {
+        let at = i * STATION_WORDS;
+        let end = at + STATION_WORDS;
+        let behind = n + i;
+        referred[behind] = client_in(&rows[at..end]);
         i += 1;
     }
 }

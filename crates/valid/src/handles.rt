@@ -6,9 +6,10 @@ ghost use Rattle.rules.specs.Basic.{all};
 ghost use Rattle.rules.specs.State.{handleSlots, stationCount};
 ghost use Rattle.rules.specs.Memory.{stationWords};
 ghost use Rattle.handle.specs.Words.{recordsIn};
-ghost use Rattle.valid.specs.Tests.{columnBy, tokenIn, isKept, kept, Front, Referred};
+ghost use Rattle.valid.specs.Tests.{columnBy, tokenIn, clientIn, isKept, kept, Front, Referred};
 ghost use Rattle.valid.specs.Meaning.{numberOf, tokenOf, fieldsOf};
-use crate::columns::add_stations;
+use crate::columns::add_clients;
+use crate::columns::add_primaries;
 use crate::layout::REFERENCES;
 use control::layout::STATIONS;
 use handle::HANDLE_WORDS;
@@ -17,7 +18,7 @@ use handle::SLOTS;
 use privilege::mask::Mask;
 
 // Whether the fields of all are valid; of the live ones, the first `count` of each list, their numbers and their tokens'. Behind these in
-// `referred` stand the stations' tokens, so that all references are counted in one list.
+// `referred` stand the stations' primary tokens and those that they act for, so that all references are counted in one list.
 pub struct Held {
     pub ok: bool,
     pub count: usize,
@@ -58,7 +59,7 @@ pub fn live(handles: &[u64; HANDLE_WORDS], rows: &[u64]) -> Held
     requires { ⌜ length (now rows) ≡ stationCount * stationWords ⌝ }
     ensures fields { λ r. ⌜ r .ok ≡ all fieldsOf (recordsIn (now (handles .entry))) ⌝ }
     ensures called { λ r. ⌜ Front handleSlots (kept numberOf numberOf (recordsIn (now (handles .entry)))) (r .count) (r .numbers) ⌝ }
-    ensures refers { λ r. ⌜ Referred (kept numberOf tokenOf (recordsIn (now (handles .entry)))) (columnBy tokenIn stationWords stationCount (now (rows .entry))) (r .count) (r .referred) ⌝ }
+    ensures refers { λ r. ⌜ Referred (kept numberOf tokenOf (recordsIn (now (handles .entry)))) (columnBy tokenIn stationWords stationCount (now (rows .entry))) (columnBy clientIn stationWords stationCount (now (rows .entry))) (r .count) (r .referred) ⌝ }
 {
     let mut ok = true;
     let mut numbers = [0u32; SLOTS];
@@ -73,7 +74,8 @@ pub fn live(handles: &[u64; HANDLE_WORDS], rows: &[u64]) -> Held
         n = n + is_kept(h);
         i += 1;
     }
-    add_stations(&mut referred, n, rows);
+    add_primaries(&mut referred, n, rows);
+    add_clients(&mut referred, n + STATIONS, rows);
     Held {
         ok: ok,
         count: n,

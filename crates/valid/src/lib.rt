@@ -7,9 +7,10 @@ ghost use Rattle.rules.specs.State.{tokenSlots, handleSlots, stationCount};
 ghost use Rattle.rules.specs.Memory.{tokenWords, controlWords};
 ghost use Rattle.handle.specs.Meaning.{handleOf};
 ghost use Rattle.handle.specs.Words.{recordsIn};
-ghost use Rattle.valid.specs.Tests.{Room, referenceSlots, numbersTest, linksTest, partsTest};
+ghost use Rattle.valid.specs.Tests.{Room, stationReferences, referenceSlots, numbersTest, linksTest, partsTest};
 ghost use Rattle.valid.specs.Meaning.{memoryOf, Lent};
 ghost use Rattle.valid.specs.Tested.{SizesTested, ValidTested};
+use clients::clients_valid;
 use columns::Given;
 use columns::other_numbers;
 use columns::token_numbers;
@@ -32,6 +33,7 @@ use numbers::refs_valid;
 use stations::stations_valid;
 use tokens::tokens_valid;
 
+mod clients;
 mod columns;
 mod handles;
 pub mod layout;
@@ -41,8 +43,8 @@ mod tokens;
 mod words;
 
 // The next numbers are not 0 and of their type. Numbers given are distinct and below the next; handles' and stations' tokens live, and
-// stations' are primary; every token is referred to. `others` are the tokens that are not primary. The first `held` of `referred` are the
-// handles' tokens, the others the stations'.
+// stations' own are primary; every token is referred to. `others` are the tokens that are not primary. Behind the first `held` of `referred`
+// stand the stations' own tokens.
 fn numbers_valid(
     tokens: &[u64],
     others: &[u64],
@@ -52,20 +54,21 @@ fn numbers_valid(
     next_token: u64,
     next_handle: u64,
 ) -> bool
-    requires { ⌜ (length (now tokens) ≤ tokenSlots) × (length (now handles) ≤ handleSlots) × (length (now referred) ≤ referenceSlots) × (held ≤ length (now referred)) ⌝ }
-    ensures { λ r. ⌜ r ≡ numbersTest (now (tokens .entry)) (now (others .entry)) (now (handles .entry)) (take held (now (referred .entry))) (drop held (now (referred .entry))) «next_token» «next_handle» ⌝ }
+    requires { ⌜ (length (now tokens) ≤ tokenSlots) × (length (now handles) ≤ handleSlots) × (length (now referred) ≤ referenceSlots) × (held + stationCount ≤ length (now referred)) ⌝ }
+    ensures { λ r. ⌜ r ≡ numbersTest (now (tokens .entry)) (now (others .entry)) (now (handles .entry)) (now (referred .entry)) (take stationCount (drop held (now (referred .entry)))) «next_token» «next_handle» ⌝ }
 {
+    let end = held + STATIONS;
     ((1 <= next_token) & all_given(tokens, next_token))
         & ((1 <= next_handle) & all_given_32(handles, next_handle))
         & (next_handle <= MAX_HANDLE)
         & refs_valid(tokens, referred)
-        & all_apart(others, &referred[held..])
+        & all_apart(others, &referred[held..end])
 }
 
 // The same of what stands in the fronts of arrays.
 fn fronts_valid(given: Given, others: Given, held: Held, next_token: u64, next_handle: u64) -> bool
-    requires { ⌜ Room tokenSlots (given .count) (given .numbers) × Room tokenSlots (others .count) (others .numbers) × Room handleSlots (held .count) (held .numbers) × Room referenceSlots (held .count + stationCount) (held .referred) ⌝ }
-    ensures { λ r. ⌜ r ≡ numbersTest (take (given .count) (given .numbers)) (take (others .count) (others .numbers)) (take (held .count) (held .numbers)) (take (held .count) (held .referred)) (take stationCount (drop (held .count) (held .referred))) «next_token» «next_handle» ⌝ }
+    requires { ⌜ Room tokenSlots (given .count) (given .numbers) × Room tokenSlots (others .count) (others .numbers) × Room handleSlots (held .count) (held .numbers) × Room referenceSlots (held .count + stationReferences) (held .referred) ⌝ }
+    ensures { λ r. ⌜ r ≡ numbersTest (take (given .count) (given .numbers)) (take (others .count) (others .numbers)) (take (held .count) (held .numbers)) (take (held .count + stationReferences) (held .referred)) (take stationCount (drop (held .count) (held .referred))) «next_token» «next_handle» ⌝ }
 {
     let n = given.count;
     let numbers = given.numbers;
@@ -74,7 +77,7 @@ fn fronts_valid(given: Given, others: Given, held: Held, next_token: u64, next_h
     let h = held.count;
     let called = held.numbers;
     let referred = held.referred;
-    let end = h + STATIONS;
+    let end = h + STATION_REFERENCES;
     numbers_valid(
         &numbers[0..n],
         &apart[0..m],
@@ -86,7 +89,7 @@ fn fronts_valid(given: Given, others: Given, held: Held, next_token: u64, next_h
     )
 }
 
-// The handles' fields, and all numbers.
+// The handles' fields, all numbers, and the tokens that stations act for.
 fn links_valid(tokens: &[u64], handles: &[u64; HANDLE_WORDS], control: &[u64]) -> bool
     requires { ⌜ (length (now tokens) ≡ tokenSlots * tokenWords) × (length (now control) ≡ controlWords) ⌝ }
     ensures { λ r. ⌜ r ≡ linksTest (now (tokens .entry)) (map handleOf (recordsIn (now (handles .entry)))) (now (control .entry)) ⌝ }
@@ -96,7 +99,9 @@ fn links_valid(tokens: &[u64], handles: &[u64; HANDLE_WORDS], control: &[u64]) -
     let held = live(handles, &control[STATIONS_AT..STATIONS_END]);
     let next_token = control[NEXT_TOKEN];
     let next_handle = control[NEXT_HANDLE];
-    held.ok & fronts_valid(given, others, held, next_token, next_handle)
+    held.ok
+        & fronts_valid(given, others, held, next_token, next_handle)
+        & clients_valid(tokens, &control[STATIONS_AT..STATIONS_END])
 }
 
 // All parts, of the right sizes.

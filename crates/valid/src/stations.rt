@@ -1,4 +1,5 @@
-// The stations' rows (document 01: kept bytes are a proper part of a frame, and a broken stream keeps none).
+// The stations' rows (document 01: kept bytes are a proper part of a frame, and a broken stream keeps none; document 02: the level in force is
+// 0 where a station acts for none).
 ghost use mathlib.Core.Path.{_≡_};
 ghost use Prim.Native.Nat.{_*_, _<_};
 ghost use lib.ListN.{length};
@@ -7,7 +8,7 @@ ghost use Rattle.rules.specs.Frame.{framed};
 ghost use Rattle.rules.specs.State.{stationCount};
 ghost use Rattle.rules.specs.Memory.{stationWords, pendingBytes};
 ghost use Rattle.rules.specs.Valid.{isPart};
-ghost use Rattle.valid.specs.Tests.{stationTest, idleTest, allIdle};
+ghost use Rattle.valid.specs.Tests.{streamTest, levelTest, stationTest, idleTest, allIdle};
 use crate::words::zero_bytes;
 use control::layout::*;
 use stream::Framed;
@@ -25,10 +26,10 @@ fn is_part(s: &[u8]) -> bool
     }
 }
 
-// A row: nothing pending, or a proper part of a frame and no break; zeros past it.
-fn station_valid(words: &[u64], bytes: &[u8]) -> bool
+// Nothing pending, or a proper part of a frame and no break; zeros past it.
+fn stream_valid(words: &[u64], bytes: &[u8]) -> bool
     requires { ⌜ (length (now words) ≡ stationWords) × (length (now bytes) ≡ pendingBytes) ⌝ }
-    ensures { λ r. ⌜ r ≡ stationTest (now (words .entry)) (now (bytes .entry)) ⌝ }
+    ensures { λ r. ⌜ r ≡ streamTest (now (words .entry)) (now (bytes .entry)) ⌝ }
 {
     let count = words[COUNT_WORD];
     let broken = words[BROKEN_WORD];
@@ -42,12 +43,27 @@ fn station_valid(words: &[u64], bytes: &[u8]) -> bool
     (broken == 0) & is_part(&bytes[0..n]) & zero_bytes(&bytes[n..PENDING_BYTES])
 }
 
-// Nothing pending; a break or none.
+// A level is in force only where the station acts for a token.
+fn level_valid(words: &[u64]) -> bool
+    requires { ⌜ length (now words) ≡ stationWords ⌝ }
+    ensures { λ r. ⌜ r ≡ levelTest (now (words .entry)) ⌝ }
+{
+    (words[CLIENT_WORD] != 0) | (words[LEVEL_WORD] == 0)
+}
+
+fn station_valid(words: &[u64], bytes: &[u8]) -> bool
+    requires { ⌜ (length (now words) ≡ stationWords) × (length (now bytes) ≡ pendingBytes) ⌝ }
+    ensures { λ r. ⌜ r ≡ stationTest (now (words .entry)) (now (bytes .entry)) ⌝ }
+{
+    stream_valid(words, bytes) & level_valid(words)
+}
+
+// Nothing pending; a break or none; no level without a client.
 fn is_idle(words: &[u64]) -> bool
     requires { ⌜ length (now words) ≡ stationWords ⌝ }
     ensures { λ r. ⌜ r ≡ idleTest (now (words .entry)) ⌝ }
 {
-    (words[COUNT_WORD] == 0) & (words[BROKEN_WORD] < 2)
+    (words[COUNT_WORD] == 0) & (words[BROKEN_WORD] < 2) & level_valid(words)
 }
 
 fn all_idle(rows: &[u64]) -> bool

@@ -11,6 +11,8 @@ ghost use Rattle.rules.specs.State.{tokenSlots};
 ghost use Rattle.rules.specs.AdjustDefaults.{validOwner};
 ghost use Rattle.rules.specs.Memory.{unpack, tokenWords};
 ghost use Rattle.valid.specs.Tests.{groupTest, carriedTo, headTest, Counted, listsTest, liveTest, tokenTest};
+use crate::layout::IMPERSONATION;
+use crate::layout::PRIMARY;
 use crate::words::narrow_words;
 use crate::words::zero_bytes;
 use crate::words::zero_words;
@@ -76,9 +78,9 @@ fn head_valid(w: &[u64]) -> bool
 {
     let present = w[PRESENT];
     (w[USER] < WORD_32)
-        & ((1 <= w[KIND]) & (w[KIND] <= 2))
+        & ((PRIMARY <= w[KIND]) & (w[KIND] <= IMPERSONATION))
         & (w[LEVEL] <= 3)
-        & ((w[KIND] != 1) | (w[LEVEL] == 0))
+        & ((w[KIND] != PRIMARY) | (w[LEVEL] == 0))
         & ((1 <= w[ELEVATION]) & (w[ELEVATION] <= 3))
         & (w[WRITE_RESTRICTED] < 2)
         & (w[USER_DENY_ONLY] < 2)

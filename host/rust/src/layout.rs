@@ -66,6 +66,8 @@ pub(crate) mod station_word {
     pub const TOKEN: usize = 0;
     pub const PENDING: usize = 1;
     pub const BROKEN: usize = 2;
+    pub const CLIENT: usize = 3;
+    pub const CLIENT_LEVEL: usize = 4;
 }
 
 /// Words of a token slot.
@@ -75,7 +77,7 @@ pub(crate) const DACL_BYTES: usize = MAX_DACL;
 /// Bytes of a handle slot.
 pub(crate) const HANDLE_BYTES: usize = 16;
 /// Words of a station's row.
-pub(crate) const STATION_WORDS: usize = station_word::BROKEN + 1;
+pub(crate) const STATION_WORDS: usize = station_word::CLIENT_LEVEL + 1;
 /// Bytes of a station's pending part.
 pub(crate) const PENDING_BYTES: usize = LENGTH_BYTES + MAX_BODY;
 

@@ -47,4 +47,7 @@ pub use layout::{
 };
 pub use previous::{PreviousPrivileges, PrivilegeState};
 pub use refusal::Refusal;
-pub use view::{Elevation, Group, Handle, Level, Privileges, Station, Token, TokenType, NO_ROOT};
+pub use view::{
+    Client, Elevation, Group, Handle, Level, Privileges, Station, Token, TokenType, NO_CLIENT,
+    NO_ROOT,
+};

@@ -25,12 +25,14 @@ pub enum Refusal {
     Right = 3,
     /// A privilege is not enabled on the station's own token.
     Privilege = 4,
-    /// A bad field or entry, an unknown class, installing a token that is not primary, or restricting
-    /// a restricted one to none of its SIDs, or to write-restricted where it is not.
+    /// A bad field or entry, an unknown class, installing a token that is not primary, acting for one
+    /// that is, or restricting a restricted one to none of its SIDs, or to write-restricted where it
+    /// is not.
     Field = 5,
     /// An entry names a mandatory, deny-only or logon group, or disables one with the user's SID.
     Protected = 6,
-    /// Installing a token of another user or session.
+    /// Installing a token of another user or session; or acting for an unrestricted one while
+    /// restricted, unless Impersonate is held.
     Mismatch = 7,
     /// No free slot, no number left, or too many restricting SIDs for an unrestricted token.
     Full = 8,
@@ -85,7 +87,9 @@ impl Refusal {
             Refusal::Protected => {
                 "a mandatory, deny-only or logon group, or disabling one with the user's SID"
             }
-            Refusal::Mismatch => "the token is of another user or session",
+            Refusal::Mismatch => {
+                "another user or session, or unrestricted while the own token is restricted"
+            }
             Refusal::Full => "no slot or number left, or too many restricting SIDs",
             Refusal::Capacity => "the report is larger than the capacity",
             Refusal::Broken => "the stream is broken until a reconnect",

@@ -208,11 +208,25 @@ impl Handle {
     }
 }
 
+/// The number that stands for no client in the answer to request 13.
+pub const NO_CLIENT: u64 = 0;
+
+/// A token that a station acts for, and so keeps alive.
+#[derive(Clone, Copy, Debug, PartialEq, Eq)]
+pub struct Client {
+    /// The number of the token, which is for impersonation.
+    pub token: u64,
+    /// The level in force, as request 12 answered it: at most the token's own.
+    pub level: Level,
+}
+
 /// A station and its stream.
 #[derive(Clone, Debug, PartialEq, Eq)]
 pub struct Station {
     /// The number of its primary token.
     pub token: u64,
+    /// The token that it acts for, if any; privileges are held by its primary one all the same.
+    pub client: Option<Client>,
     /// The bytes of a request that is not whole yet, its length among them.
     pub pending: Vec<u8>,
     /// Whether its stream is broken.
@@ -226,9 +240,17 @@ impl Station {
             let pending = &memory.pending[station * PENDING_BYTES..];
             Station {
                 token: words[station_word::TOKEN],
+                client: client(words),
                 pending: pending[..words[station_word::PENDING] as usize].to_vec(),
                 broken: words[station_word::BROKEN] == 1,
             }
         })
     }
+}
+
+/// What the row of a station says that it acts for.
+fn client(words: &[u64]) -> Option<Client> {
+    let token = words[station_word::CLIENT];
+    let level = level(words[station_word::CLIENT_LEVEL]);
+    (token != NO_CLIENT).then_some(Client { token, level })
 }

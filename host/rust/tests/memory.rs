@@ -1,20 +1,22 @@
 //! What the broker keeps, as values and as bytes.
 
 use obriska::{
-    number, Broker, Elevation, Group, Level, Refusal, Station, TokenType, MEMORY_BYTES, NO_ROOT,
+    number, Broker, Client, Elevation, Group, Level, Refusal, Station, TokenType, MEMORY_BYTES,
+    NO_ROOT,
 };
 
 /// Where the arrays begin, one after the other: docs/MEMORY.md has their sizes.
 const DACLS: usize = 12_928;
 const HANDLES: usize = DACLS + 4_096;
 const CONTROL: usize = HANDLES + 512;
-const PENDING: usize = CONTROL + 208;
+const PENDING: usize = CONTROL + 336;
 const END: usize = PENDING + 16_400;
 /// Bytes of a word and of a handle.
 const WORD: usize = 8;
 const HANDLE: usize = 16;
-/// Where the first token's root stands.
+/// Where the first token's root stands, and what station 0 acts for.
 const ROOT: usize = 20 * WORD;
+const CLIENT: usize = CONTROL + 5 * WORD;
 
 /// Feeds a body of these numbers at station 0, and gives the numbers after status 0.
 fn ask(broker: &mut Broker, numbers: &[u64]) -> Vec<u64> {
@@ -44,7 +46,7 @@ fn the_start_is_document_01s() {
     assert_eq!((words.present, words.enabled, words.default, words.used), (all, all, all, 0));
     assert!(token.groups.is_empty() && token.restricting.is_empty() && token.dacl.is_empty());
     assert_eq!(broker.handles().count(), 0);
-    let station = Station { token: 1, pending: vec![], broken: false };
+    let station = Station { token: 1, client: None, pending: vec![], broken: false };
     assert!(broker.stations().iter().all(|other| *other == station));
     assert_eq!((broker.next_token(), broker.next_handle()), (2, 1));
 }
@@ -96,6 +98,40 @@ fn a_root_above_the_tokens_number_is_refused() {
 }
 
 #[test]
+fn a_station_acts_for_a_token_and_keeps_it_alive() {
+    let mut broker = Broker::start();
+    assert_eq!(ask(&mut broker, &[1, 0x1EF]), [1]);
+    assert_eq!(ask(&mut broker, &[9, 1, 2, 3, 4]), [2]);
+    assert_eq!(ask(&mut broker, &[12, 2]), [3]);
+    assert_eq!(ask(&mut broker, &[2, 2]), []);
+    let client = Client { token: 2, level: Level::Delegation };
+    let station = broker.stations()[0].clone();
+    assert_eq!((station.token, station.client), (1, Some(client)));
+    assert!(broker.stations()[1..].iter().all(|station| station.client.is_none()));
+    assert_eq!(broker.token(2).unwrap().token_type, TokenType::Impersonation);
+    broker.reconnect(0).unwrap();
+    assert_eq!(Broker::from_bytes(&broker.to_bytes()).unwrap().stations()[0], station);
+    assert_eq!(ask(&mut broker, &[13]), [2, 3]);
+    assert_eq!((broker.stations()[0].client, broker.token(2)), (None, None));
+    assert_eq!(ask(&mut broker, &[13]), [0, 0]);
+}
+
+#[test]
+fn a_client_is_an_impersonation_token_at_its_own_level_at_most() {
+    let mut broker = Broker::start();
+    assert_eq!(ask(&mut broker, &[1, 0x1EF]), [1]);
+    assert_eq!(ask(&mut broker, &[9, 1, 2, 2, 4]), [2]);
+    let kept = broker.to_bytes();
+    let valid = [(0, 0), (2, 0), (2, 1), (2, 2)].map(|client| (client, None));
+    let refused = [(0, 1), (1, 0), (2, 3), (3, 0)].map(|client| (client, Some(Refusal::Memory)));
+    for ((token, level), refusal) in valid.into_iter().chain(refused) {
+        let mut changed = kept.clone();
+        (changed[CLIENT], changed[CLIENT + WORD]) = (token, level);
+        assert_eq!(Broker::from_bytes(&changed).err(), refusal, "token {token}, level {level}");
+    }
+}
+
+#[test]
 fn kept_bytes_go_on_where_the_broker_was() {
     let mut broker = Broker::start();
     broker.feed(0, &[0x02, 0x01, 0x28]).unwrap();
@@ -123,14 +159,14 @@ fn bytes_are_laid_out_as_docs_memory_says() {
     broker.feed(6, &[0x03, 0x01, 0xEF, 0x03]).unwrap();
     broker.feed(0, &[0x02]).unwrap();
     let bytes = broker.to_bytes();
-    assert_eq!((bytes.len(), MEMORY_BYTES), (END, 34_144));
+    assert_eq!((bytes.len(), MEMORY_BYTES), (END, 34_272));
     assert!(words(&bytes, 0).take(4).eq([1, 1, 999, 18]));
     let (handles, free) = bytes[HANDLES..CONTROL].split_at(2 * HANDLE);
     let first = [5, 0, 0x28, 0, 1, 0, 0, 0, 1, 0, 0, 0, 0, 0, 0, 0];
     let second = [6, 0, 0xEF, 1, 2, 0, 0, 0, 1, 0, 0, 0, 0, 0, 0, 0];
     assert_eq!(handles, [first, second].concat());
     assert!(bytes[DACLS..HANDLES].iter().chain(free).all(|&byte| byte == 0));
-    assert!(words(&bytes, CONTROL).take(5).eq([2, 3, 1, 1, 0]));
+    assert!(words(&bytes, CONTROL).take(8).eq([2, 3, 1, 1, 0, 0, 0, 1]));
     assert_eq!(bytes[PENDING..][..2], [0x02, 0x00]);
 }
 

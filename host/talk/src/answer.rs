@@ -1,6 +1,6 @@
 //! Answers in words.
 
-use obriska::{names, number, Answer, PreviousPrivileges, Refusal, MAX_BODY};
+use obriska::{names, number, Answer, PreviousPrivileges, Refusal, MAX_BODY, NO_CLIENT};
 
 use crate::hex;
 use crate::request::RESET_PRIVILEGES;
@@ -43,6 +43,8 @@ fn success(request: &[u8], fields: &[u8]) -> Option<Vec<String>> {
         }
         5 => previous(&number::read_all(rest)?, PreviousPrivileges::read(fields)?),
         6 => Some(vec![format!("enabled before: {}", groups_text(&number::read_all(fields)?))]),
+        12 => Some(vec![format!("acts at level {}", level_text(number::read(fields)?.0))]),
+        13 => given_up(&number::read_all(fields)?),
         _ => None,
     }
 }
@@ -62,6 +64,21 @@ fn previous(request: &[u64], previous: PreviousPrivileges) -> Option<Vec<String>
         format!("{} was {state}", vocabulary::privilege_text(entry[0]))
     };
     Some(entries.chunks_exact(2).map(line).collect())
+}
+
+/// The token that a station no longer acts for, and the level that was in force.
+fn given_up(numbers: &[u64]) -> Option<Vec<String>> {
+    let &[token, level] = numbers else {
+        return None;
+    };
+    Some(vec![match token {
+        NO_CLIENT => "acted for none".to_string(),
+        _ => format!("acted for token {token} at level {}", level_text(level)),
+    }])
+}
+
+fn level_text(level: u64) -> String {
+    vocabulary::text(&LEVELS, level)
 }
 
 /// The groups whose bits are set in these words.
@@ -91,7 +108,7 @@ fn report(class: u64, fields: &[u8]) -> Option<Vec<String>> {
         4 => format!("owner {}", vocabulary::sid_text(first)),
         5 => format!("primary group {}", vocabulary::sid_text(first)),
         7 => format!("type {}", vocabulary::text(&TYPES, first)),
-        8 => format!("level {}", vocabulary::text(&LEVELS, first)),
+        8 => format!("level {}", level_text(first)),
         9 => statistics(&numbers)?,
         10 => restricting_text(&numbers[1..]),
         11 => format!("scope {first}"),
@@ -172,6 +189,10 @@ mod tests {
         assert_eq!(said(&[1, 8], &[5]), ["handle 5"]);
         let words = [[9].as_slice(), &[0; 15]].concat();
         assert_eq!(said(&[6, 1, 1, 0, 0], &words), ["enabled before: groups 0, 3"]);
+        assert_eq!(said(&[12, 3], &[2]), ["acts at level impersonation"]);
+        assert_eq!(said(&[13], &[0x80, 1, 1]), ["acted for token 128 at level identification"]);
+        assert_eq!(said(&[13], &[3, 0]), ["acted for token 3 at level anonymous"]);
+        assert_eq!(said(&[13], &[0, 0]), ["acted for none"]);
         assert_eq!(success(&[2, 1], &[]), None);
     }
 

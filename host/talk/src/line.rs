@@ -129,6 +129,8 @@ mod tests {
         );
         assert_eq!(sent("0: restrict 1"), "06 0A 01 00 00 00 00");
         assert_eq!(sent("0: install 2"), "02 0B 02");
+        assert_eq!(sent("0: impersonate 300"), "03 0C AC 02");
+        assert_eq!(sent("0: revert"), "01 0D");
     }
 
     #[test]
@@ -152,6 +154,8 @@ mod tests {
         assert_eq!(mistake("0: open"), (8, "missing: rights".into()));
         assert_eq!(mistake("0: open query,quary").0, 15);
         assert_eq!(mistake("0: close 1 2"), (12, "'2' is one word too many".into()));
+        assert_eq!(mistake("0: impersonate"), (15, "missing: handle".into()));
+        assert_eq!(mistake("0: revert 3"), (11, "'3' is one word too many".into()));
         assert_eq!(mistake("0: close 4294967296"), (10, "4294967296 is over 4294967295".into()));
         assert_eq!(mistake("0: privileges 1 tcbb=enable").0, 17);
         assert_eq!(mistake("0: privileges 1 tcb=on").0, 21);

@@ -1,4 +1,4 @@
-//! The eleven requests: from the words after the station to the bytes of a frame.
+//! The requests: from the words after the station to the bytes of a frame.
 
 use obriska::{number, MAX_ANSWER};
 
@@ -28,6 +28,8 @@ pub fn frame(name: Word, mut arguments: Arguments) -> Option<Result<Vec<u8>, Mis
         "duplicate" => duplicate,
         "restrict" => restrict,
         "install" => install,
+        "impersonate" => impersonate,
+        "revert" => revert,
         _ => return None,
     };
     Some(layout(&mut arguments).and_then(|body| arguments.finish().map(|()| framed(&body))))
@@ -199,4 +201,12 @@ fn restrict(arguments: &mut Arguments) -> Parsed {
 
 fn install(arguments: &mut Arguments) -> Parsed {
     Ok(Body::new(&[11, handle(arguments)?]))
+}
+
+fn impersonate(arguments: &mut Arguments) -> Parsed {
+    Ok(Body::new(&[12, handle(arguments)?]))
+}
+
+fn revert(_: &mut Arguments) -> Parsed {
+    Ok(Body::new(&[13]))
 }

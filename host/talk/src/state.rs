@@ -1,6 +1,6 @@
 //! What the broker keeps, as tables.
 
-use obriska::{Broker, Handle, Station, Token};
+use obriska::{Broker, Client, Handle, Station, Token};
 
 use crate::vocabulary::{self, ELEVATIONS, LEVELS, TYPES};
 
@@ -31,7 +31,7 @@ pub fn lines(broker: &Broker) -> Vec<String> {
     lines.push(String::new());
     lines.extend(table(&["handle", "station", "token", "rights"], handles));
     lines.push(String::new());
-    lines.extend(table(&["station", "token", "stream"], stations));
+    lines.extend(table(&["station", "token", "acts for", "stream"], stations));
     lines.push(String::new());
     lines.push(format!("next token {}, next handle {}", broker.next_token(), broker.next_handle()));
     lines
@@ -94,7 +94,17 @@ fn handle_row(handle: Handle) -> Vec<String> {
 }
 
 fn station_row((index, station): (usize, &Station)) -> Vec<String> {
-    vec![index.to_string(), station.token.to_string(), stream(station)]
+    vec![index.to_string(), station.token.to_string(), client(station), stream(station)]
+}
+
+/// The token that a station acts for, and the level in force.
+fn client(station: &Station) -> String {
+    match station.client {
+        None => "none".to_string(),
+        Some(Client { token, level }) => {
+            format!("{token}, {}", vocabulary::text(&LEVELS, level as u64))
+        }
+    }
 }
 
 /// How a station's stream stands.
@@ -129,6 +139,18 @@ mod tests {
     fn columns_are_as_wide_as_their_widest_entry() {
         let rows = vec![vec!["1".to_string(), "longer".to_string()]];
         assert_eq!(table(&["token", "a"], rows), ["token  a", "1      longer"]);
+    }
+
+    #[test]
+    fn a_station_shows_what_it_acts_for() {
+        let mut broker = Broker::start();
+        for frame in [&[2, 1, 6][..], &[5, 9, 1, 2, 1, 4], &[2, 12, 2]] {
+            assert_eq!(broker.feed(3, frame).unwrap()[0].refusal(), None);
+        }
+        let lines = lines(&broker);
+        assert!(lines.contains(&"station  token  acts for           stream".to_string()));
+        assert!(lines.contains(&"2        1      none               between requests".to_string()));
+        assert!(lines.contains(&"3        1      2, identification  between requests".to_string()));
     }
 
     #[test]

@@ -1,5 +1,5 @@
 //! obriska-talk as a program: its scripts' whole output, bad lines and exit status. What the
-//! scripts are expected to write was taken from document 01.
+//! scripts are expected to write was taken from documents 01 and 02.
 
 use std::io::Write;
 use std::path::{Path, PathBuf};
@@ -47,6 +47,12 @@ fn the_first_minute_is_document_01s() {
 }
 
 #[test]
+fn acting_for_another_is_document_02s() {
+    let examples = "../../examples/acting-for-another";
+    writes(&["--hex"], &format!("{examples}.talk"), &format!("{examples}.expected"));
+}
+
+#[test]
 fn all_requests_are_answered_in_words() {
     writes(&[], "tests/requests.talk", "tests/requests.expected");
 }
@@ -75,7 +81,7 @@ fn help_has_an_example_of_each_request_that_is_no_mistake() {
     let help = talk(&[], "help\n");
     let examples: Vec<_> =
         text(&help.stdout).lines().filter(|line| line.starts_with("  0: ")).collect();
-    assert_eq!(examples.len(), 13); // eleven requests, reconnect, bytes
+    assert_eq!(examples.len(), 15); // thirteen requests, reconnect, bytes
     let script: String = examples
         .iter()
         .map(|line| line.trim().split("  ").next().expect("an example").to_string() + "\n")

@@ -8,13 +8,23 @@ use model::Model;
 #[test]
 fn lists_of_calls() {
     let mut counts = Counts::default();
-    lists::compare::<Rival>(0..560, &mut counts);
+    lists::compare::<Rival>(0..640, &mut counts);
     if one_seed().is_none() {
         counts.check_statuses(5);
         counts.check_groups(5);
         counts.check_restrictions(5);
         counts.check_roots(5);
+        counts.check_clients(3);
         counts.check_refusals(5);
+    }
+}
+
+#[test]
+fn gates() {
+    let mut counts = Counts::default();
+    lists::compare_clients::<Rival>(0..2000, &mut counts);
+    if one_seed().is_none() {
+        counts.check_gates(3);
     }
 }
 
@@ -23,6 +33,7 @@ fn damaged_memory() {
     each_damage(250, |damage, _, memory| damages::is_refused::<Rival>(&memory, damage.what));
     damages::compare_poked::<Rival>(0..5000);
     damages::compare_roots::<Rival>(0..50);
+    damages::compare_clients::<Rival>(0..50);
     for (place, memory) in damages::of_other_sizes(&Model::start().memory()) {
         damages::is_refused::<Rival>(&memory, &place);
         damages::starts::<Rival>(&memory, &place);

@@ -2,8 +2,9 @@
 
 use gen::{each_seed, poke, state, Broker, Call};
 use model::{
-    token_word, HandleRecord, Memory, CONTROL_WORDS, DACL_BYTES, HANDLE_ROWS, MIN_BUFFER, NO_ROOT,
-    PARTS, PENDING_BYTES, STATIONS, TOKEN_ROW, TOKEN_WORDS,
+    control_word, station_word, token_word, HandleRecord, Memory, TokenType, CONTROL_WORDS,
+    DACL_BYTES, HANDLE_ROWS, MIN_BUFFER, NO_ROOT, PARTS, PENDING_BYTES, STATIONS, STATION_ROW,
+    TOKEN_ROW, TOKEN_WORDS,
 };
 
 use crate::lists::{on_memory, same_bytes};
@@ -95,6 +96,34 @@ pub fn compare_roots<B: Broker>(seeds: std::ops::Range<u64>) {
                 memory.tokens[row + token_word::ROOT] = root;
                 let fed = on_memory::<B>(&memory, &empty_feed());
                 assert_eq!(fed.refusal, refusal, "token {number}, root {root}");
+            }
+        }
+    });
+}
+
+/// Every token, and numbers of none, for a station that acts for none, at every level and above: valid
+/// for an impersonation token up to its own.
+pub fn compare_clients<B: Broker>(seeds: std::ops::Range<u64>) {
+    each_seed(seeds, |_, rng| {
+        let model = state(rng);
+        let memory = model.memory();
+        let free = (0..STATIONS).find(|&at| model.stations[at].client.is_none());
+        let Some(station) = free else { return };
+        let row = control_word::STATIONS + STATION_ROW * station;
+        let live = model.tokens.iter().flatten().map(|token| token.number);
+        for number in live.chain([0, model.next_token, u64::MAX]) {
+            let most = match model.token(number) {
+                Some(token) if token.kind == TokenType::Impersonation => Some(token.level as u64),
+                Some(_) => None,
+                None => (number == 0).then_some(0),
+            };
+            for level in [0, 1, 2, 3, 4, 1 << 32, u64::MAX] {
+                let mut memory = memory.clone();
+                memory.control[row + station_word::CLIENT] = number;
+                memory.control[row + station_word::CLIENT_LEVEL] = level;
+                let refusal = if most.is_some_and(|most| level <= most) { 0 } else { 13 };
+                let fed = on_memory::<B>(&memory, &empty_feed());
+                assert_eq!(fed.refusal, refusal, "token {number}, level {level}");
             }
         }
     });

@@ -4,18 +4,20 @@ use std::fmt::Debug;
 use std::ops::Range;
 
 use gen::{
-    each_seed, garbage, near_the_last_numbers, run, state, with_copies, with_groups,
+    each_seed, garbage, near_the_last_numbers, run, state, with_clients, with_copies, with_groups,
     with_restrictions, Broker, Call, Calls, Counts, Rng, Step, DAMAGES,
 };
 use model::{Bytes, Fed, Memory, Model, MIN_BUFFER, PARTS};
 
 /// How many calls each seed makes.
 pub const CALLS: usize = 300;
+/// How many each makes of the short lists, before the tokens are too much alike.
+const FEW_CALLS: usize = 60;
 /// How many starts there are to go on from, the broker's own twice.
-const STARTS: u64 = 7;
+const STARTS: u64 = 8;
 
 /// A list of calls for each seed: from the start, from a random state, near the last numbers, with
-/// groups of all kinds, with restricted tokens, or with copies of copies.
+/// groups of all kinds, with restricted tokens, with copies of copies, or with others to act for.
 pub fn compare<B: Broker>(seeds: Range<u64>, counts: &mut Counts) {
     each_seed(seeds, |seed, rng| {
         let first = match seed % STARTS {
@@ -24,7 +26,8 @@ pub fn compare<B: Broker>(seeds: Range<u64>, counts: &mut Counts) {
             3 => near_the_last_numbers(rng),
             4 => with_groups(),
             5 => with_restrictions(),
-            _ => with_copies(),
+            6 => with_copies(),
+            _ => with_clients(rng),
         };
         let mut broker = B::lend(&first.memory());
         if seed % STARTS < 2 {
@@ -37,6 +40,18 @@ pub fn compare<B: Broker>(seeds: Range<u64>, counts: &mut Counts) {
             if rng.percent(10) {
                 damaged::<B>(rng, step, counts);
             }
+        });
+    });
+}
+
+/// A short list for each seed, with others to act for.
+pub fn compare_clients<B: Broker>(seeds: Range<u64>, counts: &mut Counts) {
+    each_seed(seeds, |seed, rng| {
+        let first = with_clients(rng);
+        let mut broker = B::lend(&first.memory());
+        run(seed, first, FEW_CALLS, |step| {
+            both(&mut broker, step);
+            counts.step(step);
         });
     });
 }

@@ -5,7 +5,8 @@ use compare::damages::{empty_feed, is_refused, refused_calls};
 use compare::lists::{both, on_memory, same_bytes, CALLS};
 use compare::Lent;
 use gen::{
-    each_seed, filled, near_the_last_numbers, one_seed, run, state, Broker, Calls, Counts, Rng,
+    each_seed, filled, near_the_last_numbers, one_seed, run, state, with_clients, Broker, Calls,
+    Counts, Rng,
 };
 use model::{HandleRecord, Memory, Model, HANDLE_BYTES};
 
@@ -43,11 +44,12 @@ fn a_refused_call_writes_no_byte() {
 #[test]
 fn a_list_of_calls_leaves_the_models_bytes_over_any_stack() {
     let mut counts = Counts::default();
-    each_seed(0..90, |seed, rng| {
-        let first = match seed % 3 {
+    each_seed(0..120, |seed, rng| {
+        let first = match seed % 4 {
             0 => Model::start(),
             1 => state(rng),
-            _ => near_the_last_numbers(rng),
+            2 => near_the_last_numbers(rng),
+            _ => with_clients(rng),
         };
         let mut brokers = PATTERNS.map(|pattern| Lent::with_filler(&first.memory(), pattern));
         run(seed, first, CALLS, |step| {

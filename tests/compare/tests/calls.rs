@@ -16,7 +16,7 @@ fn print(text: &str) {
 #[test]
 fn lists_of_calls() {
     let mut counts = Counts::default();
-    lists::compare::<Lent>(0..700, &mut counts);
+    lists::compare::<Lent>(0..800, &mut counts);
     print(&format!(
         "\nstatuses of the requests that the broker and the model served alike:\n{counts}"
     ));
@@ -25,7 +25,18 @@ fn lists_of_calls() {
         counts.check_groups(10);
         counts.check_restrictions(10);
         counts.check_roots(10);
+        counts.check_clients(5);
         counts.check_refusals(20);
+    }
+}
+
+#[test]
+fn every_row_of_the_gate_table() {
+    let mut counts = Counts::default();
+    lists::compare_clients::<Lent>(0..4000, &mut counts);
+    if one_seed().is_none() {
+        counts.check_gates(8);
+        counts.check_uses(4);
     }
 }
 

@@ -2,7 +2,8 @@
 //! of each part, and start on any memory.
 
 use compare::damages::{
-    compare_poked, compare_roots, empty_feed, is_refused, of_other_sizes, refused_calls, starts,
+    compare_clients, compare_poked, compare_roots, empty_feed, is_refused, of_other_sizes,
+    refused_calls, starts,
 };
 use compare::lists::on_memory;
 use compare::Lent;
@@ -44,6 +45,11 @@ fn wrong_sizes_are_refused_and_nothing_written() {
 #[test]
 fn a_root_is_at_most_the_tokens_number() {
     compare_roots::<Lent>(0..100);
+}
+
+#[test]
+fn a_client_is_an_impersonation_token_at_its_own_level_at_most() {
+    compare_clients::<Lent>(0..100);
 }
 
 #[test]

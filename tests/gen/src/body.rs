@@ -10,14 +10,16 @@ use crate::wishes::Wish;
 pub fn body(rng: &mut Rng, model: &Model, station: usize) -> Vec<u8> {
     let request = Wish { rng, model, station }.request();
     let fields = fields(&request);
-    let mut body = if rng.percent(8) { damaged(rng, fields) } else { flat(&fields) };
+    let share = if fields.len() == 1 { 20 } else { 8 };
+    let mut body = if rng.percent(share) { damaged(rng, fields) } else { flat(&fields) };
     body.truncate(MAX_BODY);
     body
 }
 
-/// The fields with one thing wrong with them, most of the time.
+/// The fields with one thing wrong with them, most of the time; to a number alone, bytes are added.
 fn damaged(rng: &mut Rng, mut fields: Vec<Field>) -> Vec<u8> {
-    match rng.below(8) {
+    let way = if fields.len() == 1 { rng.pick(&[1, 5, 7]) } else { rng.below(8) };
+    match way {
         0 => {
             let mut body = flat(&fields);
             body.truncate(1 + rng.below(body.len()));

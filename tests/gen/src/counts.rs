@@ -1,5 +1,6 @@
 //! How often each refusal came, each status of each request, what request 6 did to each kind of
-//! group, request 10 to each kind of list, and what was made from each kind of token.
+//! group, request 10 to each kind of list, what was made from each kind of token, and how stations came
+//! to act for others.
 
 use std::collections::BTreeMap;
 use std::fmt;
@@ -7,6 +8,7 @@ use std::fmt;
 use model::{Fed, Model, Reader, Refusal, LAST_REQUEST};
 
 use crate::broker::{status, Step};
+use crate::clients::ClientCounts;
 use crate::groups::GroupCounts;
 use crate::restrictions::RestrictionCounts;
 use crate::roots::RootCounts;
@@ -25,6 +27,8 @@ const POSSIBLE: [(u32, &[u8]); LAST_REQUEST as usize + 1] = [
     (9, &[0, 1, 2, 3, 5, 8]),
     (10, &[0, 1, 2, 3, 5, 8]),
     (11, &[0, 1, 2, 3, 4, 5, 7]),
+    (12, &[0, 1, 2, 3, 5, 7]),
+    (13, &[0, 1]),
 ];
 
 /// The counts; printed as a table.
@@ -36,6 +40,7 @@ pub struct Counts {
     groups: GroupCounts,
     restrictions: RestrictionCounts,
     roots: RootCounts,
+    clients: ClientCounts,
 }
 
 impl Counts {
@@ -45,12 +50,7 @@ impl Counts {
         if let Some((station, body)) = step.ended() {
             self.status(step.before, station, &body, step.fed);
         }
-    }
-
-    /// Counts a whole request, fed by itself in this state.
-    pub fn request(&mut self, before: &Model, station: usize, body: &[u8], fed: &Fed) {
-        self.call(fed);
-        self.status(before, station, body, fed);
+        self.clients.step(step);
     }
 
     /// Counts what a call returned.
@@ -102,6 +102,21 @@ impl Counts {
         self.roots.check(least);
     }
 
+    /// Each row of request 12's gate table came so often at least; each got what it should.
+    pub fn check_gates(&self, least: usize) {
+        self.clients.check_rows(least);
+    }
+
+    /// The same of requests whose use of Impersonate shows.
+    pub fn check_uses(&self, least: usize) {
+        self.clients.check_telling(least);
+    }
+
+    /// Each thing that can happen to a client came so often at least.
+    pub fn check_clients(&self, least: usize) {
+        self.clients.check_events(least);
+    }
+
     /// Each refusal came so often at least.
     pub fn check_refusals(&self, least: usize) {
         for (refusal, count) in self.refusals() {
@@ -137,6 +152,7 @@ impl fmt::Display for Counts {
         writeln!(f, "  in {} calls", self.calls)?;
         writeln!(f, "{}", self.groups)?;
         writeln!(f, "{}", self.restrictions)?;
-        self.roots.fmt(f)
+        writeln!(f, "{}", self.roots)?;
+        self.clients.fmt(f)
     }
 }

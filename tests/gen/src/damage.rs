@@ -94,6 +94,12 @@ impl Target<'_> {
         self.rng.pick_any(&stations)
     }
 
+    /// Writes what a station acts for.
+    pub fn set_client(&mut self, station: usize, token: u64, level: u64) {
+        *self.station(station, station_word::CLIENT) = token;
+        *self.station(station, station_word::CLIENT_LEVEL) = level;
+    }
+
     /// A number that no live token has.
     pub fn dead_number(&mut self) -> u64 {
         let numbers = [0, self.model.next_token, u64::MAX, self.model.next_token - 1, 1];
@@ -103,9 +109,12 @@ impl Target<'_> {
     }
 }
 
-/// How many handles and stations refer to the token.
+/// How many handles and stations refer to the token; a station may twice.
 pub(crate) fn references(model: &Model, token: u64) -> usize {
-    let handles = model.handles.iter().flatten().filter(|handle| handle.token == token);
-    let stations = model.stations.iter().filter(|station| station.token == token);
-    handles.count() + stations.count()
+    model.references().filter(|&other| other == token).count()
+}
+
+/// Whether a station acts for the token.
+pub(crate) fn is_client(model: &Model, token: u64) -> bool {
+    model.stations.iter().filter_map(|station| station.client).any(|client| client.token == token)
 }

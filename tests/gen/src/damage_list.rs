@@ -1,13 +1,13 @@
 //! For each rule of valid memory the damages that break this rule and, but for two, no other.
 
 use model::{
-    control_word, framed, handle_byte, station_word, token_word, Group, HandleRecord, Memory,
-    Model, Token, TokenType, ALL_PRIVILEGES, ATTRIBUTES_BIT, DACL_ROW, HANDLE_BYTES, MAX_BODY,
-    MAX_DACL, MAX_GROUPS, MAX_LENGTH_BYTES, MAX_RESTRICTING, MORE, NO_CHANGE, PARTS, PENDING_ROW,
-    STATIONS, TOKEN_ROW,
+    control_word, framed, handle_byte, station_word, token_word, Client, Group, HandleRecord,
+    Level, Memory, Model, Token, TokenType, ALL_PRIVILEGES, ATTRIBUTES_BIT, DACL_ROW, HANDLE_BYTES,
+    MAX_BODY, MAX_DACL, MAX_GROUPS, MAX_LENGTH_BYTES, MAX_RESTRICTING, MORE, NO_CHANGE, NO_CLIENT,
+    PARTS, PENDING_ROW, STATIONS, TOKEN_ROW,
 };
 
-use crate::damage::{references, Target};
+use crate::damage::{is_client, references, Target};
 use crate::rng::Rng;
 
 type Apply = fn(&mut Target) -> Option<()>;
@@ -73,6 +73,16 @@ pub const DAMAGES: &[Damage] = &[
         *t.station(at, station_word::TOKEN) = t.dead_number();
         Some(())
     }),
+    damage("references", "a client's token is not live", |t| {
+        let at = station_for_client(t)?;
+        let dead = match t.dead_number() {
+            NO_CLIENT => t.model.next_token,
+            number => number,
+        };
+        let level = t.rng.below(4) as u64;
+        t.set_client(at, dead, level);
+        Some(())
+    }),
     damage("station tokens", "a station's token is for impersonation", |t| {
         let at = replaceable_station(t)?;
         let slot = t.slot(|token| token.kind == TokenType::Impersonation)?;
@@ -82,10 +92,20 @@ pub const DAMAGES: &[Damage] = &[
     damage("referred to", "a token lost its handles", |t| {
         let model = t.model;
         let of_station = |number| model.stations.iter().any(|station| station.token == number);
-        let slot = t.slot(|token| !of_station(token.number))?;
+        let slot = t.slot(|token| !of_station(token.number) && !is_client(model, token.number))?;
         let number = t.token(slot)?.number;
         for handle in t.memory.handles.iter_mut().filter(|handle| handle.token == number) {
             *handle = HandleRecord::default();
+        }
+        Some(())
+    }),
+    damage("referred to", "a token lost the stations that act for it", |t| {
+        let model = t.model;
+        let has_handle = |number| model.handles.iter().flatten().any(|h| h.token == number);
+        let slot = t.slot(|token| is_client(model, token.number) && !has_handle(token.number))?;
+        let number = t.token(slot)?.number;
+        for at in acting_for(model, number) {
+            t.set_client(at, NO_CLIENT, 0);
         }
         Some(())
     }),
@@ -146,7 +166,10 @@ pub const DAMAGES: &[Damage] = &[
     }),
     damage("ranges", "user", |t| in_slot(t, any, token_word::USER, &[1 << 32, u64::MAX])),
     damage("ranges", "type", |t| {
-        in_slot(t, impersonation, token_word::TYPE, &[0, 3, (1 << 32) + 2])
+        let model = t.model;
+        let slot = t.slot(|token| impersonation(token) && !is_client(model, token.number))?;
+        *t.word(slot, token_word::TYPE) = t.rng.pick(&[0, 3, (1 << 32) + 2]);
+        Some(())
     }),
     damage("ranges", "level", |t| in_slot(t, impersonation, token_word::LEVEL, &[4, 1 << 32])),
     damage("ranges", "elevation", |t| {
@@ -273,7 +296,66 @@ pub const DAMAGES: &[Damage] = &[
         *t.word(slot, token_word::ROOT) = t.rng.pick(&above);
         Some(())
     }),
+    damage("client tokens", "a client is a primary token", |t| {
+        let at = station_for_client(t)?;
+        let slot = t.slot(|token| token.kind == TokenType::Primary)?;
+        let number = t.token(slot)?.number;
+        t.set_client(at, number, 0);
+        Some(())
+    }),
+    damage("client tokens", "a client's token is primary now", |t| {
+        let (_, Client { token, .. }) = acting_station(t, |_| true)?;
+        let slot = t.slot(|other| other.number == token)?;
+        *t.word(slot, token_word::TYPE) = TokenType::Primary as u64;
+        *t.word(slot, token_word::LEVEL) = 0;
+        for at in acting_for(t.model, token) {
+            t.set_client(at, token, 0);
+        }
+        Some(())
+    }),
+    damage("client levels", "a level above the token's own", |t| {
+        let (at, client) = acting_station(t, |_| true)?;
+        let own = t.model.token(client.token)?.level as u64;
+        let above = t.rng.pick(&[own + 1, 4, own | 1 << 32, u64::MAX]);
+        t.set_client(at, client.token, above);
+        Some(())
+    }),
+    damage("client levels", "the token's own level is below", |t| {
+        let (_, client) = acting_station(t, |client| client.level > Level::Anonymous)?;
+        let slot = t.slot(|token| token.number == client.token)?;
+        *t.word(slot, token_word::LEVEL) = t.rng.below(client.level as usize) as u64;
+        Some(())
+    }),
+    damage("client levels", "a level without a client", |t| {
+        let model = t.model;
+        let at = t.some_station(|at| model.stations[at].client.is_none())?;
+        let level = t.rng.pick(&[1, 2, 3, 4, 1 << 32, u64::MAX]);
+        t.set_client(at, NO_CLIENT, level);
+        Some(())
+    }),
 ];
+
+/// The stations that act for this token.
+fn acting_for(model: &Model, token: u64) -> Vec<usize> {
+    let acts = |&at: &usize| model.stations[at].client.is_some_and(|client| client.token == token);
+    (0..model.stations.len()).filter(acts).collect()
+}
+
+/// A station with such a client.
+fn acting_station(t: &mut Target, fits: fn(Client) -> bool) -> Option<(usize, Client)> {
+    let model = t.model;
+    let at = t.some_station(|at| model.stations[at].client.is_some_and(fits))?;
+    Some((at, model.stations[at].client?))
+}
+
+/// A station without a client, or with one that is referred to elsewhere too.
+fn station_for_client(t: &mut Target) -> Option<usize> {
+    let model = t.model;
+    t.some_station(|at| match model.stations[at].client {
+        Some(client) => references(model, client.token) > 1,
+        None => true,
+    })
+}
 
 /// The bytes of a handle's record but its number's: a slot with a number is not free.
 fn free_slot_bytes() -> Vec<usize> {
@@ -301,7 +383,8 @@ fn resize(t: &mut Target, by: isize) -> Option<()> {
     Some(())
 }
 
-/// Both of one type, the references go to the number that is left, and no root is above it.
+/// Both of one type, the references go to the number that is left, and neither a root nor a level in
+/// force is above what it may be.
 fn two_tokens_with_one_number(t: &mut Target) -> Option<()> {
     let first = t.slot(any)?;
     let (kept, kind) = (t.token(first)?.number, t.token(first)?.kind);
@@ -317,6 +400,9 @@ fn two_tokens_with_one_number(t: &mut Target) -> Option<()> {
         if t.model.stations[station].token == lost {
             *t.station(station, station_word::TOKEN) = kept;
         }
+    }
+    for station in [acting_for(t.model, lost), acting_for(t.model, kept)].concat() {
+        t.set_client(station, kept, 0);
     }
     Some(())
 }

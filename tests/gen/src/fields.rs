@@ -64,6 +64,8 @@ pub fn fields(request: &Request) -> Vec<Field> {
             [numbers(&head), numbers(&counts), lists.collect()].concat()
         }
         Request::Install { handle } => numbers(&[11, (*handle).into()]),
+        Request::Impersonate { handle } => numbers(&[12, (*handle).into()]),
+        Request::Revert => numbers(&[13]),
     }
 }
 

@@ -4,6 +4,7 @@
 mod body;
 mod broker;
 mod call;
+mod clients;
 mod counts;
 mod cuts;
 mod damage;
@@ -30,5 +31,7 @@ pub use fields::{fields, flat, Field};
 pub use rng::Rng;
 pub use seeds::{each_seed, one_seed};
 pub use session::{session, write_chunk};
-pub use state::{near_the_last_numbers, state, with_copies, with_groups, with_restrictions};
+pub use state::{
+    near_the_last_numbers, state, with_clients, with_copies, with_groups, with_restrictions,
+};
 pub use wishes::NEEDED;

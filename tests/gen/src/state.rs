@@ -1,15 +1,19 @@
 //! Random valid states, also such as no list of requests leads to; and starts to go on from.
 
 use model::{
-    framed, Elevation, Group, Handle, Level, Mask, Model, Privileges, Request, Station, Token,
-    TokenType, ALL_PRIVILEGES, HANDLES, INTEGRITY_LEVELS, MAX_BODY, MAX_DACL, MAX_GROUPS,
-    MAX_RESTRICTING, MIN_BUFFER, NO_ROOT, STATIONS, TOKENS,
+    framed, Client, Elevation, Group, Handle, Level, Mask, Model, Privileges, Request, Station,
+    Token, TokenType, ALL_PRIVILEGES, HANDLES, IMPERSONATE, INTEGRITY_LEVELS, MAX_BODY, MAX_DACL,
+    MAX_GROUPS, MAX_RESTRICTING, MIN_BUFFER, NO_ROOT, STATIONS, TOKENS,
 };
 
 use crate::broker::status;
 use crate::fields::{fields, flat};
 use crate::rng::Rng;
 use crate::wishes::NEEDED;
+
+/// All levels.
+pub(crate) const LEVELS: [Level; 4] =
+    [Level::Anonymous, Level::Identification, Level::Impersonation, Level::Delegation];
 
 /// A random valid state.
 pub fn state(rng: &mut Rng) -> Model {
@@ -20,9 +24,14 @@ pub fn state(rng: &mut Rng) -> Model {
         .map(|token| token.number)
         .collect();
     let few = rng.some(&primaries, 3);
+    let others: Vec<(u64, Level)> = live(&model)
+        .filter(|token| token.kind == TokenType::Impersonation)
+        .map(|token| (token.number, token.level))
+        .collect();
     for station in &mut model.stations {
         let token = rng.pick_any(&few).unwrap_or_else(|| rng.pick(&primaries));
-        *station = random_station(rng, token);
+        let client = random_client(rng, &others);
+        *station = Station { client, ..random_station(rng, token) };
     }
     place_handles(rng, &mut model);
     model
@@ -99,6 +108,72 @@ pub fn with_copies() -> Model {
     model
 }
 
+/// The tokens of [`with_clients`], and each station's handles: one on a server that is not its own, and
+/// on clients.
+const SERVERS: usize = 4;
+const CLIENTS: usize = 8;
+const HANDLES_EACH: usize = 3;
+/// What these servers have, and their clients have or not.
+const SERVER_USER: u32 = 50;
+const SERVER_INTEGRITY: usize = 2;
+
+/// A start for request 12. The stations' tokens are of one user and integrity, restricted or not, and
+/// with Impersonate held or not; the clients that each station has handles on differ in whatever the
+/// gates read, each as likely as its opposite.
+pub fn with_clients(rng: &mut Rng) -> Model {
+    let mut model = Model::start();
+    for slot in 0..SERVERS {
+        model.tokens[slot] = Some(server(number_in(slot), slot));
+    }
+    for slot in SERVERS..SERVERS + CLIENTS {
+        model.tokens[slot] = Some(random_other(rng, number_in(slot)));
+    }
+    for station in 0..STATIONS {
+        model.stations[station].token = number_in(station % SERVERS);
+        for own in 0..HANDLES_EACH {
+            let at = station * HANDLES_EACH + own;
+            let slot = match own {
+                0 => (station + 1) % SERVERS,
+                _ => SERVERS + (at - station) % CLIENTS,
+            };
+            let (station, number, token) = (station as u32, at as u32 + 1, number_in(slot));
+            model.handles[at] = Some(Handle { station, number, token, mask: Mask::ALL.0 });
+        }
+    }
+    model.next_token = number_in(SERVERS + CLIENTS);
+    model.next_handle = (STATIONS * HANDLES_EACH) as u32 + 1;
+    model
+}
+
+/// The number of the token in a slot of [`with_clients`].
+fn number_in(slot: usize) -> u64 {
+    slot as u64 + 1
+}
+
+/// A primary token; the bits say whether it is restricted and whether it holds Impersonate.
+fn server(number: u64, bits: usize) -> Token {
+    let enabled = if bits & 1 == 1 { ALL_PRIVILEGES } else { ALL_PRIVILEGES & !(1 << IMPERSONATE) };
+    Token {
+        privileges: Privileges::new(ALL_PRIVILEGES, enabled),
+        restricting: if bits & 2 == 2 { vec![70, 71] } else { vec![] },
+        integrity: INTEGRITY_LEVELS[SERVER_INTEGRITY],
+        ..Token::bare(number, SERVER_USER, 9)
+    }
+}
+
+/// An impersonation token that may be like the servers or not.
+fn random_other(rng: &mut Rng, number: u64) -> Token {
+    let user = rng.pick(&[SERVER_USER, SERVER_USER + 1]);
+    Token {
+        kind: TokenType::Impersonation,
+        level: rng.pick(&LEVELS),
+        restricting: rng.pick(&[&[][..], &[70]]).to_vec(),
+        write_restricted: rng.percent(30),
+        integrity: INTEGRITY_LEVELS[SERVER_INTEGRITY - 1 + rng.below(3)],
+        ..Token::bare(number, user, 9)
+    }
+}
+
 /// A duplicate of this type, at level 0 and with all rights.
 fn duplicate(model: &mut Model, station: usize, handle: u32, kind: TokenType) -> u32 {
     let (kind, level, mask) = (kind as u32, Level::Anonymous as u32, Mask::ALL.0);
@@ -163,7 +238,7 @@ fn distinct<T: Copy>(rng: &mut Rng, items: &[T], count: usize) -> Vec<T> {
     (0..count).map(|_| rest.swap_remove(rng.below(rest.len()))).collect()
 }
 
-/// A handle on each token that no station has, and some more.
+/// A handle on each token that no station refers to, and some more.
 fn place_handles(rng: &mut Rng, model: &mut Model) {
     let numbers: Vec<u32> = numbers(rng, HANDLES, 1 << 20, u32::MAX.into())
         .into_iter()
@@ -194,10 +269,9 @@ fn random_handle(rng: &mut Rng, number: u32, token: u64) -> Handle {
 
 fn random_token(rng: &mut Rng, number: u64) -> Token {
     let kind = rng.pick(&[TokenType::Primary, TokenType::Primary, TokenType::Impersonation]);
-    let levels = [Level::Anonymous, Level::Identification, Level::Impersonation, Level::Delegation];
     let level = match kind {
         TokenType::Primary => Level::Anonymous,
-        TokenType::Impersonation => rng.pick(&levels),
+        TokenType::Impersonation => rng.pick(&LEVELS),
     };
     let present = (rng.bits() | rng.pick(&[0, NEEDED])) & ALL_PRIVILEGES;
     let mut token = Token {
@@ -257,6 +331,14 @@ fn place_indexes(rng: &mut Rng, token: &mut Token) {
     token.primary_group = rng.pick(&indexes);
 }
 
+/// None, or one of the tokens at a level up to its own.
+fn random_client(rng: &mut Rng, tokens: &[(u64, Level)]) -> Option<Client> {
+    let (token, own) = rng.pick_any(tokens).filter(|_| rng.percent(60))?;
+    let below: Vec<Level> = LEVELS.into_iter().filter(|&level| level <= own).collect();
+    let level = if rng.percent(40) { own } else { rng.pick(&below) };
+    Some(Client { token, level })
+}
+
 fn random_station(rng: &mut Rng, token: u64) -> Station {
     let broken = rng.percent(15);
     let mut pending = Vec::new();
@@ -266,5 +348,5 @@ fn random_station(rng: &mut Rng, token: u64) -> Station {
         let cut = rng.pick(&[1, 2, frame.len() / 2, frame.len() - 1]).min(frame.len() - 1);
         pending = frame[..cut].to_vec();
     }
-    Station { token, pending, broken }
+    Station { token, client: None, pending, broken }
 }

@@ -3,10 +3,11 @@
 use model::{
     number_length, Handle, Level, Mask, Model, Privileges, Reader, Refusal, Request, Token,
     TokenType, ALL_PRIVILEGES, ASSIGN_PRIMARY, CREATE_TOKEN, DISABLE, ENABLE, FIRST_PRIVILEGE,
-    HANDLES, INTEGRITY_LEVELS, LAST_CLASS, LAST_PRIVILEGE, LAST_REQUEST, MAX_DACL, MAX_GROUPS,
-    MAX_RESTRICTING, NO_CHANGE, REMOVE, RESET_GROUPS, RESET_PRIVILEGES, TCB, TOKENS,
+    HANDLES, IMPERSONATE, INTEGRITY_LEVELS, LAST_CLASS, LAST_PRIVILEGE, LAST_REQUEST, MAX_DACL,
+    MAX_GROUPS, MAX_RESTRICTING, NO_CHANGE, REMOVE, RESET_GROUPS, RESET_PRIVILEGES, TCB, TOKENS,
 };
 
+use crate::damage::is_client;
 use crate::fields::{fields, flat};
 use crate::groups::{kind, Kind};
 use crate::rng::Rng;
@@ -19,7 +20,7 @@ pub(crate) struct Wish<'a> {
     pub station: usize,
 }
 
-/// The privileges that requests need.
+/// The privileges that requests are refused without.
 const NEEDED_ONES: [u32; 3] = [CREATE_TOKEN, ASSIGN_PRIMARY, TCB];
 /// Their bits.
 pub const NEEDED: u64 = 1 << CREATE_TOKEN | 1 << ASSIGN_PRIMARY | 1 << TCB;
@@ -43,18 +44,9 @@ const RIGHTS: [Mask; LAST_REQUEST as usize + 1] = [
     Mask::DUPLICATE,
     Mask::DUPLICATE,
     Mask::ASSIGN_PRIMARY,
+    Mask::IMPERSONATE,
+    Mask(0),
 ];
-
-/// Whether a request of this number has something to do on the token.
-fn suits(kind: usize, token: &Token) -> bool {
-    match kind {
-        6 | 8 => !token.groups.is_empty(),
-        9 => token.root != token.number,
-        10 => token.is_restricted() || token.write_restricted,
-        11 => token.kind == TokenType::Primary,
-        _ => true,
-    }
-}
 
 impl Wish<'_> {
     /// A request of the kind that the state lets choose.
@@ -78,22 +70,31 @@ impl Wish<'_> {
             8 => self.default(wanted),
             9 => self.duplicate(wanted),
             10 => self.restrict(wanted),
-            _ => Request::Install { handle },
+            11 => Request::Install { handle },
+            12 => Request::Impersonate { handle: self.again().unwrap_or(handle) },
+            _ => Request::Revert,
         }
     }
 
     /// A request's number: open without handles, close when slots run out, groups if there are any,
-    /// restrict what is restricted.
+    /// restrict what is restricted, act for what may be acted for, give up what one acts for.
     fn kind(&mut self) -> usize {
-        let mut weights: [_; RIGHTS.len()] = [0, 16, 6, 10, 14, 14, 14, 8, 12, 14, 14, 20];
+        let mut weights: [_; RIGHTS.len()] = [0, 16, 6, 10, 14, 14, 14, 8, 12, 14, 14, 20, 5, 2];
         let own = self.own_handles();
         if own.len() < 2 {
             weights[1] = 60;
         }
-        for (kind, more) in [(6, 20), (10, 8)] {
-            if own.iter().any(|&handle| self.token(handle).is_some_and(|token| suits(kind, token)))
-            {
+        for (kind, more) in [(2, 4), (6, 20), (10, 8), (12, 16)] {
+            if own.iter().any(|&handle| self.suits(kind, handle)) {
                 weights[kind] += more;
+            }
+        }
+        if let Some(client) = self.model.stations[self.station].client {
+            weights[13] += 8;
+            let mut handles = self.model.handles.iter().flatten();
+            if handles.all(|handle| handle.token != client.token) {
+                weights[12] += 12;
+                weights[13] += 4;
             }
         }
         if self.model.handles.iter().flatten().count() > HANDLES - 3 {
@@ -103,6 +104,21 @@ impl Wish<'_> {
             weights[2] += 14;
         }
         self.rng.weighted(&weights)
+    }
+
+    /// Whether a request of this number has something to do on the handle's token: close what stays
+    /// though it was the last handle on it.
+    fn suits(&self, kind: usize, handle: Handle) -> bool {
+        let Some(token) = self.token(handle) else { return false };
+        match kind {
+            2 => is_client(self.model, token.number),
+            6 | 8 => !token.groups.is_empty(),
+            9 => token.root != token.number,
+            10 => token.is_restricted() || token.write_restricted,
+            11 => token.kind == TokenType::Primary,
+            12 => token.kind == TokenType::Impersonation,
+            _ => true,
+        }
     }
 
     fn own_handles(&self) -> Vec<Handle> {
@@ -118,9 +134,8 @@ impl Wish<'_> {
         let (granting, lacking): (Vec<_>, Vec<_>) =
             own.iter().partition(|handle| right.within(Mask(handle.mask)));
         let wanted = self.rng.percent(80);
-        let suits =
-            |handle: &Handle| self.token(*handle).is_some_and(|token| suits(kind, token) == wanted);
-        let suiting: Vec<_> = granting.iter().copied().filter(suits).collect();
+        let is_wanted = |handle: &Handle| self.suits(kind, *handle) == wanted;
+        let suiting: Vec<_> = granting.iter().copied().filter(is_wanted).collect();
         let all: Vec<_> = self.model.handles.iter().flatten().copied().collect();
         let found = match self.rng.below(100) {
             0..=62 => self.rng.pick_any(&suiting).or_else(|| self.rng.pick_any(&granting)),
@@ -154,6 +169,14 @@ impl Wish<'_> {
             17 => Mask::ALL.0,
             _ => self.rng.pick(&[0, 0x10, 0x200, 0x1FF, odd]),
         }
+    }
+
+    /// Now and then a handle on the token that the station acts for.
+    fn again(&mut self) -> Option<u32> {
+        let client = self.model.stations[self.station].client.filter(|_| self.rng.percent(40))?;
+        let mut own = self.own_handles();
+        own.retain(|handle| handle.token == client.token);
+        self.rng.pick_any(&own).map(|handle| handle.number)
     }
 
     fn create(&mut self) -> Request {
@@ -235,8 +258,8 @@ impl Wish<'_> {
             return vec![RESET_PRIVILEGES];
         }
         let words = self.token(handle).map_or(Privileges::default(), |token| token.privileges);
-        let all: Vec<u32> =
-            NEEDED_ONES.into_iter().chain(FIRST_PRIVILEGE..=LAST_PRIVILEGE).collect();
+        let often = NEEDED_ONES.into_iter().chain([IMPERSONATE; 3]);
+        let all: Vec<u32> = often.chain(FIRST_PRIVILEGE..=LAST_PRIVILEGE).collect();
         let mut named = self.rng.some(&all, 4);
         named.push(self.rng.pick(&all));
         if !self.rng.percent(4) {
@@ -263,6 +286,8 @@ impl Wish<'_> {
             [false, _] => [12, 1, 6],
             [true, _] if named == TCB => [15, 34, 1],
             [true, _] if is_needed => [9, 40, 1],
+            [true, false] if named == IMPERSONATE => [1, 4, 1],
+            [true, true] if named == IMPERSONATE => [4, 1, 1],
             [true, false] => [1, 1, 1],
             [true, true] => [3, 5, 2],
         };

@@ -1,28 +1,38 @@
 //! Every request gets every status that it can get, request 6 meets every kind of group, request 10
-//! every kind of list, tokens of every kind of root are copied, and the memory always holds the state.
+//! every kind of list, tokens of every kind of root are copied, request 12 meets every row of its gate
+//! table, and the memory always holds the state.
 
 use gen::{
-    body, fields, flat, near_the_last_numbers, state, with_copies, with_groups, with_restrictions,
-    Counts, Rng,
+    body, each_seed, fields, flat, near_the_last_numbers, one_seed, state, with_clients,
+    with_copies, with_groups, with_restrictions, Call, Calls, Counts, Rng, Step,
 };
-use model::{framed, Mask, Model, Request, HANDLES, MIN_BUFFER, STATIONS};
+use model::{framed, Fed, Mask, Model, Request, HANDLES, IMPERSONATE, MIN_BUFFER, STATIONS};
 
 /// Feeds so many requests as whole frames and counts their statuses.
 fn run(seed: u64, mut model: Model, requests: usize, counts: &mut Counts) {
     let mut rng = Rng::new(seed);
     for step in 0..requests {
         let station = rng.below(STATIONS);
-        model.reconnect(station as u32);
+        make(&mut model, &Call::Reconnect { station: station as u32 }, counts);
         let body = body(&mut rng, &model, station);
         let before = model.clone();
-        let fed = model.feed(station as u32, &framed(&body), MIN_BUFFER);
+        let (station, chunk) = (station as u32, framed(&body));
+        let call = Call::Feed { station, chunk, buffer_len: MIN_BUFFER };
+        let fed = make(&mut model, &call, counts);
         let place = format!("seed {seed}, step {step}, station {station}, body {body:02X?}");
         assert_eq!((fed.refusal, fed.used), (0, framed(&body).len()), "{place}");
         let is_success = gen::status(&fed.answer) == Some(0);
         assert!(is_success || model == before, "refused but changed: {place}");
         assert_eq!(model.memory().model().as_ref(), Some(&model), "{place}");
-        counts.request(&before, station, &body, &fed);
     }
+}
+
+/// Makes a call and counts it.
+fn make(model: &mut Model, call: &Call, counts: &mut Counts) -> Fed {
+    let before = model.clone();
+    let fed = model.make(call);
+    counts.step(&Step { call, before: &before, after: model, fed: &fed });
+    fed
 }
 
 /// The start, and all handle slots but a few taken.
@@ -35,11 +45,34 @@ fn crowded() -> Model {
     model
 }
 
+/// The start, after each station has made a copy of its token for impersonation, and put in the token's
+/// place a restricted one without Impersonate.
+fn restricted() -> Model {
+    let mut model = Model::start();
+    for station in 0..STATIONS as u32 {
+        let mut ask = |request| model.feed(station, &framed(&flat(&fields(&request))), MIN_BUFFER);
+        ask(Request::Open { mask: Mask::ALL.0 });
+        let handle = 3 * station + 1;
+        let (kind, level, mask) = (2, 3, Mask::ALL.0);
+        ask(Request::Duplicate { handle, kind, level, mask });
+        let (write_restricted, remove, deny, sids) = (0, 1 << IMPERSONATE, vec![], vec![70]);
+        ask(Request::Restrict { handle, write_restricted, remove, deny, sids });
+        ask(Request::Install { handle: handle + 2 });
+        ask(Request::Close { handle });
+        ask(Request::Close { handle: handle + 2 });
+    }
+    model
+}
+
 #[test]
 fn every_status_from_the_start() {
     let mut counts = Counts::default();
     for seed in 0..40 {
-        let first = if seed % 4 == 0 { crowded() } else { Model::start() };
+        let first = match seed % 4 {
+            0 => crowded(),
+            1 => restricted(),
+            _ => Model::start(),
+        };
         run(seed, first, 500, &mut counts);
     }
     println!("from the start:\n{counts}");
@@ -49,7 +82,7 @@ fn every_status_from_the_start() {
 #[test]
 fn every_status_from_random_states() {
     let mut counts = Counts::default();
-    for seed in 1000..1400 {
+    for seed in 1000..1600 {
         run(seed, state(&mut Rng::new(seed)), 50, &mut counts);
     }
     println!("from random states:\n{counts}");
@@ -69,7 +102,7 @@ fn every_kind_of_group() {
 #[test]
 fn every_restriction() {
     let mut counts = Counts::default();
-    for seed in 4000..4400 {
+    for seed in 4000..4600 {
         run(seed, with_restrictions(), 100, &mut counts);
     }
     println!("with restrictions:\n{counts}");
@@ -85,6 +118,30 @@ fn every_kind_of_root() {
     }
     println!("with copies:\n{counts}");
     counts.check_roots(20);
+}
+
+#[test]
+fn every_row_of_the_gate_table() {
+    let mut counts = Counts::default();
+    each_seed(6000..10_000, |seed, rng| run(seed, with_clients(rng), 25, &mut counts));
+    println!("with clients:\n{counts}");
+    if one_seed().is_none() {
+        counts.check_gates(8);
+        counts.check_uses(4);
+    }
+}
+
+#[test]
+fn everything_that_can_happen_to_a_client() {
+    let mut counts = Counts::default();
+    each_seed(10_000..11_000, |seed, rng| {
+        let first = if seed % 2 == 0 { with_clients(rng) } else { state(rng) };
+        run(seed, first, 100, &mut counts);
+    });
+    println!("with clients:\n{counts}");
+    if one_seed().is_none() {
+        counts.check_clients(10);
+    }
 }
 
 #[test]

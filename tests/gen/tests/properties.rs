@@ -1,15 +1,18 @@
 //! Demand 3 on the model itself: what never grows, what stays, and that cuts change nothing. That a
-//! second restriction never widens. That a root never changes, and is the oldest source. And that
-//! request 5 reports what was before.
+//! second restriction never widens. That a root never changes, and is the oldest source. That a station
+//! acts for another by its own requests only, never above the token's level. And that request 5
+//! reports what was before.
 
 use std::cell::RefCell;
 use std::collections::{BTreeMap, BTreeSet};
 use std::fmt::Debug;
 
-use gen::{each_seed, one_seed, run, state, with_copies, with_restrictions, Call, Step};
+use gen::{
+    each_seed, one_seed, run, state, with_clients, with_copies, with_restrictions, Call, Step,
+};
 use model::{
-    write_number, Group, Level, Model, Reader, Request, Token, TokenType, DISABLE, ENABLE, NO_ROOT,
-    REMOVE, RESET_PRIVILEGES, STATIONS,
+    write_number, Client, Group, Level, Model, Reader, Request, Token, TokenType, DISABLE, ENABLE,
+    IMPERSONATE, NO_ROOT, REMOVE, RESET_PRIVILEGES, STATIONS,
 };
 
 /// Many scripts, from the start and from random states.
@@ -18,6 +21,7 @@ fn run_all(check: impl Fn(&Step) + Copy) {
     each_seed(100..200, |seed, rng| run(seed, state(rng), 100, check));
     each_seed(200..240, |seed, _| run(seed, with_restrictions(), 200, check));
     each_seed(240..280, |seed, _| run(seed, with_copies(), 200, check));
+    each_seed(280..320, |seed, rng| run(seed, with_clients(rng), 200, check));
 }
 
 fn tokens(model: &Model) -> impl Iterator<Item = &Token> {
@@ -197,7 +201,7 @@ fn a_restriction_keeps_each_sid_that_is_also_given_as_often_as_it_was() {
 #[test]
 fn second_and_third_restrictions_come() {
     let mut seen = BTreeMap::new();
-    each_seed(300..700, |seed, _| {
+    each_seed(300..900, |seed, _| {
         let mut depths = BTreeMap::new();
         run(seed, with_restrictions(), 250, |step| {
             let Some((request, source, copy)) = copied(step) else { return };
@@ -270,7 +274,7 @@ impl Sources {
 fn a_root_is_the_oldest_source_unless_one_on_the_way_is_anonymous() {
     let mut seen = BTreeMap::new();
     let starts = [Model::start, with_restrictions, with_copies];
-    each_seed(800..1600, |seed, _| {
+    each_seed(1000..4000, |seed, _| {
         let first = starts[seed as usize % starts.len()]();
         let roots: BTreeMap<u64, u64> = tokens(&first).map(|t| (t.number, t.root)).collect();
         let mut sources = Sources::default();
@@ -326,10 +330,121 @@ fn class_9_tells_the_root_last() {
         *seen.borrow_mut().entry((kind, short)).or_insert(0) += 1;
     };
     run_all(check);
-    each_seed(320..520, |seed, _| run(seed, with_copies(), 200, check));
+    each_seed(4000..4400, |seed, _| run(seed, with_copies(), 200, check));
     println!("reports, by root and bytes that the capacity lacks: {:?}", seen.borrow());
     let kinds = ["none", "its own", "another"];
     check_counts(&seen.borrow(), kinds.into_iter().flat_map(|kind| [(kind, 0), (kind, 1)]));
+}
+
+#[test]
+fn the_level_in_force_is_never_above_the_tokens_own() {
+    run_all(|Step { call, after, .. }| {
+        for client in after.stations.iter().filter_map(|station| station.client) {
+            let token = after.token(client.token).expect("a client's token lives");
+            assert_eq!(token.kind, TokenType::Impersonation, "{call:?}");
+            assert!(client.level <= token.level, "{call:?}");
+        }
+    });
+}
+
+/// The numbers that a success answers after its length and its status, a byte each.
+fn answered(step: &Step) -> Vec<u64> {
+    let mut fields = Reader::new(&step.fed.answer[2..]);
+    let mut numbers = Vec::new();
+    while !fields.at_end() {
+        numbers.push(fields.u64().expect("a number"));
+    }
+    numbers
+}
+
+/// A client as request 13 answers it.
+fn told(client: Option<Client>) -> [u64; 2] {
+    client.map_or([0, 0], |client| [client.token, client.level as u64])
+}
+
+#[test]
+fn what_a_station_acts_for_changes_only_by_its_own_12_and_13() {
+    let seen = RefCell::new(BTreeMap::new());
+    run_all(|step| {
+        let request = ended_request(step).filter(|_| step.status() == Some(0));
+        for station in 0..STATIONS {
+            let [old, new] = [step.before, step.after].map(|model| model.stations[station].client);
+            let by = match request {
+                Some((at, Request::Impersonate { handle })) if at == station => {
+                    let token = token_of(step.before, station, handle).expect("a success has one");
+                    let level = answered(step)[..] == [told(new)[1]];
+                    assert!(level && told(new)[0] == token.number, "{:?}", step.call);
+                    "12"
+                }
+                Some((at, Request::Revert)) if at == station => {
+                    assert_eq!((new, &answered(step)[..]), (None, &told(old)[..]));
+                    "13"
+                }
+                _ => {
+                    assert_eq!(old, new, "{:?}", step.call);
+                    "no request"
+                }
+            };
+            *seen.borrow_mut().entry((by, old.is_some(), new.is_some())).or_insert(0) += 1;
+        }
+    });
+    println!("requests, by acting before and after: {:?}", seen.borrow());
+    let changes = [("12", false, true), ("12", true, true), ("13", false, false)];
+    check_counts(&seen.borrow(), changes.into_iter().chain([("13", true, false)]));
+}
+
+/// The state without clients, without the used bit that request 12 sets and without one token.
+fn but_for(model: &Model, station: usize, gone: Option<u64>) -> Model {
+    let mut model = model.clone();
+    model.stations[station].client = None;
+    let own = model.stations[station].token;
+    for slot in &mut model.tokens {
+        match slot {
+            Some(token) if token.number == own => token.privileges.used |= 1 << IMPERSONATE,
+            Some(token) if Some(token.number) == gone => *slot = None,
+            _ => {}
+        }
+    }
+    model
+}
+
+#[test]
+fn requests_12_and_13_change_nothing_else() {
+    let seen = RefCell::new(BTreeMap::new());
+    let check = |step: &Step| {
+        let Some((station, Request::Impersonate { .. } | Request::Revert)) = ended_request(step)
+        else {
+            return;
+        };
+        let old = step.before.stations[station].client.map(|client| client.token);
+        let gone = old.filter(|&token| !step.after.is_referred_to(token));
+        let [before, after] =
+            [step.before, step.after].map(|model| but_for(&without_streams(model), station, gone));
+        assert_eq!(before, after, "{:?}", step.call);
+        assert!(gone.is_none_or(|token| step.after.token(token).is_none()), "{:?}", step.call);
+        *seen.borrow_mut().entry(gone.is_some()).or_insert(0) += 1;
+    };
+    run_all(check);
+    each_seed(5000..5400, |seed, rng| run(seed, state(rng), 200, check));
+    println!("tokens freed by requests 12 and 13: {:?}", seen.borrow());
+    check_counts(&seen.borrow(), [false, true]);
+}
+
+#[test]
+fn a_token_lives_exactly_while_something_refers_to_it() {
+    let seen = RefCell::new(BTreeMap::new());
+    run_all(|Step { call, after, .. }| {
+        for token in tokens(after) {
+            assert!(after.is_referred_to(token.number), "{call:?}");
+            let references = after.references().filter(|&number| number == token.number).count();
+            let clients = after.stations.iter().filter_map(|station| station.client);
+            let by_clients = clients.filter(|client| client.token == token.number).count();
+            *seen.borrow_mut().entry(references == by_clients).or_insert(0) += 1;
+        }
+        assert!(after.references().all(|number| after.token(number).is_some()), "{call:?}");
+    });
+    println!("tokens that only clients keep alive: {:?}", seen.borrow());
+    check_counts(&seen.borrow(), [true]);
 }
 
 #[test]

@@ -76,8 +76,8 @@ impl Model {
             Ok(station) => station,
             Err(refusal) => return refusal.number(),
         };
-        let token = self.stations[station].token;
-        self.stations[station] = Station { token, ..Station::default() };
+        let Station { token, client, .. } = self.stations[station];
+        self.stations[station] = Station { token, client, ..Station::default() };
         0
     }
 }

@@ -43,6 +43,8 @@ pub mod station_word {
     pub const TOKEN: usize = 0;
     pub const PENDING_COUNT: usize = 1;
     pub const BROKEN: usize = 2;
+    pub const CLIENT: usize = 3;
+    pub const CLIENT_LEVEL: usize = 4;
 }
 
 /// Where a handle's fields stand in its record: bytes.
@@ -71,7 +73,7 @@ pub const DACL_ROW: usize = MAX_DACL;
 /// Bytes of a handle's record.
 pub const HANDLE_BYTES: usize = handle_byte::TOKEN.end;
 /// Words of a station's row.
-pub const STATION_ROW: usize = station_word::BROKEN + 1;
+pub const STATION_ROW: usize = station_word::CLIENT_LEVEL + 1;
 /// Bytes of a station's row of pending bytes.
 pub const PENDING_ROW: usize = MAX_LENGTH_BYTES + MAX_BODY;
 

@@ -5,6 +5,7 @@
 //! The model favours being plainly right over being quick; it shares no code with the broker.
 
 mod adjust;
+mod clients;
 mod feed;
 mod frame;
 mod layout;
@@ -47,7 +48,7 @@ pub use request::{
     Request, DISABLE, ENABLE, LAST_REQUEST, NO_CHANGE, REMOVE, RESET_GROUPS, RESET_PRIVILEGES,
 };
 pub use rights::Mask;
-pub use state::{Handle, Model, Station, HANDLES, STATIONS, TOKENS};
+pub use state::{Client, Handle, Model, Station, HANDLES, NO_CLIENT, STATIONS, TOKENS};
 pub use token::{
     Elevation, Group, Level, Token, TokenType, ANONYMOUS_SID, INTEGRITY_LEVELS, MAX_DACL,
     MAX_GROUPS, MAX_RESTRICTING, NO_ROOT, SYSTEM_SID,

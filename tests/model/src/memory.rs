@@ -6,7 +6,7 @@ use crate::layout::{
 };
 use crate::privileges::Privileges;
 use crate::record::HandleRecord;
-use crate::state::{Model, Station};
+use crate::state::{Client, Model, Station, NO_CLIENT};
 use crate::token::{Elevation, Group, Level, Token, TokenType};
 
 /// The names of the parts, in the order in which they are lent.
@@ -57,6 +57,10 @@ impl Model {
             row[station_word::TOKEN] = station.token;
             row[station_word::PENDING_COUNT] = station.pending.len() as u64;
             row[station_word::BROKEN] = station.broken.into();
+            if let Some(client) = station.client {
+                row[station_word::CLIENT] = client.token;
+                row[station_word::CLIENT_LEVEL] = client.level as u64;
+            }
         }
         words
     }
@@ -123,14 +127,7 @@ impl Memory {
         }
         let tokens = self.token_rows().map(|row| row.token()).collect::<Option<Vec<_>>>()?;
         let handles: Vec<_> = self.handles.iter().map(HandleRecord::slot).collect();
-        let stations: Vec<_> = self
-            .station_rows()
-            .map(|row| Station {
-                token: row.token,
-                pending: row.pending().to_vec(),
-                broken: row.broken == 1,
-            })
-            .collect();
+        let stations = self.station_rows().map(|row| row.station()).collect::<Option<Vec<_>>>()?;
         Some(Model {
             tokens: tokens.try_into().ok()?,
             handles: handles.try_into().ok()?,
@@ -154,6 +151,8 @@ impl Memory {
             token: words[station_word::TOKEN],
             count: words[station_word::PENDING_COUNT],
             broken: words[station_word::BROKEN],
+            client: words[station_word::CLIENT],
+            client_level: words[station_word::CLIENT_LEVEL],
             row,
         })
     }
@@ -180,6 +179,8 @@ pub(crate) struct StationRow<'a> {
     pub token: u64,
     pub count: u64,
     pub broken: u64,
+    pub client: u64,
+    pub client_level: u64,
     pub row: &'a [u8],
 }
 
@@ -190,6 +191,21 @@ impl StationRow<'_> {
 
     pub fn past_pending(&self) -> &[u8] {
         &self.row[used(self.row, self.count)..]
+    }
+
+    /// Whether it acts for a token.
+    pub fn has_client(&self) -> bool {
+        self.client != NO_CLIENT
+    }
+
+    fn station(&self) -> Option<Station> {
+        let client = Client { token: self.client, level: Level::from_number(self.client_level)? };
+        Some(Station {
+            token: self.token,
+            client: self.has_client().then_some(client),
+            pending: self.pending().to_vec(),
+            broken: self.broken == 1,
+        })
     }
 }
 

@@ -12,7 +12,8 @@ pub const CREATE_TOKEN: u32 = 2;
 pub const ASSIGN_PRIMARY: u32 = 3;
 /// Act as part of the trusted base.
 pub const TCB: u32 = 7;
-/// Impersonate; no request needs it.
+/// Act above Identification for tokens of another user or restriction, and for unrestricted ones though
+/// restricted.
 pub const IMPERSONATE: u32 = 29;
 
 /// A token's privileges.

@@ -12,12 +12,13 @@ pub enum Refusal {
     Right,
     /// The privilege is not held.
     Privilege,
-    /// A bad field or entry, an unknown class, installing a non-primary token, or restricting a
-    /// restricted one to none of its SIDs, or to write-restricted where it is not.
+    /// A bad field or entry, an unknown class, installing a non-primary token, acting for a primary
+    /// one, or restricting a restricted one to none of its SIDs, or to write-restricted where it is not.
     Field,
     /// A mandatory, deny-only or logon group, or disabling one with the user's SID.
     Protected,
-    /// The token to install is of another user or session.
+    /// The token to install is of another user or session; or the own token is restricted, the one
+    /// to act for is not, and Impersonate is not held.
     Mismatch,
     /// No slot is free, no number is left, or there are too many restricting SIDs for an
     /// unrestricted token.

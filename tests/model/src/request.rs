@@ -1,4 +1,4 @@
-//! The eleven requests and their layouts.
+//! The requests and their layouts.
 
 use crate::number::Reader;
 
@@ -16,11 +16,11 @@ pub const RESET_PRIVILEGES: (u32, u32) = (0, 0x8000_0000);
 pub const RESET_GROUPS: (u32, u32) = (0xFFFF_FFFF, 0);
 
 /// The number of the last request; the first is 1.
-pub const LAST_REQUEST: u32 = 11;
+pub const LAST_REQUEST: u32 = 13;
 
 /// A request in its layout; its values may still be bad.
 #[derive(Clone, Debug, PartialEq, Eq)]
-#[allow(missing_docs)] // the fields are named as in document 01
+#[allow(missing_docs)] // the fields are named as in documents 01 and 02
 pub enum Request {
     /// 1: a handle on the own token.
     Open { mask: u32 },
@@ -51,6 +51,10 @@ pub enum Request {
     Restrict { handle: u32, write_restricted: u32, remove: u64, deny: Vec<u32>, sids: Vec<u32> },
     /// 11: makes a token the station's own.
     Install { handle: u32 },
+    /// 12: acts for a token.
+    Impersonate { handle: u32 },
+    /// 13: acts for none.
+    Revert,
 }
 
 impl Request {
@@ -83,6 +87,8 @@ impl Request {
             },
             10 => Self::read_restrict(reader)?,
             11 => Request::Install { handle: reader.u32()? },
+            12 => Request::Impersonate { handle: reader.u32()? },
+            13 => Request::Revert,
             _ => return None,
         })
     }

@@ -9,7 +9,7 @@ impl Mask {
     pub const ASSIGN_PRIMARY: Mask = Mask(1);
     /// Copy the token, by duplicate or restrict.
     pub const DUPLICATE: Mask = Mask(2);
-    /// Impersonate the token; no request needs it.
+    /// Act for the token.
     pub const IMPERSONATE: Mask = Mask(4);
     /// Query the token.
     pub const QUERY: Mask = Mask(8);

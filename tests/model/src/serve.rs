@@ -3,7 +3,7 @@
 use crate::number::write_number;
 use crate::refusal::Refusal;
 use crate::request::Request;
-use crate::state::Model;
+use crate::state::{Client, Model};
 
 impl Model {
     /// Serves the body of one frame and gives the answer's body.
@@ -42,6 +42,10 @@ impl Model {
                 self.restrict(station, handle, write_restricted, remove, &deny, &sids).map(number)
             }
             Request::Install { handle } => self.install(station, handle).map(nothing),
+            Request::Impersonate { handle } => {
+                self.impersonate(station, handle).map(|level| number(level as u32))
+            }
+            Request::Revert => Ok(given_up(self.revert(station))),
         }
     }
 }
@@ -58,6 +62,15 @@ pub(crate) fn refused(refusal: Refusal) -> Vec<u8> {
 fn number(number: u32) -> Vec<u8> {
     let mut fields = Vec::new();
     write_number(number.into(), &mut fields);
+    fields
+}
+
+/// The token's number and the level in force, 0 and 0 if there was no client.
+fn given_up(client: Option<Client>) -> Vec<u8> {
+    let (token, level) = client.map_or((0, 0), |client| (client.token, client.level as u64));
+    let mut fields = Vec::new();
+    write_number(token, &mut fields);
+    write_number(level, &mut fields);
     fields
 }
 

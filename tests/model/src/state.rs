@@ -2,7 +2,7 @@
 
 use crate::refusal::Refusal;
 use crate::rights::Mask;
-use crate::token::Token;
+use crate::token::{Level, Token};
 
 /// How many stations there are.
 pub const STATIONS: usize = 8;
@@ -24,11 +24,25 @@ pub struct Handle {
     pub mask: u32,
 }
 
+/// The number that stands for no client.
+pub const NO_CLIENT: u64 = 0;
+
+/// A token that a station acts for.
+#[derive(Clone, Copy, Debug, PartialEq, Eq)]
+pub struct Client {
+    /// The token's number, never [`NO_CLIENT`].
+    pub token: u64,
+    /// The level in force, as request 12 answered it.
+    pub level: Level,
+}
+
 /// A station and its stream.
 #[derive(Clone, Debug, Default, PartialEq, Eq)]
 pub struct Station {
     /// The number of its primary ("real") token.
     pub token: u64,
+    /// The token that it acts for, if any.
+    pub client: Option<Client>,
     /// The bytes of a frame not yet whole, its length bytes among them.
     pub pending: Vec<u8>,
     /// Whether its stream is broken.
@@ -157,10 +171,18 @@ impl Model {
         Ok(handle)
     }
 
-    /// Whether a handle or a station refers to the token.
+    /// Every reference to a token: of handles, of stations to their primary tokens, and of stations
+    /// to the tokens that they act for.
+    pub fn references(&self) -> impl Iterator<Item = u64> + '_ {
+        let handles = self.handles.iter().flatten().map(|handle| handle.token);
+        let primaries = self.stations.iter().map(|station| station.token);
+        let clients = self.stations.iter().filter_map(|station| station.client);
+        handles.chain(primaries).chain(clients.map(|client| client.token))
+    }
+
+    /// Whether anything refers to the token.
     pub fn is_referred_to(&self, number: u64) -> bool {
-        self.handles.iter().flatten().any(|handle| handle.token == number)
-            || self.stations.iter().any(|station| station.token == number)
+        self.references().any(|token| token == number)
     }
 
     /// Frees the token that just lost a reference, if that was its last one.

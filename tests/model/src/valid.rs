@@ -7,7 +7,7 @@ use crate::frame::may_be_pending;
 use crate::layout::{
     control_word, CONTROL_WORDS, DACL_BYTES, HANDLE_ROWS, PENDING_BYTES, TOKEN_WORDS,
 };
-use crate::memory::{Memory, TokenRow};
+use crate::memory::{Memory, StationRow, TokenRow};
 use crate::privileges::ALL_PRIVILEGES;
 use crate::record::HandleRecord;
 use crate::rights::Mask;
@@ -37,6 +37,8 @@ pub const RULES: &[Rule] = &[
     ("deny-only", deny_only_groups_are_not_enabled),
     ("pending", pending_could_have_come_from_a_stream),
     ("roots", roots_are_at_most_the_number),
+    ("client tokens", client_tokens_are_for_impersonation),
+    ("client levels", levels_in_force_are_at_most_the_tokens_own),
 ];
 
 impl Memory {
@@ -66,10 +68,23 @@ impl Memory {
         self.handles.iter().filter(|handle| handle.number != 0)
     }
 
-    /// Every token number that a handle or a station refers to.
+    /// The live tokens of this number: one, unless two have it.
+    fn tokens_numbered(&self, number: u64) -> impl Iterator<Item = TokenRow<'_>> {
+        self.live_tokens().filter(move |row| row.number() == number)
+    }
+
+    /// The stations that act for a token.
+    fn acting_stations(&self) -> impl Iterator<Item = StationRow<'_>> {
+        self.station_rows().filter(StationRow::has_client)
+    }
+
+    /// Every token number that a handle or a station refers to, the station as its own or as its
+    /// client's.
     fn references(&self) -> HashSet<u64> {
-        let stations = self.station_rows().map(|row| row.token);
-        self.live_handles().map(|handle| handle.token).chain(stations).collect()
+        let handles = self.live_handles().map(|handle| handle.token);
+        let primaries = self.station_rows().map(|row| row.token);
+        let clients = self.acting_stations().map(|row| row.client);
+        handles.chain(primaries).chain(clients).collect()
     }
 }
 
@@ -212,4 +227,23 @@ fn pending_could_have_come_from_a_stream(memory: &Memory) -> bool {
 
 fn roots_are_at_most_the_number(memory: &Memory) -> bool {
     memory.live_tokens().all(|row| row.root() <= row.number())
+}
+
+fn client_tokens_are_for_impersonation(memory: &Memory) -> bool {
+    memory
+        .acting_stations()
+        .flat_map(|station| memory.tokens_numbered(station.client))
+        .all(|row| row.kind() == TokenType::Impersonation as u64)
+}
+
+/// Where there is no client, the level is 0.
+fn levels_in_force_are_at_most_the_tokens_own(memory: &Memory) -> bool {
+    memory.station_rows().all(|station| {
+        if station.has_client() {
+            let mut tokens = memory.tokens_numbered(station.client);
+            tokens.all(|row| station.client_level <= row.level())
+        } else {
+            station.client_level == 0
+        }
+    })
 }

@@ -8,6 +8,7 @@ pub numbers-valid-spec : {M : Type 1} → statement M
 numbers-valid-spec =
     tie.close
     (tie.spec
+    (λ c. search needs)
     (λ c κs. search needs)
     (λ c κs. search needs)
     (λ c κs. search needs)

@@ -1,4 +1,4 @@
-//! The rival's own names of sizes, places and values, after document 01 and docs/MEMORY.md.
+//! The rival's own names of sizes, places and values, after documents 01 and 02 and docs/MEMORY.md.
 
 use std::ops::Range;
 
@@ -63,8 +63,10 @@ pub mod station_word {
     pub const TOKEN: usize = 0;
     pub const PENDING_COUNT: usize = 1;
     pub const BROKEN: usize = 2;
+    pub const ACTS_FOR: usize = 3;
+    pub const IN_FORCE: usize = 4;
 }
-pub const STATION_ROW: usize = station_word::BROKEN + 1;
+pub const STATION_ROW: usize = station_word::IN_FORCE + 1;
 
 /// Bytes of a token's DACL and of a station's pending bytes.
 pub const DACL_ROW: usize = MAX_DACL;
@@ -74,6 +76,7 @@ pub const PENDING_ROW: usize = MAX_LENGTH_BYTES + MAX_BODY;
 pub const PRIMARY: u64 = 1;
 pub const IMPERSONATION: u64 = 2;
 pub const ANONYMOUS: u64 = 0;
+pub const IDENTIFICATION: u64 = 1;
 pub const DELEGATION: u64 = 3;
 pub const DEFAULT_ELEVATION: u64 = 1;
 pub const LIMITED: u64 = 3;
@@ -86,6 +89,7 @@ pub const SYSTEM_SID: u64 = 18;
 pub const CREATE_TOKEN: u32 = 2;
 pub const ASSIGN_PRIMARY: u32 = 3;
 pub const TCB: u32 = 7;
+pub const IMPERSONATE: u32 = 29;
 pub const ALL_PRIVILEGES: u64 = (1 << 37) - (1 << 2);
 
 /// Where the attributes begin in a group's word: the bit; the SID stands below.
@@ -103,6 +107,7 @@ pub const GIVEN: u32 = MANDATORY | ENABLED_BY_DEFAULT | OWNER | DENY_ONLY | LOGO
 pub mod right {
     pub const ASSIGN_PRIMARY: u32 = 1;
     pub const DUPLICATE: u32 = 2;
+    pub const IMPERSONATE: u32 = 4;
     pub const QUERY: u32 = 8;
     pub const ADJUST_PRIVILEGES: u32 = 0x20;
     pub const ADJUST_GROUPS: u32 = 0x40;

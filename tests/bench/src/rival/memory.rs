@@ -36,6 +36,8 @@ pub struct Station {
     pub token: u64,
     pub count: u64,
     pub broken: u64,
+    pub acts_for: u64,
+    pub in_force: u64,
 }
 
 impl Station {
@@ -45,6 +47,8 @@ impl Station {
             token: words[station_word::TOKEN],
             count: words[station_word::PENDING_COUNT],
             broken: words[station_word::BROKEN],
+            acts_for: words[station_word::ACTS_FOR],
+            in_force: words[station_word::IN_FORCE],
         }
     }
 }

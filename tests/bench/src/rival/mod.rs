@@ -1,6 +1,7 @@
 //! A rival of the broker with the same duties, written in plain Rust to be quick: on every call it
 //! tests all lent memory, then serves in place. It copies no more than it must and allocates nothing.
 
+mod acting;
 mod copies;
 mod groups;
 mod layout;

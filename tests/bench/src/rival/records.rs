@@ -84,10 +84,9 @@ impl Memory<'_> {
     pub fn free_if_last(&mut self, number: u64) {
         let has_handle =
             self.handles.iter().fold(false, |has, handle| has | (handle.token == number));
-        let has_station = self
-            .stations
-            .iter()
-            .fold(false, |has, words| has | (words[station_word::TOKEN] == number));
+        let has_station = self.stations.iter().fold(false, |has, words| {
+            has | (words[station_word::TOKEN] == number) | (words[station_word::ACTS_FOR] == number)
+        });
         if !has_handle && !has_station {
             let slot = self.slot(number);
             self.tokens[slot] = [0; TOKEN_ROW];

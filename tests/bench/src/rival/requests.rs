@@ -1,4 +1,4 @@
-//! The eleven requests on lent memory: reading, refusals in order, effect in place.
+//! The requests on lent memory: reading, refusals in order, effect in place.
 
 use super::groups::{attribute, in_word, Set, SET_WORDS, WORD_GROUPS};
 use super::layout::{
@@ -42,6 +42,8 @@ impl Memory<'_> {
             9 => self.duplicate(station, reader, out),
             10 => self.restrict(station, reader, out),
             11 => self.install(station, reader),
+            12 => self.impersonate(station, reader, out),
+            13 => self.revert(station, reader, out),
             _ => refuse(1, false),
         }
     }

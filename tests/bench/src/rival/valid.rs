@@ -38,7 +38,7 @@ impl Memory<'_> {
             && are_distinct(&handles)
     }
 
-    /// Every handle and station refers to a live token, and every live token is referred to.
+    /// Every handle and station refers to live tokens, and every live token is referred to.
     fn references_are_valid(&self, numbers: &[u64; TOKENS]) -> bool {
         let mut referred = 0;
         for handle in self.handles.iter() {
@@ -56,14 +56,27 @@ impl Memory<'_> {
             referred |= slots;
         }
         for words in self.stations.iter() {
-            let slots = slots_of(numbers, Station::new(words).token);
-            if slots == 0 || self.tokens[slots.trailing_zeros() as usize][word::TYPE] != PRIMARY {
+            let Station { token, acts_for, in_force, .. } = Station::new(words);
+            let [own, other] = [token, acts_for].map(|number| slots_of(numbers, number));
+            if own == 0 || self.row(own)[word::TYPE] != PRIMARY {
                 return false;
             }
-            referred |= slots;
+            let is_good = match acts_for {
+                0 => in_force == 0,
+                _ => other != 0 && may_be_acted_for(self.row(other), in_force),
+            };
+            if !is_good {
+                return false;
+            }
+            referred |= own | other;
         }
         let live = (0..TOKENS).fold(0, |live, slot| live | u32::from(numbers[slot] != 0) << slot);
         live == referred
+    }
+
+    /// The row of the lowest of these slots.
+    fn row(&self, slots: u32) -> &Row {
+        &self.tokens[slots.trailing_zeros() as usize]
     }
 
     fn streams_are_valid(&self) -> bool {
@@ -87,6 +100,10 @@ impl Memory<'_> {
             begins && (count == 0 || broken == 0) && bytes_are_zero(rest)
         })
     }
+}
+
+fn may_be_acted_for(row: &Row, in_force: u64) -> bool {
+    row[word::TYPE] == IMPERSONATION && in_force <= row[word::LEVEL]
 }
 
 /// The slots with this number, as bits; none for 0.

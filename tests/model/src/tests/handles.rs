@@ -44,7 +44,8 @@ fn close_is_for_live_handles_of_the_station() {
 fn every_request_on_a_handle_asks_for_the_stations_own() {
     let mut model = Model::start();
     let own = open(&mut model, 0, 0x1EF);
-    let requests: [&[u64]; 9] = [
+    let copy = handle(&mut model, 0, &[9, own, 2, 1, 4]);
+    let requests: [&[u64]; 10] = [
         &[2, own],
         &[4, own, 1, 9],
         &[5, own, 1, 2, 0],
@@ -54,6 +55,7 @@ fn every_request_on_a_handle_asks_for_the_stations_own() {
         &[9, own, 1, 0, 1],
         &[10, own, 0, 0, 0, 0],
         &[11, own],
+        &[12, copy],
     ];
     for request in requests {
         assert_eq!(status(&mut model.clone(), 1, request), 2, "{request:?}");
@@ -146,7 +148,8 @@ fn a_17th_token_is_refused() {
 fn refusal_1_is_for_layouts() {
     let mut model = Model::start();
     let own = open(&mut model, 0, 0x1EF) as u8;
-    let requests: [&[u8]; 11] = [
+    let copy = handle(&mut model, 0, &[9, own.into(), 2, 1, 4]) as u8;
+    let requests: [&[u8]; 13] = [
         &[1, 8],
         &[2, own],
         &[3, 5, 5, 0, 4, 4, 1, 9, 2],
@@ -158,6 +161,8 @@ fn refusal_1_is_for_layouts() {
         &[9, own, 1, 0, 1],
         &[10, own, 0, 4, 0, 2, 5, 6],
         &[11, own],
+        &[12, copy],
+        &[13],
     ];
     for request in requests {
         assert_eq!(send(&mut model.clone(), 0, request)[0], 0, "{request:?}");
@@ -171,7 +176,7 @@ fn refusal_1_is_for_layouts() {
 #[test]
 fn refusal_1_is_for_unknown_requests() {
     let mut model = Model::start();
-    for request in [0, 12, 13, 127, 128, 257, u64::MAX] {
+    for request in [0, 14, 15, 127, 128, 257, u64::MAX] {
         assert_eq!(ask(&mut model, 0, &[request]), [1]);
         assert_eq!(ask(&mut model, 0, &[request, 1]), [1]);
     }

@@ -1,6 +1,6 @@
 //! The layout of the lent memory.
 
-use super::{handle, open, send};
+use super::{ask, handle, open, send};
 use crate::layout::{
     control_word, station_word, token_word, DACL_ROW, HANDLE_BYTES, PENDING_ROW, STATION_ROW,
     TOKEN_ROW,
@@ -8,13 +8,13 @@ use crate::layout::{
 use crate::{HandleRecord, Memory, Model, ALL_PRIVILEGES, HANDLES, MIN_BUFFER, PARTS, STATIONS};
 
 /// The bytes of each part, as docs/MEMORY.md's first table has them.
-const SIZES: [usize; PARTS.len()] = [12_928, 4_096, 512, 208, 16_400];
+const SIZES: [usize; PARTS.len()] = [12_928, 4_096, 512, 336, 16_400];
 
 #[test]
 fn sizes() {
     let sizes = Model::start().memory().bytes().map(|part| part.len());
     assert_eq!(sizes, SIZES);
-    assert_eq!(sizes.iter().sum::<usize>(), 34_144);
+    assert_eq!(sizes.iter().sum::<usize>(), 34_272);
 }
 
 #[test]
@@ -26,7 +26,7 @@ fn the_start_in_memory() {
     assert_eq!(fields, row);
     assert!(rest.iter().all(|&word| word == 0));
     assert_eq!(memory.handles, [HandleRecord::default(); HANDLES]);
-    assert_eq!(memory.control, [vec![2, 1], [1, 0, 0].repeat(STATIONS)].concat());
+    assert_eq!(memory.control, [vec![2, 1], [1, 0, 0, 0, 0].repeat(STATIONS)].concat());
     assert!(memory.dacls.iter().chain(&memory.pending).all(|&byte| byte == 0));
     assert_eq!(memory.model(), Some(Model::start()));
 }
@@ -41,6 +41,8 @@ fn busy() -> Model {
     assert_eq!(send(&mut model, 2, &[8, copy, 2, 1, 1, 3, 7, 8, 9]), [0]);
     assert_eq!(send(&mut model, 2, &[7, copy, 99]), [0]);
     open(&mut model, 5, 0x1EF);
+    let client = handle(&mut model, 2, &[9, copy.into(), 2, 3, 0x1EF]);
+    assert_eq!(ask(&mut model, 2, &[12, client]), [0, 3]);
     model.feed(3, &[5, 1, 2], MIN_BUFFER);
     model.feed(4, &[0x80, 0x80], MIN_BUFFER);
     model
@@ -67,8 +69,9 @@ fn every_field_has_its_word() {
     assert_eq!(memory.dacls[2 * DACL_ROW..][..4], [7, 8, 9, 0]);
     let last = HandleRecord { station: 5, mask: 0x1EF, number: 3, token: 1 };
     assert_eq!(memory.handles[2], last);
-    assert_eq!(memory.control[..control_word::STATIONS], [4, 4]);
-    assert_eq!(memory.control[station(3, 0)..station(5, 0)], [1, 3, 0, 1, 0, 1]);
+    assert_eq!(memory.control[..control_word::STATIONS], [5, 5]);
+    let rows = [[1, 0, 0, 4, 3], [1, 3, 0, 0, 0], [1, 0, 1, 0, 0]];
+    assert_eq!(memory.control[station(2, 0)..station(5, 0)], rows.concat());
     assert_eq!(memory.pending[3 * PENDING_ROW..][..4], [5, 1, 2, 0]);
 }
 
@@ -112,6 +115,14 @@ fn valid_after(change: impl FnOnce(&mut Memory)) -> bool {
         assert_eq!(model.memory(), memory);
     }
     model.is_some()
+}
+
+/// Whether it stays valid with this client and level in a station's row.
+fn valid_with_client(at: usize, token: u64, level: u64) -> bool {
+    valid_after(|memory| {
+        memory.control[station(at, station_word::CLIENT)] = token;
+        memory.control[station(at, station_word::CLIENT_LEVEL)] = level;
+    })
 }
 
 /// Whether it stays valid with this value in a token's field.
@@ -161,11 +172,46 @@ fn what_it_does_ask() {
 }
 
 #[test]
+fn a_client_is_an_impersonation_token_at_its_own_level_at_most() {
+    for at in [0, 2, 7] {
+        for level in 0..=3 {
+            assert!(valid_with_client(at, 4, level), "at any level up to its own");
+        }
+        for level in [4, 5, 1 << 32, (1 << 32) + 3, u64::MAX] {
+            assert!(!valid_with_client(at, 4, level), "above");
+        }
+        assert!(valid_with_client(at, 0, 0), "none");
+        for level in [1, 3, 4, u64::MAX] {
+            assert!(!valid_with_client(at, 0, level), "none at a level");
+        }
+        for token in 1..=3 {
+            assert!(!valid_with_client(at, token, 0), "a primary token");
+        }
+        for token in [5, 6, 4 + (1 << 32), u64::MAX] {
+            assert!(!valid_with_client(at, token, 0), "a token that is not live");
+        }
+    }
+    assert!(!valid_with(3, token_word::LEVEL, 2), "its own level is below that in force");
+    assert!(!valid_after(|memory| memory.tokens[token(3, token_word::TYPE)] = 1), "primary now");
+}
+
+#[test]
+fn a_client_alone_keeps_a_token_referred_to() {
+    let without_handle = |memory: &mut Memory| memory.handles[3] = HandleRecord::default();
+    assert!(valid_after(without_handle));
+    assert!(!valid_after(|memory| {
+        without_handle(memory);
+        memory.control[station(2, station_word::CLIENT)] = 0;
+        memory.control[station(2, station_word::CLIENT_LEVEL)] = 0;
+    }));
+}
+
+#[test]
 fn any_byte_of_a_free_handle_slot_is_zero() {
     for at in 0..HANDLE_BYTES {
         let mut bytes = [0; HANDLE_BYTES];
         bytes[at] = 1;
         let record = HandleRecord::from_bytes(&bytes);
-        assert!(!valid_after(|memory| memory.handles[3] = record), "byte {at}");
+        assert!(!valid_after(|memory| memory.handles[4] = record), "byte {at}");
     }
 }

@@ -2,6 +2,7 @@
 
 mod calls;
 mod cases;
+mod clients;
 mod copies;
 mod create;
 mod defaults;

@@ -9,7 +9,8 @@ use Rattle.handle.specs.Words.{recordsIn}
 use Rattle.handle.proofs.Words.{records-long}
 use Rattle.valid.specs.Tests.{referenceSlots}
 use Rattle.valid.specs.Meaning.{numberOf, tokenOf, fieldsOf}
-use Rattle.valid.proofs.Loops.{Sorting, sorting-none, sorting-more, sorting-tested, sorting-first, sorting-second}
+use Rattle.valid.proofs.Loops.{Sorting, sorting-none, sorting-more, sorting-tested, sorting-first}
+use Rattle.valid.proofs.Lists.{at-referred}
 use Rattle.valid.proofs.handles.live.Statement.{statement}
 use Rattle.valid.proofs.handles.live.Tie as tie
 
@@ -40,4 +41,11 @@ live-spec =
     let k = c .before .before .before .before in
     sorting-more _ _ _ _ _ _ (k .before .before .loop .inv) (search needs) (k .at .ensures) (c .before .before .before .fields-valid .ensures) (c .before .before .number-of .ensures) (c .before .token-of .ensures) (c .is-kept .ensures .0))
     (λ c κs. search needs)
-    (λ c. search (needs, sorting-tested, sorting-first, sorting-second)))
+    (λ c. search needs)
+    (λ c κs. search needs)
+    (λ c.
+    let sorted = c .before .before .before .before .before .loop .inv in
+    let past = c .before .before .before .before .loop-test .left in (
+      sorting-tested _ _ _ _ _ _ sorted past,
+      (sorting-first _ _ _ _ _ _ sorted past, at-referred _ _ _ _ _ _ sorted past (c .before .before .add-primaries .ensures) (c .add-clients .ensures)),
+    )))
