@@ -1,8 +1,8 @@
 -- The parts are what the start's state is written as. Assumes nothing.
 use borrow.Author.Needs.{needs}
-use Rattle.calls.proofs.Starting.{begun}
-use Rattle.calls.proofs.initial.write.Statement.{statement}
-use Rattle.calls.proofs.initial.write.Tie as tie
+use Rattle.start.proofs.Starting.{begun}
+use Rattle.start.proofs.initial.write.Statement.{statement}
+use Rattle.start.proofs.initial.write.Tie as tie
 
 pub write-spec : {M : Type 1} → statement M
 write-spec =

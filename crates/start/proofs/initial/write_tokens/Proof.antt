@@ -1,9 +1,9 @@
 -- Zeros, and then the head of token 1. Assumes nothing.
 use borrow.Author.Needs.{needs}
 use Rattle.rules.specs.Token.{primaryOf}
-use Rattle.calls.proofs.Starting.{tokens-begun}
-use Rattle.calls.proofs.initial.write_tokens.Statement.{statement}
-use Rattle.calls.proofs.initial.write_tokens.Tie as tie
+use Rattle.start.proofs.Starting.{tokens-begun}
+use Rattle.start.proofs.initial.write_tokens.Statement.{statement}
+use Rattle.start.proofs.initial.write_tokens.Tie as tie
 
 pub write-tokens-spec : {M : Type 1} → statement M
 unfolding primaryOf

@@ -1,9 +1,9 @@
 -- By the test of the sizes. Assumes nothing.
 use borrow.Author.Needs.{needs}
 use Rattle.valid.proofs.Sizes.{right-lent}
-use Rattle.calls.proofs.Starting.{start-refused, starts}
-use Rattle.calls.proofs.start.Statement.{statement}
-use Rattle.calls.proofs.start.Tie as tie
+use Rattle.start.proofs.Starting.{start-refused, starts}
+use Rattle.start.proofs.start.Statement.{statement}
+use Rattle.start.proofs.start.Tie as tie
 
 pub start-spec : {M : Type 1} → statement M
 start-spec =

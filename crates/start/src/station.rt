@@ -4,7 +4,7 @@ ghost use Prim.Native.Nat.{_*_, _<_};
 ghost use lib.ListN.{length};
 ghost use Rattle.rules.specs.State.{stationCount};
 ghost use Rattle.rules.specs.Memory.{pendingBytes, controlWords};
-ghost use Rattle.calls.specs.Streams.{StreamDropped};
+ghost use Rattle.start.specs.Streams.{StreamDropped};
 use control::stations::set_stream;
 use stream::PENDING_BYTES;
 

@@ -13,7 +13,7 @@ use Rattle.rules.specs.Memory.{pendingBytes, stationRow, pendingRow}
 use Rattle.rules.proofs.Rows.{length-pendingRow}
 use Rattle.rules.proofs.Control.{row-put}
 use Rattle.control.specs.Stations.{StreamSet}
-use Rattle.calls.specs.Streams.{StreamDropped}
+use Rattle.start.specs.Streams.{StreamDropped}
 
 -- nothing is pending
 pub no-pending : (x : Station) → pendingRow (cleared x) ≡ replicate pendingBytes 0

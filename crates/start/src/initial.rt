@@ -6,7 +6,7 @@ ghost use Rattle.rules.specs.Token.{maxDacl};
 ghost use Rattle.rules.specs.State.{tokenSlots};
 ghost use Rattle.rules.specs.Memory.{tokenWords};
 ghost use Rattle.valid.specs.Meaning.{Lent};
-ghost use Rattle.calls.specs.Initial.{FirstTokens, Begun};
+ghost use Rattle.start.specs.Initial.{FirstTokens, Begun};
 use privilege::privileges::Privileges;
 use table::slices;
 use token::Identity;

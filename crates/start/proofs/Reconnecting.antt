@@ -14,9 +14,9 @@ use Rattle.handle.specs.declared.Handle.{Handle}
 use Rattle.state.specs.ReleaseFacts.{PartsIn}
 use Rattle.valid.specs.Meaning.{memoryOf}
 use Rattle.valid.specs.Tested.{ValidTested}
-use Rattle.calls.specs.Promise.{ReconnectsWith}
-use Rattle.calls.specs.Streams.{StreamDropped}
-use Rattle.calls.proofs.Parts.{written-as, held-parts, held-pending}
+use Rattle.start.specs.Promise.{ReconnectsWith}
+use Rattle.start.specs.Streams.{StreamDropped}
+use Rattle.start.proofs.Parts.{written-as, held-parts, held-pending}
 
 -- ---- by cases
 

@@ -1,9 +1,9 @@
 -- By the tests of 11 and 13. Assumes nothing.
 use borrow.Author.Needs.{needs}
-use Rattle.calls.proofs.Parts.{control-long, pending-long}
-use Rattle.calls.proofs.Reconnecting.{reconnect-no-station, reconnect-invalid, reconnects-with}
-use Rattle.calls.proofs.reconnect.Statement.{statement}
-use Rattle.calls.proofs.reconnect.Tie as tie
+use Rattle.start.proofs.Parts.{control-long, pending-long}
+use Rattle.start.proofs.Reconnecting.{reconnect-no-station, reconnect-invalid, reconnects-with}
+use Rattle.start.proofs.reconnect.Statement.{statement}
+use Rattle.start.proofs.reconnect.Tie as tie
 
 pub reconnect-spec : {M : Type 1} → statement M
 reconnect-spec =

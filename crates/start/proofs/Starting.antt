@@ -28,9 +28,9 @@ use Rattle.control.specs.Control.{ControlIn}
 use Rattle.valid.specs.Meaning.{memoryOf}
 use Rattle.valid.specs.Tested.{SizesTested}
 use Rattle.valid.proofs.Sizes.{sizes-wrong, sizes-right, right-count}
-use Rattle.calls.specs.Promise.{StartsWith}
-use Rattle.calls.specs.Initial.{FirstTokens, Begun}
-use Rattle.calls.proofs.Parts.{written-as}
+use Rattle.start.specs.Promise.{StartsWith}
+use Rattle.start.specs.Initial.{FirstTokens, Begun}
+use Rattle.start.proofs.Parts.{written-as}
 
 -- ---- rows of zeros are zeros
 

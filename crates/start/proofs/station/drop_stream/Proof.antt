@@ -1,8 +1,8 @@
 -- The words and the row are those of the station with nothing pending. Assumes nothing.
 use borrow.Author.Needs.{needs}
-use Rattle.calls.proofs.Dropping.{stream-dropped}
-use Rattle.calls.proofs.station.drop_stream.Statement.{statement}
-use Rattle.calls.proofs.station.drop_stream.Tie as tie
+use Rattle.start.proofs.Dropping.{stream-dropped}
+use Rattle.start.proofs.station.drop_stream.Statement.{statement}
+use Rattle.start.proofs.station.drop_stream.Tie as tie
 
 pub drop-stream-spec : {M : Type 1} → statement M
 drop-stream-spec =

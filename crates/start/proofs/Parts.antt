@@ -16,7 +16,7 @@ use Rattle.valid.specs.Meaning as Sizes
 use Rattle.valid.specs.Meaning.{memoryOf}
 use Rattle.valid.specs.Tested.{ValidTested}
 use Rattle.valid.proofs.Sizes.{fits, sizes-of}
-use Rattle.calls.specs.Streams.{PendingIn}
+use Rattle.start.specs.Streams.{PendingIn}
 
 -- ---- the parts, and the memory that they make up
 
