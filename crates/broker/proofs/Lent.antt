@@ -12,9 +12,10 @@ use Rattle.handle.specs.declared.Handle.{Handle}
 use Rattle.handle.specs.Loaded.{loaded}
 use Rattle.valid.specs.Meaning.{memoryOf}
 use Rattle.state.specs.HandleFacts.{changed}
-use Rattle.calls.specs.declared.Started.{Started}
+use Rattle.start.specs.declared.Started.{Started}
+use Rattle.start.specs.Promise.{Does, StartsWith, freed}
 use Rattle.calls.specs.declared.Turn.{Turn}
-use Rattle.calls.specs.Promise.{Does, Feeds, StartsWith, FeedsWith, freed}
+use Rattle.calls.specs.Promise.{Feeds, FeedsWith}
 
 -- the machine value of a lent slice
 abbrev pub sv : {X : Type 0} → RefT (List X) → Val

@@ -22,7 +22,7 @@ use Rattle.rules.proofs.Logic.{either}
 use Rattle.rules.proofs.Tables.{on-if}
 use Rattle.rules.proofs.Always.{start-valid}
 use Rattle.rules.proofs.WholeList.{whole-list}
-use Rattle.calls.specs.Promise.{StartPromise}
+use Rattle.start.specs.Promise.{StartPromise}
 use Rattle.broker.specs.WholeRun.{FeedCall, ReconnectCall, Link, feed, reconnect, Chain, none, link, RestStays, AllStay, answersIn, happened, eventsIn, WholeRun, CanRun, FromStart, WholeStart, CanStart}
 
 -- ---- one call: what it returned and left is what `Calls` says

@@ -16,8 +16,9 @@ use Rattle.rules.specs.Growth.{Mem}
 use Rattle.rules.specs.Calls.{Done, written}
 use Rattle.rules.specs.WholeList.{returnsOf}
 use Rattle.rules.specs.Throughout.{Throughout}
+use Rattle.start.specs.Promise.{StartPromise, ReconnectPromise}
 use Rattle.calls.specs.declared.Fed.{Fed}
-use Rattle.calls.specs.Promise.{StartPromise, FeedPromise, ReconnectPromise}
+use Rattle.calls.specs.Promise.{FeedPromise}
 
 -- ---- one call on the memory m, with what it returned and left: the contract of obriska_feed or obriska_reconnect
 

@@ -5,7 +5,8 @@ ghost use Rattle.rules.specs.Handle.{isHandle};
 ghost use Rattle.handle.specs.Meaning.{slotsOf};
 ghost use Rattle.handle.specs.Loaded.{loaded};
 ghost use Rattle.valid.specs.Meaning.{memoryOf};
-ghost use Rattle.calls.specs.Promise.{StartPromise, FeedPromise, ReconnectPromise};
+ghost use Rattle.start.specs.Promise.{StartPromise, ReconnectPromise};
+ghost use Rattle.calls.specs.Promise.{FeedPromise};
 use calls::Fed;
 use handle::Handle;
 use handle::list;
@@ -21,7 +22,7 @@ pub extern "C" fn obriska_start(
 ) -> u32
     ensures { λ r. ⌜ StartPromise (memoryOf (now (tokens .entry)) (now (dacls .entry)) (now (handles .entry)) (now (control .entry)) (now (pending .entry))) (memoryOf (now (tokens .exit)) (now (dacls .exit)) (now (handles .exit)) (now (control .exit)) (now (pending .exit))) r ⌝ }
 {
-    let s = calls::start(tokens, dacls, handles.len(), control, pending);
+    let s = start::start(tokens, dacls, handles.len(), control, pending);
     list::clear_first(handles, s.freed);
     s.refusal
 }
@@ -74,7 +75,7 @@ pub extern "C" fn obriska_reconnect(
     ensures { λ r. ⌜ ReconnectPromise (memoryOf (now (tokens .entry)) (now (dacls .entry)) (now (handles .entry)) (now (control .entry)) (now (pending .entry))) station (memoryOf (now (tokens .entry)) (now (dacls .entry)) (now (handles .entry)) (now (control .exit)) (now (pending .exit))) r ⌝ }
 {
     let held = list::load(handles);
-    calls::reconnect(
+    start::reconnect(
         station,
         tokens,
         dacls,

@@ -44,8 +44,8 @@ use Rattle.serve.specs.declared.Reply.{Reply}
 use Rattle.answer.specs.Answer.{WroteFrame}
 use Rattle.calls.specs.Accepted.{quiet, zeroed, body, PartKept, BrokenOff, FrameServed, RowHeld, RowFed, Accepted}
 use Rattle.calls.specs.declared.Turn.{Turn}
-use Rattle.calls.proofs.Dropping.{no-pending}
-use Rattle.calls.proofs.Parts.{written-as, held-parts, held-pending}
+use Rattle.start.proofs.Dropping.{no-pending}
+use Rattle.start.proofs.Parts.{written-as, held-parts, held-pending}
 use Rattle.calls.proofs.StreamsKept.{served-rows}
 use Rattle.calls.proofs.PendingRows.{drop-take, joined-longer, row-joined, row-zeroed}
 

@@ -24,7 +24,7 @@ use Rattle.state.specs.HandleFacts.{changed}
 use Rattle.calls.specs.Promise.{FeedsWith}
 use Rattle.calls.specs.Accepted.{quiet, Accepted}
 use Rattle.calls.specs.declared.Turn.{Turn}
-use Rattle.calls.proofs.Parts.{tested-valid}
+use Rattle.start.proofs.Parts.{tested-valid}
 use Rattle.calls.proofs.Freeing.{of-bytes, stays-valid, slot-freed}
 
 -- ---- by cases

@@ -1,7 +1,3 @@
-pub mod Parts
-pub mod Dropping
-pub mod Reconnecting
-pub mod Starting
 pub mod StreamsKept
 pub mod PendingRows
 pub mod Accepting

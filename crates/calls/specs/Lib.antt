@@ -1,4 +1,2 @@
 pub mod Promise
 pub mod Accepted
-pub mod Initial
-pub mod Streams

@@ -1,10 +1,10 @@
--- What the three calls promise: each did what the rules' `Calls` say of it. Assumes nothing.
-use Prim.Native.Nat.{ℕ, _≤_}
+-- What feed promises: it did what the rules' `Calls` say of it. Assumes nothing.
+use Prim.Native.Nat.{ℕ}
 use mathlib.Core.Path.{_≡_}
-use mathlib.Core.List.{List, _++_}
-use lib.ListN.{length, drop, set, replicate}
+use mathlib.Core.List.{List}
+use lib.ListN.{length, set}
 use Rattle.rules.specs.Memory.{Memory}
-use Rattle.rules.specs.Calls.{Done, startOn, feedOn, reconnectOn, buffer}
+use Rattle.rules.specs.Calls.{Done, feedOn, buffer}
 use Rattle.handle.specs.Meaning.{none}
 use Rattle.handle.specs.Loaded.{loaded}
 use Rattle.handle.specs.declared.Handle.{Handle}
@@ -12,16 +12,9 @@ use Rattle.valid.specs.Meaning.{memoryOf}
 use Rattle.state.specs.HandleFacts.{changed}
 use Rattle.calls.specs.declared.Fed.{Fed}
 use Rattle.calls.specs.declared.Turn.{Turn}
-use Rattle.calls.specs.declared.Started.{Started}
 
--- ---- what a call did; `d` is what it had to do
-
--- start and reconnect return the refusal
-pub record Does (d : Done) (after : Memory) (r : ℕ) : Type 0 where
-  pub refusal : r ≡ d .refusal
-  pub memory : after ≡ d .after
-
--- feed returns the refusal, the bytes used and the answer's length; the answer stands at the start of the buffer, and the bytes after it stay
+-- what a feed did; `d` is what it had to do. It returns the refusal, the bytes used and the answer's length; the answer stands at the start of the buffer, and the
+-- bytes after it stay
 pub record Feeds (d : Done) (after : Memory) (out out′ : List ℕ) (r : Fed) : Type 0 where
   pub refusal : r .refusal ≡ d .refusal
   pub used : r .used ≡ d .used
@@ -29,35 +22,16 @@ pub record Feeds (d : Done) (after : Memory) (out out′ : List ℕ) (r : Fed) :
   pub memory : after ≡ d .after
   pub answer : out′ ≡ buffer (d .answer) out
 
--- ---- the contract of each call, which demand 3's links (`WholeRun`) cite too: memory before, arguments, memory after, result
-
-abbrev pub StartPromise : Memory → Memory → ℕ → Type 0
-StartPromise m m′ r = Does (startOn m) m′ r
+-- ---- the contract of the call, which demand 3's links (`WholeRun`) cite too: memory before, arguments, memory after, result
 
 -- of a station's chunk; `out` is the answer buffer
 abbrev pub FeedPromise : Memory → ℕ → List ℕ → List ℕ → Memory → List ℕ → Fed → Type 0
 FeedPromise m s chunk out m′ out′ r = Feeds (feedOn m s chunk (length out)) m′ out out′ r
 
-abbrev pub ReconnectPromise : Memory → ℕ → Memory → ℕ → Type 0
-ReconnectPromise m s m′ r = Does (reconnectOn m s) m′ r
-
 -- ---- the same with the handle list by value: `count` is the lent list's length, `items` are its first 32 handles
-
--- the first n handles become free slots
-abbrev pub freed : ℕ → List Handle → List Handle
-freed n hs = replicate n none ++ drop n hs
-
-pub record StartsWith (count : ℕ) (ts ds cs ps ts′ ds′ cs′ ps′ : List ℕ) (r : Started) : Type 0 where
-  pub started : (hs : List Handle) → length hs ≡ count
-      → StartPromise (memoryOf ts ds hs cs ps) (memoryOf ts′ ds′ (freed (r .freed) hs) cs′ ps′) (r .refusal)
-  pub inside : r .freed ≤ count
 
 pub record FeedsWith (station : ℕ) (chunk : List ℕ) (count : ℕ) (items : List Handle) (ts ds cs ps out ts′ ds′ cs′ ps′ out′ : List ℕ) (r : Turn) : Type 0 where
   pub fed : (hs : List Handle) → length hs ≡ count → loaded hs ≡ items
       → FeedPromise (memoryOf ts ds hs cs ps) station chunk out (memoryOf ts′ ds′ (changed hs (r .change)) cs′ ps′) out′ (r .fed)
   -- a handle of number 0 frees its slot
   pub clears : (hs : List Handle) → length hs ≡ count → loaded hs ≡ items → r .change .handle .number ≡ 0 → changed hs (r .change) ≡ set hs (r .change .slot) none
-
-pub record ReconnectsWith (station count : ℕ) (items : List Handle) (ts ds cs ps cs′ ps′ : List ℕ) (r : ℕ) : Type 0 where
-  pub reconnected : (hs : List Handle) → length hs ≡ count → loaded hs ≡ items
-      → ReconnectPromise (memoryOf ts ds hs cs ps) station (memoryOf ts ds hs cs′ ps′) r

@@ -1,4 +1,5 @@
 pub mod Carried
+pub mod EntriesCarried
 pub mod Lookup
 pub mod Located
 pub mod Ending

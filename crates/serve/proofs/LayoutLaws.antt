@@ -23,7 +23,7 @@ use Rattle.decide.specs.declared.outcome.Outcome.{Outcome}
 use Rattle.decide.specs.Carried.{Ends, Carried}
 use Rattle.decide.proofs.Deciding.{refuses}
 use Rattle.create.specs.Create.{CreateCarried}
-use Rattle.adjust.specs.EntriesCarried.{EntriesCarried}
+use Rattle.decide.specs.EntriesCarried.{EntriesCarried}
 use Rattle.copy.specs.Restrict.{RestrictCarried}
 use Rattle.serve.specs.Served.{LayoutCarried}
 

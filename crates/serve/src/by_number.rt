@@ -106,7 +106,7 @@ pub fn privileges(
     if !f.ok {
         return outcome::refused(refusal::MALFORMED);
     }
-    adjust::privileges::adjust_privileges(station, f, s, handles, tokens, dacls, control)
+    adjust_privileges::adjust_privileges(station, f, s, handles, tokens, dacls, control)
 }
 
 pub fn groups(
@@ -125,7 +125,7 @@ pub fn groups(
     if !f.ok {
         return outcome::refused(refusal::MALFORMED);
     }
-    adjust::groups::adjust_groups(station, f, s, handles, tokens, dacls, control)
+    adjust_groups::adjust_groups(station, f, s, handles, tokens, dacls, control)
 }
 
 pub fn scope(
@@ -144,7 +144,7 @@ pub fn scope(
     if !f.ok {
         return outcome::refused(refusal::MALFORMED);
     }
-    adjust::scope::scope(station, f, handles, tokens, dacls, control)
+    adjust_defaults::scope::scope(station, f, handles, tokens, dacls, control)
 }
 
 pub fn defaults(
@@ -163,7 +163,7 @@ pub fn defaults(
     if !f.ok {
         return outcome::refused(refusal::MALFORMED);
     }
-    adjust::defaults::adjust_defaults(station, f, s, handles, tokens, dacls, control)
+    adjust_defaults::defaults::adjust_defaults(station, f, s, handles, tokens, dacls, control)
 }
 
 pub fn duplicate(

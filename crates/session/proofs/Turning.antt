@@ -15,9 +15,10 @@ use Rattle.handle.specs.declared.Handle.{Handle}
 use Rattle.handle.specs.declared.Handles.{Handles}
 use Rattle.valid.specs.Meaning.{memoryOf}
 use Rattle.state.specs.HandleFacts.{changed}
-use Rattle.calls.specs.Promise.{Feeds, freed, StartsWith, FeedsWith}
+use Rattle.start.specs.Promise.{freed, StartsWith}
+use Rattle.start.specs.declared.Started.{Started}
+use Rattle.calls.specs.Promise.{Feeds, FeedsWith}
 use Rattle.calls.specs.declared.Turn.{Turn}
-use Rattle.calls.specs.declared.Started.{Started}
 use Rattle.handle.proofs.Words.{records-long}
 use Rattle.calls.proofs.Freeing.{of-bytes}
 use Rattle.session.specs.Program.{fed}

@@ -22,7 +22,7 @@ pub fn start(
 ) -> Handles
     ensures { λ r. ⌜ Starts (now (tokens .entry)) (now (dacls .entry)) (now (control .entry)) (now (pending .entry)) (now (tokens .exit)) (now (dacls .exit)) (now (control .exit)) (now (pending .exit)) r ⌝ }
 {
-    calls::start(tokens, dacls, SLOTS, control, pending);
+    start::start(tokens, dacls, SLOTS, control, pending);
     Handles {
         words: [0; HANDLE_WORDS],
     }

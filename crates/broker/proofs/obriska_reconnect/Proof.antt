@@ -1,4 +1,4 @@
--- broker::obriska_reconnect meets its contract: a walk of its MIR. The handle list is loaded; calls::reconnect, which is covered, has it and the other slices.
+-- broker::obriska_reconnect meets its contract: a walk of its MIR. The handle list is loaded; start::reconnect, which is covered, has it and the other slices.
 -- At each cut all locals are bare but the parameters and `_7`.
 -- Assumes nothing.
 use mathlib.Core.Path.{_≡_, refl, sym}
@@ -28,12 +28,12 @@ use Rattle.handle.proofs.list.load.Symbol as load-def
 use Rattle.handle.proofs.list.load.Symbol.{name as #load}
 use Rattle.handle.proofs.list.load.Met as load-thm
 use Rattle.valid.specs.Meaning.{memoryOf}
-use Rattle.calls.specs.Promise.{Does, ReconnectsWith}
+use Rattle.start.specs.Promise.{Does, ReconnectsWith}
 use Rattle.broker.proofs.Lent.{sv}
-use Rattle.calls.proofs.reconnect as by-value
-use Rattle.calls.proofs.reconnect.Symbol as by-value-def
-use Rattle.calls.proofs.reconnect.Symbol.{name as #by-value}
-use Rattle.calls.proofs.reconnect.Met as by-value-thm
+use Rattle.start.proofs.reconnect as by-value
+use Rattle.start.proofs.reconnect.Symbol as by-value-def
+use Rattle.start.proofs.reconnect.Symbol.{name as #by-value}
+use Rattle.start.proofs.reconnect.Met as by-value-thm
 use Rattle.broker.proofs.obriska_reconnect as reconnect
 use Rattle.broker.proofs.obriska_reconnect.Key.{name as #reconnect}
 use Rattle.broker.proofs.obriska_reconnect.Statement as stated
@@ -85,7 +85,7 @@ module _ {M : Type 1} (𝓤 : URA M) (H : Heap 𝓤) (A : Atoms 𝓤) (W : Given
   abbrev Own : Fml
   Own = u32 .own st (vint w32 st ∷ [])
 
-  -- the tokens, and those that calls::reconnect has
+  -- the tokens, and those that start::reconnect has
   abbrev Toks : List Fml
   Toks = flft κ₀ q₀ ∷ flft κ₁ q₁ ∷ flft κ₂ q₂ ∷ flft κ₃ q₃ ∷ flft κ₄ q₄ ∷ []
 
@@ -146,7 +146,7 @@ module _ {M : Type 1} (𝓤 : URA M) (H : Heap 𝓤) (A : Atoms 𝓤) (W : Given
           had W ! S.the-type S′.the-laws S′.the-plain hs g $ number-had W ! w64 (length (h .now)) (gh .0) $
           -- [the count's; the list's; dacls' twice; tokens' twice; the locals; κ₂; handles'; station's; control's; pending's; κ₀; κ₁; κ₃; κ₄]
           move ! (37 ∷ 38 ∷ 39 ∷ 40 ∷ 34 ∷ 4 ∷ 2 ∷ 0 ∷ 1 ∷ 35 ∷ 36 ∷ []) $ hands W Theirs (Handed hs) $
-          -- [what calls::reconnect asks; dacls'; tokens'; the locals, local k at 2 k + 3; κ₂; handles']
+          -- [what start::reconnect asks; dacls'; tokens'; the locals, local k at 2 k + 3; κ₂; handles']
           calls-at ! (fmOf 𝓤 H (W .laws) 𝓣) (ByValue 𝓤 H A at-mem run) known-by-value (to-by-value hs)
           (and-then ! (var ! 5 refl) (and-then ! (var ! 7 refl) (and-then ! (var ! 9 refl) (and-then ! (var ! 19 refl) (and-then ! (var ! 17 refl) (and-then ! (var ! 23 refl) (and-then ! (var ! 27 refl) (no-more !)))))))) (λ u.
           returned ! tt u32 (‵ (chain Theirs)) _ (λ ws. lasts by-value.ended (κ₀, (κ₁, (κ₃, (κ₄, tt)))) (st, (t, (d, (length (h .now), (hs, (s, (p, tt))))))) ws)
@@ -187,7 +187,7 @@ obriska-reconnect-spec 𝓤 H 𝓜 𝓖 𝓡 =
     (walk 𝓤 H (𝓖 .A) W (𝓜 .mem) (𝓡 .run) (κs .0) (κs .1 .0) (κs .1 .1 .0) (κs .1 .1 .1 .0) (κs .1 .1 .1 .1 .0) (qs .0) (qs .1 .0) (qs .1 .1 .0) (qs .1 .1 .1 .0) (qs .1 .1 .1 .1 .0)
     (a .0) (a .1 .0) (a .1 .1 .0) (a .1 .1 .1 .0) (a .1 .1 .1 .1 .0) (a .1 .1 .1 .1 .1 .0) (are .0 .1) (are .1 .0 .0 .1) (are .1 .1 .0 .0 .1) (are .1 .1 .1 .0 .0 .1) (are .1 .1 .1 .1 .0 .0 .1) (are .1 .1 .1 .1 .1 .0 .0 .1) (here 𝓤 H 𝓜 𝓖 𝓡 code.env)
     (cites 𝓤 H 𝓜 𝓖 𝓡 code.env (Load 𝓤 H (𝓖 .A) (𝓜 .mem) (𝓡 .run)) #load load-def.routine code.calls-handle·list·load (load-thm.met 𝓤 H 𝓜 𝓖 𝓡))
-    (cites 𝓤 H 𝓜 𝓖 𝓡 code.env (ByValue 𝓤 H (𝓖 .A) (𝓜 .mem) (𝓡 .run)) #by-value by-value-def.routine code.calls-calls·reconnect (by-value-thm.met 𝓤 H 𝓜 𝓖 𝓡))))
+    (cites 𝓤 H 𝓜 𝓖 𝓡 code.env (ByValue 𝓤 H (𝓖 .A) (𝓜 .mem) (𝓡 .run)) #by-value by-value-def.routine code.calls-start·reconnect (by-value-thm.met 𝓤 H 𝓜 𝓖 𝓡))))
   where
     W : Given 𝓤 H (𝓖 .A)
     W = givenOf 𝓤 H 𝓜 𝓖

@@ -1,4 +1,4 @@
--- broker::obriska_start meets its contract: a walk of its MIR. calls::start, which is covered, has all slices but the handle list; then the first slots of that are freed.
+-- broker::obriska_start meets its contract: a walk of its MIR. start::start, which is covered, has all slices but the handle list; then the first slots of that are freed.
 -- At each cut all locals are bare but the parameters and `_6`.
 -- Assumes nothing.
 use mathlib.Core.Path.{_≡_, refl}
@@ -25,15 +25,15 @@ use Rattle.handle.proofs.list.clear_first.Symbol as clear-def
 use Rattle.handle.proofs.list.clear_first.Symbol.{name as #clear}
 use Rattle.handle.proofs.list.clear_first.Met as clear-thm
 use Rattle.valid.specs.Meaning.{memoryOf}
-use Rattle.calls.specs.declared.Started.{Started}
-use Rattle.calls.specs.Promise.{Does, StartsWith}
+use Rattle.start.specs.declared.Started.{Started}
+use Rattle.start.specs.Promise.{Does, StartsWith}
 use Rattle.broker.proofs.Lent.{sv, started-at}
-use Rattle.calls.proofs.Started as B
-use Rattle.calls.proofs.Started.Laws as B′
-use Rattle.calls.proofs.start as by-value
-use Rattle.calls.proofs.start.Symbol as by-value-def
-use Rattle.calls.proofs.start.Symbol.{name as #by-value}
-use Rattle.calls.proofs.start.Met as by-value-thm
+use Rattle.start.proofs.Started as B
+use Rattle.start.proofs.Started.Laws as B′
+use Rattle.start.proofs.start as by-value
+use Rattle.start.proofs.start.Symbol as by-value-def
+use Rattle.start.proofs.start.Symbol.{name as #by-value}
+use Rattle.start.proofs.start.Met as by-value-thm
 use Rattle.broker.proofs.obriska_start as start
 use Rattle.broker.proofs.obriska_start.Key.{name as #start}
 use Rattle.broker.proofs.obriska_start.Statement as stated
@@ -46,7 +46,7 @@ params = passed 0 tt u64 ∷ passed 1 tt u8 ∷ passed 2 tt R ∷ passed 3 tt u6
 abbrev stayed : Stays (start.ended .signature .params) (start.ended .kept)
 stayed = stays params
 
--- the machine value of what calls::start returns, and that it is its
+-- the machine value of what start::start returns, and that it is its
 abbrev out : Started → Val
 out r = mach B.the-type B′.the-laws r
 
@@ -89,7 +89,7 @@ module _ {M : Type 1} (𝓤 : URA M) (H : Heap 𝓤) (A : Atoms 𝓤) (W : Given
   abbrev OwnP : Fml
   OwnP = MutSlice (named 4) κ₄ u8 .own p (sv p ∷ [])
 
-  -- the tokens, and those that calls::start has
+  -- the tokens, and those that start::start has
   abbrev Toks : List Fml
   Toks = flft κ₀ q₀ ∷ flft κ₁ q₁ ∷ flft κ₂ q₂ ∷ flft κ₃ q₃ ∷ flft κ₄ q₄ ∷ []
 
@@ -135,7 +135,7 @@ module _ {M : Type 1} (𝓤 : URA M) (H : Heap 𝓤) (A : Atoms 𝓤) (W : Given
           (room (mut-to erased u64) l₇ (room (mut-slice erased u64) l₈ (room (mut-to erased u8) l₉ (room (mut-slice erased u8) l₁₀ (room word l₁₁ (room (mut-to erased u64) l₁₂ (room (mut-slice erased u64) l₁₃ (room (mut-to erased u8) l₁₄ (room (mut-slice erased u8) l₁₅
           (room tyUnit l₁₆ (room (mut-to erased R) l₁₇ (room (mut-slice erased R) l₁₈ Γ))))))))))))))))))
 
-      -- with what calls::start returned in `_6`
+      -- with what start::start returned in `_6`
       clears : (ts ds cs ps : List ℕ) (r : Started) → Out r → length ts ≡ length (t .now) → length ds ≡ length (d .now) → length cs ≡ length (s .now) → length ps ≡ length (p .now)
           → StartsWith (length (h .now)) (t .now) (d .now) (s .now) (p .now) ts ds cs ps r
           → Sq W (Locals (full B′.mir l₆ (out r)) (‵ (flft κ₂ q₂) ∷ ‵ OwnH ∷ ‵ (chain Theirs) ∷ items (Lasts ts ds cs ps) [])) (runs (𝓣 .C) (𝓣 .Λ) En mir.t-11 (atRet En Post))
@@ -159,7 +159,7 @@ module _ {M : Type 1} (𝓤 : URA M) (H : Heap 𝓤) (A : Atoms 𝓤) (W : Given
           relends ! 8 24 26 refl refl refl (tt, tt) refl refl refl (tt, (tt, (record { fits = gs .0 }, tt))) $
           relends ! 10 28 30 refl refl refl (tt, tt) refl refl refl (tt, (tt, (record { fits = gp .0 }, tt))) $
           number-had W ! w64 (length (h .now)) (gh .0) $ move ! (44 ∷ 45 ∷ 47 ∷ 48 ∷ 39 ∷ 40 ∷ 0 ∷ 42 ∷ 43 ∷ []) $ hands W Theirs (OwnT ∷ OwnD ∷ Count ∷ OwnS ∷ OwnP ∷ []) $
-          -- [what calls::start asks; the locals, local k at 2 k + 1; handles'; κ₂]
+          -- [what start::start asks; the locals, local k at 2 k + 1; handles'; κ₂]
           calls-at ! (fmOf 𝓤 H (W .laws) 𝓣) (ByValue 𝓤 H A at-mem run) known-by-value to-by-value
           (and-then ! (var ! 17 refl) (and-then ! (var ! 21 refl) (and-then ! (var ! 23 refl) (and-then ! (var ! 27 refl) (and-then ! (var ! 31 refl) (no-more !)))))) (λ u.
           returned ! tt B.the-row (‵ (chain Theirs)) _ (λ ws. lasts by-value.ended (κ₀, (κ₁, (κ₃, (κ₄, tt)))) (t, (d, (length (h .now), (s, (p, tt))))) ws)
@@ -190,7 +190,7 @@ obriska-start-spec 𝓤 H 𝓜 𝓖 𝓡 =
     (λ κs qs bounds a g are. via 𝓤 _ (fst∗ 𝓤 _ (emp 𝓤))
     (walk 𝓤 H (𝓖 .A) W (𝓜 .mem) (𝓡 .run) (κs .0) (κs .1 .0) (κs .1 .1 .0) (κs .1 .1 .1 .0) (κs .1 .1 .1 .1 .0) (qs .0) (qs .1 .0) (qs .1 .1 .0) (qs .1 .1 .1 .0) (qs .1 .1 .1 .1 .0)
     (a .0) (a .1 .0) (a .1 .1 .0) (a .1 .1 .1 .0) (a .1 .1 .1 .1 .0) (are .0 .0 .1) (are .1 .0 .0 .1) (are .1 .1 .0 .0 .1) (are .1 .1 .1 .0 .0 .1) (are .1 .1 .1 .1 .0 .0 .1) (here 𝓤 H 𝓜 𝓖 𝓡 code.env)
-    (cites 𝓤 H 𝓜 𝓖 𝓡 code.env (ByValue 𝓤 H (𝓖 .A) (𝓜 .mem) (𝓡 .run)) #by-value by-value-def.routine code.calls-calls·start (by-value-thm.met 𝓤 H 𝓜 𝓖 𝓡))
+    (cites 𝓤 H 𝓜 𝓖 𝓡 code.env (ByValue 𝓤 H (𝓖 .A) (𝓜 .mem) (𝓡 .run)) #by-value by-value-def.routine code.calls-start·start (by-value-thm.met 𝓤 H 𝓜 𝓖 𝓡))
     (cites 𝓤 H 𝓜 𝓖 𝓡 code.env (Clear 𝓤 H (𝓖 .A) (𝓜 .mem) (𝓡 .run)) #clear clear-def.routine code.calls-handle·list·clear-first (clear-thm.met 𝓤 H 𝓜 𝓖 𝓡))))
   where
     W : Given 𝓤 H (𝓖 .A)

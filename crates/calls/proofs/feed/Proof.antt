@@ -1,6 +1,6 @@
 -- By the tests of 11, 12 and 13. At the last, the chunk's bytes are known to be bytes since the start. Assumes nothing.
 use borrow.Author.Needs.{needs}
-use Rattle.calls.proofs.Parts.{tested-valid, tested-lent}
+use Rattle.start.proofs.Parts.{tested-valid, tested-lent}
 use Rattle.calls.proofs.Feeding.{feed-no-station, feed-short, feed-invalid, feeds-with}
 use Rattle.calls.proofs.feed.Statement.{statement}
 use Rattle.calls.proofs.feed.Tie as tie

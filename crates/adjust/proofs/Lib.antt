@@ -1,9 +1,0 @@
-pub mod PrivilegeEntries
-pub mod GroupEntries
-pub mod GroupReport
-pub mod DefaultDacl
-pub mod PrivilegesEnding
-pub mod GroupsEnding
-pub mod DefaultFields
-pub mod DefaultsEnding
-pub mod ScopeEnding

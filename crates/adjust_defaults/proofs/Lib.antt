@@ -1,0 +1,4 @@
+pub mod DefaultDacl
+pub mod DefaultFields
+pub mod DefaultsEnding
+pub mod ScopeEnding

@@ -1,0 +1,3 @@
+pub mod DefaultDacl
+pub mod Defaults
+pub mod Scope

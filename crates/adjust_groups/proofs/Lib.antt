@@ -1,0 +1,3 @@
+pub mod GroupEntries
+pub mod GroupReport
+pub mod GroupsEnding

@@ -1,0 +1,2 @@
+pub mod PrivilegeEntries
+pub mod PrivilegesEnding

@@ -1,0 +1,4 @@
+pub mod Parts
+pub mod Dropping
+pub mod Reconnecting
+pub mod Starting

@@ -1,0 +1,3 @@
+pub mod Promise
+pub mod Initial
+pub mod Streams
