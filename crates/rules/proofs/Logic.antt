@@ -221,12 +221,3 @@ mem-nonZero {n} ns m =
 pub nonZero-mem : {n : ℕ} (ns : List ℕ) → Mem n ns → 1 ≤ n → Mem n (nonZero ns)
 unfolding nonZero
 nonZero-mem ns m h = filter-mem _ ns m (not-zero h)
-
--- whether a number is among them: 0 never is
-pub member-nonZero : (n : ℕ) (ns : List ℕ) → 1 ≤ n → member n (nonZero ns) ≡ member n ns
-unfolding nonZero
-member-nonZero n ns h = member-filter _ n ns ∙ ap (λ (b : Bool). b && member n ns) (not-zero h)
-
-pub zero-nonZero : (ns : List ℕ) → member 0 (nonZero ns) ≡ false
-unfolding nonZero
-zero-nonZero ns = member-filter _ 0 ns

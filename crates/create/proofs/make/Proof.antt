@@ -19,4 +19,5 @@ make-spec =
     (λ c κs. search needs)
     (λ c κs. search needs)
     (λ c. search needs)
-    (λ c. search (needs, row-made)))
+    (λ c. row-made _ _ _ _ _ _ _ _ _ _ _ (c .before .before .before .before .before .before .before .before .before .before .before .before .read-groups .ensures) (c .before .before .before .valid-integrity .ensures) (c .before .before .within .ensures) (c .before .within2 .ensures) (c .before .before .before .before .before .before .before .before .before .granted .ensures)
+    (c .before .before .before .before .before .before .before .set-head .ensures)))
