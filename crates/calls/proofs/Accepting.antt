@@ -38,6 +38,7 @@ use Rattle.stream.specs.Meaning.{framedOf, Starts, stopOf, Joined}
 use Rattle.stream.specs.declared.Framed.the-variants as code
 use Rattle.stream.specs.declared.Stopped.{Stopped}
 use Rattle.stream.proofs.Feeding.{stopAt, stream-eaten, fed-part, fed-broken, fed-whole}
+use Rattle.lists.proofs.Cuts.{drop-take}
 use Rattle.valid.specs.Meaning.{memoryOf}
 use Rattle.serve.specs.Served.{Held, BodyServed}
 use Rattle.serve.specs.declared.Reply.{Reply}
@@ -47,7 +48,7 @@ use Rattle.calls.specs.declared.Turn.{Turn}
 use Rattle.start.proofs.Dropping.{no-pending}
 use Rattle.start.proofs.Parts.{written-as, held-parts, held-pending}
 use Rattle.calls.proofs.StreamsKept.{served-rows}
-use Rattle.calls.proofs.PendingRows.{drop-take, joined-longer, row-joined, row-zeroed}
+use Rattle.calls.proofs.PendingRows.{joined-longer, row-joined, row-zeroed}
 
 -- ---- a station's stream changed, in a state and in its parts
 

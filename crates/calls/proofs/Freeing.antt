@@ -25,7 +25,7 @@ use Rattle.handle.specs.declared.Handle.{Handle}
 use Rattle.state.specs.HandleFacts.{changed}
 use Rattle.state.specs.declared.handles.Change.{Change}
 use Rattle.valid.specs.Meaning.{memoryOf}
-use Rattle.valid.proofs.Truth.{all-below}
+use Rattle.lists.proofs.Truth.{all-below}
 
 -- ---- the memory after a chunk is valid
 

@@ -3,21 +3,14 @@ use Prim.Native.Nat.{ℕ, zero, suc, _+_, _-_, _≤_}
 use native.Mathlib.Omega.{arith}
 use mathlib.Core.Path.{_≡_, sym, ap, _∙_}
 use mathlib.Core.List.{List, [], _∷_, _++_}
-use lib.ListN.{length, take, drop, replicate, length-append, replicate-append-replicate}
-use lib.Seq.{take-nil, drop-nil, drop-at, drop-append-add}
+use lib.ListN.{length, drop, replicate, length-append, replicate-append-replicate}
+use lib.Seq.{drop-nil, drop-at, drop-append-add}
 use Rattle.table.specs.Lists.{pad, pad-fits}
 use Rattle.rules.specs.Frame.{Framed, part, broken, whole, framed}
 use Rattle.rules.specs.Memory.{pendingBytes}
 use Rattle.stream.specs.Join.{Stop, stopOn, stoppedFrom, stopped}
 
 -- ---- lists
-
--- a body as the rules name it, and as it is lent
-pub drop-take : {A : Type 0} (k n : ℕ) (xs : List A) → drop k (take n xs) ≡ take (n - k) (drop k xs)
-drop-take zero n xs = ap (λ (j : ℕ). take j xs) {x = n} {y = n - zero} (omega arith)
-drop-take (suc k) zero xs = drop-nil (suc k) ∙ ap (λ (j : ℕ). take j (drop (suc k) xs)) {x = zero} {y = zero - suc k} (omega arith)
-drop-take (suc k) (suc n) [] = drop-nil (suc k) ∙ sym (take-nil (suc n - suc k))
-drop-take (suc k) (suc n) (x ∷ xs) = drop-take k n xs ∙ ap (λ (j : ℕ). take j (drop k xs)) {x = n - k} {y = suc n - suc k} (omega arith)
 
 drop-zeros : (k n : ℕ) → drop k (replicate {A = ℕ} n 0) ≡ replicate (n - k) 0
 drop-zeros zero n = ap (λ (j : ℕ). replicate j 0) {x = n} {y = n - zero} (omega arith)

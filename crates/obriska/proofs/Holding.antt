@@ -14,7 +14,7 @@ use Rattle.rules.specs.Frame.{maxAnswer}
 use Rattle.rules.specs.Memory.{Memory, valid}
 use Rattle.rules.proofs.Numbers.{below-or}
 use Rattle.handle.specs.declared.Handles.{Handles}
-use Rattle.valid.proofs.TokenRow.{drop-take}
+use Rattle.lists.proofs.Cuts.{drop-take}
 use Rattle.session.specs.Program as program
 use Rattle.session.specs.Program.{maxChunk, budget}
 use Rattle.session.specs.Input.{nextOf, Says, Kept, Bounds, maxWaiting}

@@ -17,8 +17,9 @@ use Rattle.answer.proofs.Classes.{Apart, above}
 use Rattle.body.specs.Layout.{Begun}
 use Rattle.decide.specs.declared.outcome.Outcome.{Outcome}
 use Rattle.decide.specs.Carried.{Ends}
-use Rattle.serve.specs.Served.{Held, LayoutCarried, BodyCarried, BodyServed}
-use Rattle.serve.proofs.LayoutLaws.{malformed, read-alike}
+use Rattle.requests.specs.Layouts.{LayoutCarried}
+use Rattle.requests.proofs.LayoutLaws.{malformed, read-alike}
+use Rattle.serve.specs.Served.{Held, BodyCarried, BodyServed}
 
 no-layout : (x : Rest) → readFrom unknown x ≡ bad
 unfolding readFrom unknown

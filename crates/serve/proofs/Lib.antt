@@ -1,2 +1,1 @@
-pub mod LayoutLaws
 pub mod BodyLaws

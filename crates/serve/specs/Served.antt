@@ -3,13 +3,9 @@ use Prim.Native.Nat.{ℕ}
 use mathlib.Core.Path.{_≡_}
 use mathlib.Core.Bool.{true}
 use mathlib.Core.List.{List}
-use Rattle.rules.specs.Request.{Request, Reader}
 use Rattle.rules.specs.State.{State}
 use Rattle.rules.specs.Valid.{valid}
-use Rattle.rules.specs.Serve.{decided, decision, serve}
-use Rattle.number.specs.Rest.{readFrom}
-use Rattle.number.specs.Meaning.{restOf}
-use Rattle.number.specs.declared.cursor.Cursor.{Cursor}
+use Rattle.rules.specs.Serve.{decision, serve}
 use Rattle.handle.specs.declared.Handle.{Handle}
 use Rattle.state.specs.HandleFacts.{changed}
 use Rattle.state.specs.ReleaseFacts.{PartsIn}
@@ -23,11 +19,6 @@ pub record Held (ts ds : List ℕ) (hs : List Handle) (cs : List ℕ) : Type 0 w
   pub state : State
   pub isValid : valid state ≡ true
   pub parts : PartsIn state ts ds hs cs
-
--- the rest of a body, from a cursor on, is read by a layout, decided and carried out
-pub record LayoutCarried (layout : Reader Request) (station : ℕ) (s : List ℕ) (c : Cursor) (ts ds : List ℕ) (hs : List Handle) (cs ts′ ds′ cs′ : List ℕ)
-    (r : Outcome) : Type 0 where
-  pub carried : Carried (λ σ. decided σ station (readFrom layout (restOf s c))) ts ds hs cs ts′ ds′ cs′ r
 
 -- a whole body
 pub record BodyCarried (station : ℕ) (body ts ds : List ℕ) (hs : List Handle) (cs ts′ ds′ cs′ : List ℕ) (r : Outcome) : Type 0 where

@@ -13,8 +13,6 @@ use decide::outcome::Outcome;
 use handle::HANDLE_WORDS;
 use state::handles::Change;
 
-mod by_number;
-
 // How many bytes the answer has, and the one handle that changes: a slot past the last is none.
 pub struct Reply {
     pub written: usize,
@@ -37,19 +35,19 @@ fn carry_out(
     let n = first.value;
     let c = first.next;
     match n {
-        1 => by_number::open_own(station, body, c, handles, tokens, dacls, control),
-        2 => by_number::close(station, body, c, handles, tokens, dacls, control),
-        3 => by_number::create(station, body, c, handles, tokens, dacls, control),
-        4 => by_number::query(station, body, c, handles, tokens, dacls, control),
-        5 => by_number::privileges(station, body, c, handles, tokens, dacls, control),
-        6 => by_number::groups(station, body, c, handles, tokens, dacls, control),
-        7 => by_number::scope(station, body, c, handles, tokens, dacls, control),
-        8 => by_number::defaults(station, body, c, handles, tokens, dacls, control),
-        9 => by_number::duplicate(station, body, c, handles, tokens, dacls, control),
-        10 => by_number::restrict(station, body, c, handles, tokens, dacls, control),
-        11 => by_number::install(station, body, c, handles, tokens, dacls, control),
-        12 => by_number::impersonate(station, body, c, handles, tokens, dacls, control),
-        13 => by_number::revert(station, body, c, handles, tokens, dacls, control),
+        1 => requests::open_own(station, body, c, handles, tokens, dacls, control),
+        2 => requests::close(station, body, c, handles, tokens, dacls, control),
+        3 => requests::create(station, body, c, handles, tokens, dacls, control),
+        4 => requests::query(station, body, c, handles, tokens, dacls, control),
+        5 => requests::privileges(station, body, c, handles, tokens, dacls, control),
+        6 => requests::groups(station, body, c, handles, tokens, dacls, control),
+        7 => requests::scope(station, body, c, handles, tokens, dacls, control),
+        8 => requests::defaults(station, body, c, handles, tokens, dacls, control),
+        9 => requests::duplicate(station, body, c, handles, tokens, dacls, control),
+        10 => requests::restrict(station, body, c, handles, tokens, dacls, control),
+        11 => requests::install(station, body, c, handles, tokens, dacls, control),
+        12 => requests::impersonate(station, body, c, handles, tokens, dacls, control),
+        13 => requests::revert(station, body, c, handles, tokens, dacls, control),
         _ => outcome::refused(refusal::MALFORMED),
     }
 }

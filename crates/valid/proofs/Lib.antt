@@ -1,11 +1,3 @@
-pub mod Truth
-pub mod Loops
-pub mod Counts
-pub mod Same
-pub mod Groups
-pub mod TokenRow
 pub mod StationRow
-pub mod Lists
-pub mod Acting
 pub mod Whole
 pub mod Sizes

@@ -21,9 +21,10 @@ use Rattle.rules.proofs.Logic.{and-l, and-r}
 use Rattle.stream.specs.Meaning.{framedOf, FramedAs}
 use Rattle.stream.specs.declared.Framed.{Framed}
 use Rattle.stream.specs.declared.Framed.the-variants as what
-use Rattle.valid.specs.Tests.{isZero, streamTest, levelTest, stationTest, idleTest, allIdle}
-use Rattle.valid.proofs.Truth.{same-tests, implies-or, all-below, all-append, eqb-same}
-use Rattle.valid.proofs.Same.{same-pad-take, cut-mark, cut-count}
+use Rattle.lists.specs.Tests.{isZero}
+use Rattle.valid.specs.Tests.{streamTest, levelTest, stationTest, idleTest, allIdle}
+use Rattle.lists.proofs.Truth.{same-tests, implies-or, all-below, all-append, eqb-same}
+use Rattle.token_rows.proofs.Same.{same-pad-take, cut-mark, cut-count}
 
 -- ---- a proper part of a frame, by what its bytes come to
 

@@ -2,12 +2,12 @@
 use mathlib.Core.Path.{_≡_, refl, sym, ap, ap₂, _∙_}
 use mathlib.Core.Bool.{Bool, true, false, _&&_, and-true, and-false, and-assoc}
 use mathlib.Core.List.{List, [], _∷_, _++_, map}
-use Prim.Native.Nat.{ℕ, _+_, _-_, _*_, _^_, _<_}
+use Prim.Native.Nat.{ℕ, _-_, _*_, _^_, _<_}
 use native.Mathlib.Omega.{arith}
 use borrow.Author.Tests.{eq-eqb, le-leb}
 use lib.Dec.{eqb, leb}
 use lib.ListN.{length, take, drop, length-drop, length-map}
-use lib.Seq.{length-take-le, take-take}
+use lib.Seq.{length-take-le}
 use Rattle.table.specs.Lists.{named-take}
 use Rattle.table.specs.Table.{flat, length-flat}
 use Rattle.table.specs.Rows.{readRows, testRows, length-rows}
@@ -26,15 +26,16 @@ use Rattle.rules.specs.Valid.{between, tableValid, tokenValid, handleValid, str
 use Rattle.rules.specs.Memory.{Memory, same, sameHandles, sameMemory, sized, isImage, valid, encode, decode, slotAt, slotRow, slotDacl, slotHandle, handleAt, stationAt, stationRow, counters, sections, control, pendingRow, tokenWords, counterWords, stationWords, controlWords, nextToken, nextHandle, stationsIn, pendingBytes}
 use Rattle.rules.proofs.Same.{same-refl}
 use Rattle.rules.proofs.Rows.{length-slotRow, length-slotDacl, length-stationRow, length-pendingRow}
-use Rattle.valid.specs.Tests.{slotTest, tokenTest, stationTest, columnBy, firstWord, otherWord, tokenIn, clientIn, kept, nonzero, Front, stationReferences, Referred, tally, isGiven, isApart, isReferred, refsTest, fieldsTest, clientsTest, numbersTest, linksTest, partsTest}
-use Rattle.valid.specs.Meaning as Meaning
-use Rattle.valid.specs.Meaning.{memoryOf, Lent, tokenOf, fieldsOf}
-use Rattle.valid.proofs.Truth.{same-tests, all-cong, all-and, all-map}
-use Rattle.valid.proofs.Counts.{listed, referred}
-use Rattle.valid.proofs.Same.{allSame, same-joined, same-rows}
-use Rattle.valid.proofs.TokenRow.{drop-take}
-use Rattle.valid.proofs.Acting.{all-references, member-references, clients}
-use Rattle.valid.proofs.Lists.{given, kept-map, kept-lives, token-numbers, primaryIn, other-numbers, station-tokens, all-lives, fields}
+use Rattle.token_rows.specs.Tests.{slotTest, tokenTest}
+use Rattle.lists.specs.Tests.{tally, isGiven, isApart, isReferred, refsTest}
+use Rattle.references.specs.Tests.{columnBy, firstWord, otherWord, tokenIn, clientIn, kept, nonzero, numbersTest, linksTest}
+use Rattle.valid.specs.Tests.{stationTest, partsTest}
+use Rattle.valid.specs.Meaning.{memoryOf, Lent}
+use Rattle.lists.proofs.Truth.{same-tests, all-cong, all-and, all-map}
+use Rattle.lists.proofs.Counts.{listed, referred}
+use Rattle.token_rows.proofs.Same.{allSame, same-joined, same-rows}
+use Rattle.references.proofs.Acting.{all-references, member-references, clients}
+use Rattle.references.proofs.Lists.{given, kept-lives, token-numbers, primaryIn, other-numbers, station-tokens, all-lives, fields}
 
 -- ---- the tests, as they stand in the code and as they stand in the rules
 
@@ -142,36 +143,6 @@ module _ (m : Memory)
       ∙ sym (rw (c₁, c₂, c₃, c₄, and-true, and-true))
 
 -- ---- with what the code has at each return
-
-pub at-numbers : (ns os hs rs : List ℕ) (h nt nh : ℕ) {a b r q : Bool}
-    → a ≡ all (isGiven nt ns) ns → b ≡ all (isGiven nh hs) hs → r ≡ refsTest ns rs → q ≡ all (isApart (take (h + stationCount - h) (drop h rs))) os
-    → ((leb 1 nt && a) && (leb 1 nh && b) && leb nh max32 && r && q) ≡ numbersTest ns os hs rs (take stationCount (drop h rs)) nt nh
-unfolding numbersTest
-at-numbers ns os hs rs h nt nh ea eb er eq =
-    let d : h + stationCount - h ≡ stationCount = omega arith in
-    cc
-
-pub at-fronts : (ns os hs rs : List ℕ) (n o h nt nh : ℕ) {r : Bool}
-    → r ≡ numbersTest (take (n - 0) ns) (take (o - 0) os) (take (h - 0) hs) (take (h + stationReferences - 0) rs) (take stationCount (drop h (take (h + stationReferences - 0) rs))) nt nh
-    → r ≡ numbersTest (take n ns) (take o os) (take h hs) (take (h + stationReferences) rs) (take stationCount (drop h rs)) nt nh
-at-fronts ns os hs rs n o h nt nh e =
-    let c : (k : ℕ) → k - 0 ≡ k = λ k. omega arith in
-    let d : take stationCount (drop h (take (h + stationReferences - 0) rs)) ≡ take stationCount (drop h rs) =
-    ap (take stationCount) (drop-take h (h + stationReferences - 0) rs) ∙ take-take stationCount (h + stationReferences - 0 - h) (drop h rs) (omega arith) in
-    cc (c n, c o, c h, c (h + stationReferences))
-
-pub at-links : (ts : List ℕ) (hs : List code.Handle) (cs : List ℕ) {ns os hn rs : List ℕ} {n o h : ℕ} {f r q : Bool}
-    → r ≡ numbersTest (take n ns) (take o os) (take h hn) (take (h + stationReferences) rs) (take stationCount (drop h rs)) (nextToken cs) (nextHandle cs)
-    → Front tokenSlots (nonzero (columnBy firstWord tokenWords tokenSlots ts)) n ns → Front tokenSlots (nonzero (columnBy otherWord tokenWords tokenSlots ts)) o os
-    → Front handleSlots (kept Meaning.numberOf Meaning.numberOf hs) h hn
-    → Referred (kept Meaning.numberOf tokenOf hs) (columnBy tokenIn stationWords stationCount (stationsIn cs)) (columnBy clientIn stationWords stationCount (stationsIn cs)) h rs
-    → f ≡ all fieldsOf hs → q ≡ clientsTest ts (stationsIn cs) → (f && r && q) ≡ linksTest ts (map handleOf hs) cs
-unfolding linksTest handleNumber handleToken
-at-links ts hs cs {hn = hn} {rs = rs} {h = h} er en eo eh ek ef eq =
-    let z : all fieldsOf hs ≡ all fieldsTest (map handleOf hs) = sym (all-map handleOf fieldsTest hs) in
-    let u : take h hn ≡ kept handleNumber handleNumber (map handleOf hs) = eh .front ∙ sym (kept-map handleNumber handleNumber handleOf hs) in
-    let v : kept Meaning.numberOf tokenOf hs ≡ kept handleNumber handleToken (map handleOf hs) = sym (kept-map handleNumber handleToken handleOf hs) in
-    cc (en .front, eo .front, ek .front, ek .primaries)
 
 pub at-parts : (ts ds : List ℕ) (hs : List code.Handle) (cs ps : List ℕ) {t s l : Bool}
     → t ≡ testRows tokenTest tokenWords maxDacl tokenSlots ts ds

@@ -1,7 +1,6 @@
--- What the code's slices and handles stand for. Assumes nothing.
+-- What the code's slices stand for. Assumes nothing.
 use Prim.Native.Nat.{ℕ, _*_}
 use mathlib.Core.Path.{_≡_}
-use mathlib.Core.Bool.{Bool}
 use mathlib.Core.List.{List, map}
 use lib.ListN.{length}
 use Rattle.handle.specs.declared.Handle.{Handle}
@@ -9,7 +8,6 @@ use Rattle.handle.specs.Meaning.{handleOf}
 use Rattle.rules.specs.Token.{maxDacl}
 use Rattle.rules.specs.State.{tokenSlots, stationCount}
 use Rattle.rules.specs.Memory.{Memory, tokenWords, controlWords, pendingBytes}
-use Rattle.valid.specs.Tests.{fieldsTest}
 
 abbrev pub memoryOf : List ℕ → List ℕ → List Handle → List ℕ → List ℕ → Memory
 memoryOf ts ds hs cs ps = record { tokens = ts; dacls = ds; handles = map handleOf hs; control = cs; pending = ps }
@@ -20,12 +18,3 @@ pub record Lent (ts ds cs ps : List ℕ) : Type 0 where
   pub dacls : length ds ≡ tokenSlots * maxDacl
   pub control : length cs ≡ controlWords
   pub pending : length ps ≡ stationCount * pendingBytes
-
-abbrev pub numberOf : Handle → ℕ
-numberOf h = h .number
-
-abbrev pub tokenOf : Handle → ℕ
-tokenOf h = h .token
-
-abbrev pub fieldsOf : Handle → Bool
-fieldsOf h = fieldsTest (handleOf h)

@@ -1,0 +1,4 @@
+pub mod Cuts
+pub mod Truth
+pub mod Loops
+pub mod Counts

@@ -1,0 +1,27 @@
+-- lists::words::zero_words meets its contract: its loop gathers the words. Assumes nothing.
+use Prim.Native.Nat.{_-_}
+use mathlib.Core.Path.{refl}
+use lib.ListN.{length}
+use borrow.Author.Needs.{needs}
+use Rattle.lists.specs.Tests.{isZero}
+use Rattle.lists.proofs.Loops.{or-none, Gathered, gathered-none, gathered-more, gathered-done}
+use Rattle.lists.proofs.words.zero_words.Statement.{statement}
+use Rattle.lists.proofs.words.zero_words.Tie as tie
+
+abbrev Inv : tie.InvT-loop
+Inv s bad₀ i₀ bad i = Gathered isZero isZero s bad i
+
+abbrev μ : tie.MeasureT-loop
+μ s bad₀ i₀ bad i = length s - i
+
+pub zero-words-spec : {M : Type 1} → statement M
+zero-words-spec =
+    tie.close
+    (tie.spec Inv μ
+    (λ c. gathered-none isZero isZero _ refl)
+    (λ c. search needs)
+    (λ c. search needs)
+    (λ c. search needs)
+    (λ c. search needs)
+    (λ c. search (needs, gathered-more isZero isZero or-none (λ w. w) (λ w. refl)))
+    (λ c. search (needs, gathered-done isZero isZero)))

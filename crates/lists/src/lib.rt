@@ -1,0 +1,3 @@
+// Tests of every number of a list.
+pub mod numbers;
+pub mod words;

@@ -1,0 +1,21 @@
+-- Request 12. Assumes nothing.
+use borrow.Author.Needs.{needs}
+use Rattle.rules.specs.Request as requests
+use Rattle.rules.specs.Serve.{rule}
+use Rattle.requests.proofs.LayoutLaws.{number-not-read, number-served}
+use Rattle.requests.proofs.impersonate.Statement.{statement}
+use Rattle.requests.proofs.impersonate.Tie as tie
+
+pub impersonate-spec : {M : Type 1} → statement M
+unfolding rule
+impersonate-spec =
+    tie.close
+    (tie.spec
+    (λ c κs. search needs)
+    (λ c κs. search needs)
+    (λ c. search (needs, number-not-read requests.impersonate))
+    (λ c κs. search needs)
+    (λ c. search needs)
+    (λ c. search needs)
+    (λ c. search needs)
+    (λ c. search (needs, number-served requests.impersonate)))

@@ -1,0 +1,20 @@
+-- Request 4. Assumes nothing.
+use borrow.Author.Needs.{needs}
+use Rattle.rules.specs.Serve.{rule}
+use Rattle.requests.proofs.LayoutLaws.{not-read, served}
+use Rattle.requests.proofs.query.Statement.{statement}
+use Rattle.requests.proofs.query.Tie as tie
+
+pub query-spec : {M : Type 1} → statement M
+unfolding rule
+query-spec =
+    tie.close
+    (tie.spec
+    (λ c κs. search needs)
+    (λ c κs. search needs)
+    (λ c. search (needs, not-read))
+    (λ c κs. search needs)
+    (λ c. search needs)
+    (λ c. search needs)
+    (λ c. search needs)
+    (λ c. search (needs, served)))
