@@ -29,24 +29,24 @@ use Rattle.calls.proofs.Freeing.{of-bytes, stays-valid, slot-freed}
 
 -- ---- by cases
 
-module _ (m : Memory) (s : ℕ) (chunk : List ℕ) (room : ℕ) where
-  no-station : stationCount ≤ s → feedOn m s chunk room ≡ refusedOn noStation m
+module _ (m : Memory) (s : ℕ) (chunk : List ℕ) (bufferLength : ℕ) where
+  no-station : stationCount ≤ s → feedOn m s chunk bufferLength ≡ refusedOn noStation m
   unfolding feedOn
   no-station h = rw (le-leb stationCount s h)
 
   module _ (h : s < stationCount) where
-    short : room < maxAnswer → feedOn m s chunk room ≡ refusedOn shortBuffer m
+    short : bufferLength < maxAnswer → feedOn m s chunk bufferLength ≡ refusedOn shortBuffer m
     unfolding feedOn
-    short l = rw (lt-leb stationCount s h, lt-ltb room maxAnswer l)
+    short l = rw (lt-leb stationCount s h, lt-ltb bufferLength maxAnswer l)
 
-    module _ (l : maxAnswer ≤ room) where
-      invalid : valid m ≡ false → feedOn m s chunk room ≡ refusedOn invalidMemory m
+    module _ (l : maxAnswer ≤ bufferLength) where
+      invalid : valid m ≡ false → feedOn m s chunk bufferLength ≡ refusedOn invalidMemory m
       unfolding feedOn
-      invalid v = rw (lt-leb stationCount s h, le-ltb room maxAnswer l, v)
+      invalid v = rw (lt-leb stationCount s h, le-ltb bufferLength maxAnswer l, v)
 
-      feeds : valid m ≡ true → feedOn m s chunk room ≡ written (fedFrom 0 s chunk (decode m))
+      feeds : valid m ≡ true → feedOn m s chunk bufferLength ≡ written (fedFrom 0 s chunk (decode m))
       unfolding feedOn
-      feeds v = rw (lt-leb stationCount s h, le-ltb room maxAnswer l, v)
+      feeds v = rw (lt-leb stationCount s h, le-ltb bufferLength maxAnswer l, v)
 
 -- ---- with what the code has at each return
 

@@ -76,12 +76,12 @@ module _ (from end : ℕ) (b : List ℕ) (x : Next) (f : Says (take end b) from 
   pub waiting : x ≡ next.More → Room from end b
   waiting g = let w = bounds next.More g in record { order = order; inside = fits; room = omega (arith, upto) }
 
-  module _ (m : Memory) (room : ℕ) (hs : Handles) where
-    pub stopped : x ≡ next.Stop → Advances from end b b m m room (record { going = false; chunks = 0; from = from; end = end; handles = hs })
+  module _ (m : Memory) (bufferLength : ℕ) (hs : Handles) where
+    pub stopped : x ≡ next.Stop → Advances from end b b m m bufferLength (record { going = false; chunks = 0; from = from; end = end; handles = hs })
     stopped g =
         let r : Advanced = record { going = false; chunks = 0; from = from; end = end; handles = hs } in
         record {
-          follows = subst (λ (y : program.Next). Follows y (held from end b) (held from end b) m m room r) (what next.Stop g) (refl, refl, refl);
+          follows = subst (λ (y : program.Next). Follows y (held from end b) (held from end b) m m bufferLength r) (what next.Stop g) (refl, refl, refl);
           order = order;
           inside = fits;
           count = omega arith;
@@ -89,11 +89,11 @@ module _ (from end : ℕ) (b : List ℕ) (x : Next) (f : Says (take end b) from 
           stays = λ v. v;
         }
 
-    pub read-more : x ≡ next.More → (b′ : List ℕ) (n : ℕ) → Refilled from end b b′ n → Advances from end b b′ m m room (record { going = ltb 0 n; chunks = 0; from = 0; end = n; handles = hs })
+    pub read-more : x ≡ next.More → (b′ : List ℕ) (n : ℕ) → Refilled from end b b′ n → Advances from end b b′ m m bufferLength (record { going = ltb 0 n; chunks = 0; from = 0; end = n; handles = hs })
     read-more g b′ n w =
         let r : Advanced = record { going = ltb 0 n; chunks = 0; from = 0; end = n; handles = hs } in
         record {
-          follows = subst (λ (y : program.Next). Follows y (held from end b) (held 0 n b′) m m room r) (what next.More g) (refl, refl, λ t. longer (ltb-true 0 n t));
+          follows = subst (λ (y : program.Next). Follows y (held from end b) (held 0 n b′) m m bufferLength r) (what next.More g) (refl, refl, λ t. longer (ltb-true 0 n t));
           order = omega arith;
           inside = w .inside;
           count = omega arith;
@@ -121,12 +121,12 @@ module _ (from end : ℕ) (b : List ℕ) (x : Next) (f : Says (take end b) from 
         ∙ sym (take-take n (end - at) (drop at b) (omega (arith, inside, upto)))
         ∙ ap (take n) (sym (drop-take at end b))
 
-    pub took : (m m′ : Memory) (room : ℕ) (s : Served) → Serves station (take (at + n - at) (drop at b)) m m′ room (s .written)
-        → Advances from end b b m m′ room (record { going = s .written; chunks = 1; from = at + n; end = end; handles = s .handles })
-    took m m′ room s w =
+    pub took : (m m′ : Memory) (bufferLength : ℕ) (s : Served) → Serves station (take (at + n - at) (drop at b)) m m′ bufferLength (s .written)
+        → Advances from end b b m m′ bufferLength (record { going = s .written; chunks = 1; from = at + n; end = end; handles = s .handles })
+    took m m′ bufferLength s w =
         let r : Advanced = record { going = s .written; chunks = 1; from = at + n; end = end; handles = s .handles } in
         record {
-          follows = subst (λ (y : program.Next). Follows y (held from end b) (held (at + n) end b) m m′ room r) (what (next.Chunk station at n) g) (refl, refl, rw chunk-is at w);
+          follows = subst (λ (y : program.Next). Follows y (held from end b) (held (at + n) end b) m m′ bufferLength r) (what (next.Chunk station at n) g) (refl, refl, rw chunk-is at w);
           order = omega (arith, inside, upto);
           inside = fits;
           count = omega arith;
@@ -136,7 +136,7 @@ module _ (from end : ℕ) (b : List ℕ) (x : Next) (f : Says (take end b) from 
 
 -- ---- run
 
-module _ (from end : ℕ) (b b′ : List ℕ) (m m′ : Memory) (room : ℕ) (r : Advanced) (f : Advances from end b b′ m m′ room r) where
+module _ (from end : ℕ) (b b′ : List ℕ) (m m′ : Memory) (bufferLength : ℕ) (r : Advanced) (f : Advances from end b b′ m m′ bufferLength r) where
   module _ (chunks : ℕ) (below : chunks < budget) where
     -- each turn but the last takes a chunk, or leaves more bytes held
     pub falls : not (r .going) ≡ false → from ≤ end → end ≤ length b → length b ≡ bufferBytes → length b′ ≡ length b
@@ -146,7 +146,7 @@ module _ (from end : ℕ) (b b′ : List ℕ) (m m′ : Memory) (room : ℕ) (r 
         (λ z. omega (arith, f .count, f .inside, f .order))
         (below-or (r .chunks) 1)
 
-    module _ (b₀ : List ℕ) (m₀ : Memory) (before : Runs b₀ m₀ chunks true b from end m) (fits : maxAnswer ≤ room) where
+    module _ (b₀ : List ℕ) (m₀ : Memory) (before : Runs b₀ m₀ chunks true b from end m) (fits : maxAnswer ≤ bufferLength) where
       pub goes-on : not (r .going) ≡ false → Runs b₀ m₀ (chunks + r .chunks) true b′ (r .from) (r .end) m′
       goes-on g = rw (not-false (r .going) g) at (turn before fits f)
 

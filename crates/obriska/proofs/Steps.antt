@@ -34,7 +34,7 @@ module _ (s : ℕ) (bytes : List ℕ) (m m′ : Memory) (out out′ : List ℕ) 
     some = λ h. h;
     onward = λ some. record {
       stays = f .stays;
-      same = λ v room e. fed-none (decode m′) s bytes (length bytes) (omega arith) ∙ sym (ap (λ (o : Output). o .after) (f .skipped v room some z));
+      same = λ v fits e. fed-none (decode m′) s bytes (length bytes) (omega arith) ∙ sym (ap (λ (o : Output). o .after) (f .skipped v fits some z));
     };
   }
 
@@ -42,17 +42,17 @@ module _ (s : ℕ) (bytes : List ℕ) (m m′ : Memory) (out out′ : List ℕ) 
   feeds z = record {
     inside = f .inside;
     some = f .forward z;
-    onward = λ some. record { stays = f .stays; same = λ v room e. sym (ap (λ (o : Output). o .after) (f .taken v room some z)) };
+    onward = λ some. record { stays = f .stays; same = λ v fits e. sym (ap (λ (o : Output). o .after) (f .taken v fits some z)) };
   }
 
 -- ---- the loop of `serve`
 
-pub begins : (s : ℕ) (bytes : List ℕ) (m : Memory) (room : ℕ) → Onward s bytes bytes m m room true
-begins s bytes m room = record { stays = λ v. v; same = λ v h e. refl }
+pub begins : (s : ℕ) (bytes : List ℕ) (m : Memory) (bufferLength : ℕ) → Onward s bytes bytes m m bufferLength true
+begins s bytes m bufferLength = record { stays = λ v. v; same = λ v h e. refl }
 
 -- after used bytes, one feed of the rest
-module _ (s : ℕ) (bytes : List ℕ) (used : ℕ) (m₀ m m′ : Memory) (room₀ room : ℕ) (t : Step)
-    (b : Onward s bytes (drop used bytes) m₀ m room₀ true) (f : Steps s (take (length bytes - used) (drop used bytes)) m m′ room t) (here : used < length bytes) where
+module _ (s : ℕ) (bytes : List ℕ) (used : ℕ) (m₀ m m′ : Memory) (bufferLength₀ bufferLength : ℕ) (t : Step)
+    (b : Onward s bytes (drop used bytes) m₀ m bufferLength₀ true) (f : Steps s (take (length bytes - used) (drop used bytes)) m m′ bufferLength t) (here : used < length bytes) where
   rest : take (length bytes - used) (drop used bytes) ≡ drop used bytes
   rest = take-all (length bytes - used) (drop used bytes) (omega (arith, length-drop used bytes))
 
@@ -68,17 +68,17 @@ module _ (s : ℕ) (bytes : List ℕ) (used : ℕ) (m₀ m m′ : Memory) (room�
   pub less-left : length bytes - (used + t .used) < length bytes - used
   less-left = omega (arith, reaches, f .some (omega (arith, size)))
 
-  once : Onward s (drop used bytes) (drop (t .used) (drop used bytes)) m m′ room (t .written)
+  once : Onward s (drop used bytes) (drop (t .used) (drop used bytes)) m m′ bufferLength (t .written)
   once = rw rest at (f .onward (omega (arith, size)))
 
-  pub breaks-off : Serves s bytes m₀ m′ room₀ false
+  pub breaks-off : Serves s bytes m₀ m′ bufferLength₀ false
   breaks-off = record { stays = λ v. once .stays (b .stays v); after = λ v h e. let z : _≡_ {A = ℕ} 0 1 = cc in absurd (omega arith) }
 
-  pub goes-on : room ≡ room₀ → not (t .written) ≡ false → Onward s bytes (drop (used + t .used) bytes) m₀ m′ room₀ true
+  pub goes-on : bufferLength ≡ bufferLength₀ → not (t .written) ≡ false → Onward s bytes (drop (used + t .used) bytes) m₀ m′ bufferLength₀ true
   goes-on same e = record {
     stays = λ v. once .stays (b .stays v);
     same = λ v h k. ap (λ (xs : List ℕ). fed (decode m′) s xs .after) (sym (drop-drop (t .used) used bytes)) ∙ once .same (b .stays v) (omega arith) (not-false (t .written) e) ∙ b .same v h k;
   }
 
-pub ends : (s : ℕ) (bytes : List ℕ) (used : ℕ) (m₀ m : Memory) (room : ℕ) → Onward s bytes (drop used bytes) m₀ m room true → length bytes ≤ used → Serves s bytes m₀ m room true
-ends s bytes used m₀ m room b h = record { stays = b .stays; after = λ v k e. sym (fed-none (decode m) s bytes used h) ∙ b .same v k e }
+pub ends : (s : ℕ) (bytes : List ℕ) (used : ℕ) (m₀ m : Memory) (bufferLength : ℕ) → Onward s bytes (drop used bytes) m₀ m bufferLength true → length bytes ≤ used → Serves s bytes m₀ m bufferLength true
+ends s bytes used m₀ m bufferLength b h = record { stays = b .stays; after = λ v k e. sym (fed-none (decode m) s bytes used h) ∙ b .same v k e }

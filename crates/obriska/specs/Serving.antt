@@ -22,20 +22,20 @@ pub record Ready (buffer answer : List ℕ) (m : Memory) : Type 0 where
   pub memory : valid m ≡ true
 
 -- memory stays valid; where all was written, what is left of a chunk leads to the state that the whole of it leads to
-pub record Onward (s : ℕ) (bytes left : List ℕ) (m m′ : Memory) (room : ℕ) (written : Bool) : Type 0 where
+pub record Onward (s : ℕ) (bytes left : List ℕ) (m m′ : Memory) (bufferLength : ℕ) (written : Bool) : Type 0 where
   pub stays : valid m ≡ true → valid m′ ≡ true
-  pub same : valid m ≡ true → maxAnswer ≤ room → written ≡ true → fed (decode m′) s left .after ≡ fed (decode m) s bytes .after
+  pub same : valid m ≡ true → maxAnswer ≤ bufferLength → written ≡ true → fed (decode m′) s left .after ≡ fed (decode m) s bytes .after
 
 -- one feed of a chunk
-pub record Steps (s : ℕ) (bytes : List ℕ) (m m′ : Memory) (room : ℕ) (r : Step) : Type 0 where
+pub record Steps (s : ℕ) (bytes : List ℕ) (m m′ : Memory) (bufferLength : ℕ) (r : Step) : Type 0 where
   pub inside : r .used ≤ length bytes
   pub some : 0 < length bytes → 0 < r .used
-  pub onward : 0 < length bytes → Onward s bytes (drop (r .used) bytes) m m′ room (r .written)
+  pub onward : 0 < length bytes → Onward s bytes (drop (r .used) bytes) m m′ bufferLength (r .written)
 
 -- a whole chunk
-pub record Serves (s : ℕ) (bytes : List ℕ) (m m′ : Memory) (room : ℕ) (written : Bool) : Type 0 where
+pub record Serves (s : ℕ) (bytes : List ℕ) (m m′ : Memory) (bufferLength : ℕ) (written : Bool) : Type 0 where
   pub stays : valid m ≡ true → valid m′ ≡ true
-  pub after : valid m ≡ true → maxAnswer ≤ room → written ≡ true → decode m′ ≡ fed (decode m) s bytes .after
+  pub after : valid m ≡ true → maxAnswer ≤ bufferLength → written ≡ true → decode m′ ≡ fed (decode m) s bytes .after
 
 -- the bytes of the input that are held and not used yet
 abbrev pub held : ℕ → ℕ → List ℕ → List ℕ
@@ -55,12 +55,12 @@ pub record Refilled (from end : ℕ) (before after : List ℕ) (r : ℕ) : Type 
 
 -- what is done at what the bytes held come to
 abbrev pub Follows : Next → List ℕ → List ℕ → Memory → Memory → ℕ → Advanced → Type 0
-Follows (chunk s bytes later) h h′ m m′ room r = (r .chunks ≡ 1) × (h′ ≡ later) × Serves s bytes m m′ room (r .going)
-Follows more h h′ m m′ room r = (r .chunks ≡ 0) × (m′ ≡ m) × (r .going ≡ true → (length h < length h′) × (take (length h) h′ ≡ h))
-Follows stop h h′ m m′ room r = (r .chunks ≡ 0) × (r .going ≡ false) × (m′ ≡ m)
+Follows (chunk s bytes later) h h′ m m′ bufferLength r = (r .chunks ≡ 1) × (h′ ≡ later) × Serves s bytes m m′ bufferLength (r .going)
+Follows more h h′ m m′ bufferLength r = (r .chunks ≡ 0) × (m′ ≡ m) × (r .going ≡ true → (length h < length h′) × (take (length h) h′ ≡ h))
+Follows stop h h′ m m′ bufferLength r = (r .chunks ≡ 0) × (r .going ≡ false) × (m′ ≡ m)
 
-pub record Advances (from end : ℕ) (before after : List ℕ) (m m′ : Memory) (room : ℕ) (r : Advanced) : Type 0 where
-  pub follows : Follows (next (held from end before)) (held from end before) (held (r .from) (r .end) after) m m′ room r
+pub record Advances (from end : ℕ) (before after : List ℕ) (m m′ : Memory) (bufferLength : ℕ) (r : Advanced) : Type 0 where
+  pub follows : Follows (next (held from end before)) (held from end before) (held (r .from) (r .end) after) m m′ bufferLength r
   pub order : r .from ≤ r .end
   pub inside : r .end ≤ length after
   -- what makes the program end: a chunk was taken, or more bytes are held
@@ -72,7 +72,7 @@ pub record Advances (from end : ℕ) (before after : List ℕ) (m m′ : Memory)
 -- how many chunks they took, whether the last goes on, and what it left
 pub data Runs (b₀ : List ℕ) (m₀ : Memory) : ℕ → Bool → List ℕ → ℕ → ℕ → Memory → Type 0 where
   none : Runs b₀ m₀ 0 true b₀ 0 0 m₀
-  turn : {n from end room : ℕ} {b b′ : List ℕ} {m m′ : Memory} {r : Advanced} → Runs b₀ m₀ n true b from end m → maxAnswer ≤ room → Advances from end b b′ m m′ room r
+  turn : {n from end bufferLength : ℕ} {b b′ : List ℕ} {m m′ : Memory} {r : Advanced} → Runs b₀ m₀ n true b from end m → maxAnswer ≤ bufferLength → Advances from end b b′ m m′ bufferLength r
       → Runs b₀ m₀ (n + r .chunks) (r .going) b′ (r .from) (r .end) m′
 
 -- the whole run: turns until one stops it or the budget is used up; no more chunks than the budget, and that many where it did not stop before

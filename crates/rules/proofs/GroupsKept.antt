@@ -6,7 +6,7 @@ use mathlib.Core.List.{List, [], _∷_, map}
 use lib.Dec.{eqb, leb, ltb}
 use lib.Bits.{bitOr}
 use lib.ListN.{length, getD}
-use borrow.Author.Tests.{eqb-true, not-true}
+use borrow.Author.Tests.{not-true}
 use Rattle.rules.specs.AdjustDefaults.{validOwner, validGroup}
 use Rattle.rules.specs.AdjustGroups.{isReset, isProtected, unprotected, applied, resetGroup, adjusted}
 use Rattle.rules.specs.Basic.{if_then_else_, implies, bothOrNeither, all, changeAt}

@@ -11,12 +11,13 @@ use Rattle.rules.specs.State.{State, start, stationCount}
 use Rattle.rules.specs.Frame.{maxAnswer}
 use Rattle.rules.specs.Model.{Result, refused, feed}
 use Rattle.rules.specs.Run.{Call, feeds, returned, after, noted, answered, untilUsed}
+use Rattle.rules.proofs.WholeList.{fed-taken}
 use Rattle.session.specs.Program as program
 use Rattle.session.specs.Program.{Next, chunk, more, stop, Output, nothing, onFed, fedIn, fed, budget, next, run, written}
 use Rattle.session.specs.Blocks.{concat}
 use Rattle.session.specs.Turns.{answering}
 use Rattle.session.specs.AsCalls.{callsOf, onNext, calls}
-use Rattle.session.proofs.Feeding.{on-taken, fed-accepted}
+use Rattle.session.proofs.Feeding.{on-taken}
 
 concat-noted : (a : List ℕ) (rest : List (List ℕ)) → concat (noted a rest) ≡ a ++ concat rest
 unfolding concat noted
@@ -58,7 +59,7 @@ module _ (s : ℕ) where
   -- one that is served
   takes : leb stationCount s ≡ false → (σ : State) (bytes : List ℕ) → feed σ s bytes maxAnswer .refusal ≡ 0
   unfolding feed
-  takes e σ bytes = rw e (fed-accepted bytes 0 s σ)
+  takes e σ bytes = rw e (fed-taken bytes 0 s σ)
 
   used-up : leb stationCount s ≡ false → (k : ℕ) (σ : State) (bytes : List ℕ) → fedIn k σ s bytes ≡ brought (untilUsed k σ s bytes maxAnswer) σ
   unfolding fedIn nothing untilUsed answered after returned concat

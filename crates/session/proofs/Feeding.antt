@@ -2,7 +2,7 @@
 use Prim.Native.Nat.{ℕ, zero, suc, _+_, _≤_, _<_}
 use native.Mathlib.Omega.{arith}
 use mathlib.Core.Path.{_≡_, refl, sym, ap, ap₂, _∙_}
-use mathlib.Core.Logic.{_⊎_, ⊎-elim}
+use mathlib.Core.Logic.{⊎-elim}
 use mathlib.Core.Bool.{Bool, true, false}
 use mathlib.Core.List.{List, [], _∷_}
 use lib.ListN.{length, drop, length-drop}
@@ -45,9 +45,6 @@ fed-uses (b ∷ bytes) n s σ = on-step (step σ s b) (fed-uses bytes (n + 1) s)
     on-step (silent τ) ih = let u = ih τ in record { accepted = u .accepted; least = omega arith; some = λ h. omega arith; upto = omega arith }
     on-step (answers a τ) ih = record { accepted = refl; least = omega arith; some = λ h. omega arith; upto = omega arith }
 
-pub fed-accepted : (bytes : List ℕ) (n s : ℕ) (σ : State) → fedFrom n s bytes σ .refusal ≡ 0
-fed-accepted bytes n s σ = fed-uses bytes n s σ .accepted
-
 -- of a result, or of what a call did: within the chunk, and forward where it was not refused
 pub record Goes (chunk : List ℕ) (refusal used : ℕ) : Type 0 where
   pub inside : used ≤ length chunk
@@ -59,19 +56,19 @@ fed-goes s chunk σ = let u = fed-uses chunk 0 s σ in record { inside = omega (
 stays-at : (chunk : List ℕ) (n : ℕ) → (n ≡ 0 → ⊥) → Goes chunk n 0
 stays-at chunk n z = record { inside = omega arith; forward = λ e h. absurd (z e) }
 
-model-goes : (σ : State) (s : ℕ) (chunk : List ℕ) (room : ℕ) → let r = feed σ s chunk room in Goes chunk (r .refusal) (r .used)
+model-goes : (σ : State) (s : ℕ) (chunk : List ℕ) (bufferLength : ℕ) → let r = feed σ s chunk bufferLength in Goes chunk (r .refusal) (r .used)
 unfolding feed refused
-model-goes σ s chunk room =
+model-goes σ s chunk bufferLength =
     let P : Result → Type 0 = λ r. Goes chunk (r .refusal) (r .used) in
     on-if P (leb stationCount s) _ _ (λ t. stays-at chunk noStation (λ e. omega arith))
-    (λ t. on-if P (ltb room maxAnswer) _ _ (λ u. stays-at chunk shortBuffer (λ e. omega arith)) (λ u. fed-goes s chunk σ))
+    (λ t. on-if P (ltb bufferLength maxAnswer) _ _ (λ u. stays-at chunk shortBuffer (λ e. omega arith)) (λ u. fed-goes s chunk σ))
 
-pub call-goes : (m : Memory) (s : ℕ) (chunk : List ℕ) (room : ℕ) → let d = feedOn m s chunk room in Goes chunk (d .refusal) (d .used)
+pub call-goes : (m : Memory) (s : ℕ) (chunk : List ℕ) (bufferLength : ℕ) → let d = feedOn m s chunk bufferLength in Goes chunk (d .refusal) (d .used)
 unfolding feedOn refusedOn written
-call-goes m s chunk room =
+call-goes m s chunk bufferLength =
     let P : Done → Type 0 = λ d. Goes chunk (d .refusal) (d .used) in
     on-if P (leb stationCount s) _ _ (λ t. stays-at chunk noStation (λ e. omega arith))
-    (λ t. on-if P (ltb room maxAnswer) _ _ (λ u. stays-at chunk shortBuffer (λ e. omega arith))
+    (λ t. on-if P (ltb bufferLength maxAnswer) _ _ (λ u. stays-at chunk shortBuffer (λ e. omega arith))
     (λ u. on-if P (valid m) _ _ (λ v. fed-goes s chunk (decode m)) (λ v. stays-at chunk invalidMemory (λ e. omega arith))))
 
 -- ---- a chunk that is fed until it is used up: one feed, and then the rest
@@ -126,14 +123,14 @@ fed-once σ s (b ∷ chunk) h =
 
 -- ---- a feed over valid memory
 
-module _ (m : Memory) (v : valid m ≡ true) (s : ℕ) (chunk : List ℕ) (room : ℕ) where
+module _ (m : Memory) (v : valid m ≡ true) (s : ℕ) (chunk : List ℕ) (bufferLength : ℕ) where
   refuses : (n : ℕ) → refusedOn n m ≡ written (refused n (decode m))
   unfolding refusedOn written refused
   refuses n = ap (λ (x : Memory). record { refusal = n; used = 0; answer = []; after = x }) (sym (valid-written m v))
 
-  on-model : feedOn m s chunk room ≡ written (feed (decode m) s chunk room)
+  on-model : feedOn m s chunk bufferLength ≡ written (feed (decode m) s chunk bufferLength)
   unfolding feedOn feed
-  on-model = by (leb stationCount s) (ltb room maxAnswer)
+  on-model = by (leb stationCount s) (ltb bufferLength maxAnswer)
     where
       by : (a b : Bool) → (if a then refusedOn noStation m else if b then refusedOn shortBuffer m else if valid m then written (fedFrom 0 s chunk (decode m)) else refusedOn invalidMemory m)
           ≡ written (if a then refused noStation (decode m) else if b then refused shortBuffer (decode m) else fedFrom 0 s chunk (decode m))
@@ -141,44 +138,44 @@ module _ (m : Memory) (v : valid m ≡ true) (s : ℕ) (chunk : List ℕ) (room 
       by false true = refuses shortBuffer
       by false false = rw v
 
-  pub call-refused : maxAnswer ≤ room → (feedOn m s chunk room .refusal ≡ 0 → ⊥) → feedOn m s chunk room .refusal ≡ noStation
+  pub call-refused : maxAnswer ≤ bufferLength → (feedOn m s chunk bufferLength .refusal ≡ 0 → ⊥) → feedOn m s chunk bufferLength .refusal ≡ noStation
   unfolding feedOn refusedOn written
   call-refused fits =
       on-if (λ (d : Done). (d .refusal ≡ 0 → ⊥) → d .refusal ≡ noStation) (leb stationCount s) _ _ (λ t z. refl)
-      (λ t. rw (le-ltb room maxAnswer fits, v) (λ z. absurd (z (fed-uses chunk 0 s (decode m) .accepted))))
+      (λ t. rw (le-ltb bufferLength maxAnswer fits, v) (λ z. absurd (z (fed-uses chunk 0 s (decode m) .accepted))))
 
   module _ (bytes : all isByte chunk ≡ true) where
-    after-valid : Valid.valid (feed (decode m) s chunk room .after) ≡ true
+    after-valid : Valid.valid (feed (decode m) s chunk bufferLength .after) ≡ true
     unfolding all ofBytes after returned
-    after-valid = facts-valid _ (run-step (feeds s chunk room ∷ []) (decode m) (and-i bytes refl) (valid-facts (decode m) (valid-state m v)) .facts)
+    after-valid = facts-valid _ (run-step (feeds s chunk bufferLength ∷ []) (decode m) (and-i bytes refl) (valid-facts (decode m) (valid-state m v)) .facts)
 
-    pub call-valid : valid (feedOn m s chunk room .after) ≡ true
+    pub call-valid : valid (feedOn m s chunk bufferLength .after) ≡ true
     unfolding written
-    call-valid = rw on-model (written-valid (feed (decode m) s chunk room .after) after-valid)
+    call-valid = rw on-model (written-valid (feed (decode m) s chunk bufferLength .after) after-valid)
 
-    after-is : decode (feedOn m s chunk room .after) ≡ feed (decode m) s chunk room .after
+    after-is : decode (feedOn m s chunk bufferLength .after) ≡ feed (decode m) s chunk bufferLength .after
     unfolding written
-    after-is = rw on-model (read-back (feed (decode m) s chunk room .after) after-valid)
+    after-is = rw on-model (read-back (feed (decode m) s chunk bufferLength .after) after-valid)
 
-    module _ (fits : maxAnswer ≤ room) (some : 0 < length chunk) where
-      roomy : feed (decode m) s chunk maxAnswer ≡ feed (decode m) s chunk room
+    module _ (fits : maxAnswer ≤ bufferLength) (some : 0 < length chunk) where
+      long-enough : feed (decode m) s chunk maxAnswer ≡ feed (decode m) s chunk bufferLength
       unfolding feed
-      roomy = rw (le-ltb room maxAnswer fits)
+      long-enough = rw (le-ltb bufferLength maxAnswer fits)
 
-      once : fed (decode m) s chunk ≡ onFed (rest s chunk) (feed (decode m) s chunk room)
-      once = fed-once (decode m) s chunk some ∙ ap (onFed (rest s chunk)) roomy
+      once : fed (decode m) s chunk ≡ onFed (rest s chunk) (feed (decode m) s chunk bufferLength)
+      once = fed-once (decode m) s chunk some ∙ ap (onFed (rest s chunk)) long-enough
 
-      pub call-taken : feedOn m s chunk room .refusal ≡ 0
-          → let d = feedOn m s chunk room in fed (decode m) s chunk ≡ answering (d .answer) (fed (decode (d .after)) s (drop (d .used) chunk))
+      pub call-taken : feedOn m s chunk bufferLength .refusal ≡ 0
+          → let d = feedOn m s chunk bufferLength in fed (decode m) s chunk ≡ answering (d .answer) (fed (decode (d .after)) s (drop (d .used) chunk))
       unfolding written
       call-taken e =
           once
-          ∙ on-taken (rest s chunk) (feed (decode m) s chunk room) (sym (ap (λ (d : Done). d .refusal) on-model) ∙ e)
+          ∙ on-taken (rest s chunk) (feed (decode m) s chunk bufferLength) (sym (ap (λ (d : Done). d .refusal) on-model) ∙ e)
           ∙ sym (ap₂ answering (ap (λ (d : Done). d .answer) on-model) (ap₂ (λ (τ : State) (n : ℕ). fed τ s (drop n chunk)) after-is (ap (λ (d : Done). d .used) on-model)))
 
-      pub call-skipped : (feedOn m s chunk room .refusal ≡ 0 → ⊥) → fed (decode m) s chunk ≡ nothing (decode (feedOn m s chunk room .after))
+      pub call-skipped : (feedOn m s chunk bufferLength .refusal ≡ 0 → ⊥) → fed (decode m) s chunk ≡ nothing (decode (feedOn m s chunk bufferLength .after))
       unfolding written
       call-skipped z =
           once
-          ∙ on-refused (rest s chunk) (feed (decode m) s chunk room) (λ e. z (ap (λ (d : Done). d .refusal) on-model ∙ e))
+          ∙ on-refused (rest s chunk) (feed (decode m) s chunk bufferLength) (λ e. z (ap (λ (d : Done). d .refusal) on-model ∙ e))
           ∙ ap nothing (sym after-is)

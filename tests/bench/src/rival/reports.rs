@@ -7,7 +7,7 @@ use super::requests::Served;
 
 impl Memory<'_> {
     pub fn query(&mut self, station: usize, reader: &mut Reader, out: &mut Body) -> Served {
-        let (handle, class, room) = (reader.u32(), reader.u32(), reader.u32());
+        let (handle, class, capacity) = (reader.u32(), reader.u32(), reader.u32());
         reader.end()?;
         let (_, slot) = self.granted(station, handle, right::QUERY)?;
         refuse(5, (1..=LAST_CLASS).contains(&class))?;
@@ -45,7 +45,7 @@ impl Memory<'_> {
             _ => out.number(row[word::INTEGRITY]),
         }
         let size = out.len() as u64 - 1;
-        if size > room.into() {
+        if size > capacity.into() {
             return Err(Refused { status: 9, size });
         }
         Ok(())
