@@ -34,6 +34,7 @@ extern "C" {
 #define OBRISKA_STATIONS 8 /* stations 0 to 7 */
 #define OBRISKA_TOKENS 16  /* live tokens at most */
 #define OBRISKA_HANDLES 32 /* live handles at most, of all stations together */
+#define OBRISKA_PAIRS 4    /* linked pairs at most, each of another session */
 
 #define OBRISKA_MAX_GROUPS 64      /* of a token */
 #define OBRISKA_MAX_RESTRICTING 16 /* restricting SIDs of a token; with any it is restricted */
@@ -76,7 +77,7 @@ enum obriska_token_word {
 enum obriska_control_word {
     OBRISKA_NEXT_TOKEN = 0,
     OBRISKA_NEXT_HANDLE = 1,
-    OBRISKA_FIRST_STATION /* the row of station 0; the others follow */
+    OBRISKA_FIRST_STATION /* the row of station 0; the others follow, then the pair slots */
 };
 
 /* Words of a station's row. */
@@ -88,19 +89,31 @@ enum obriska_station_word {
     OBRISKA_STATION_CLIENT_LEVEL = 4 /* the level in force, OBRISKA_LEVEL_.. */
 };
 
+/* Words of a pair slot. */
+enum obriska_pair_word {
+    OBRISKA_PAIR_SESSION = 0,  /* whose pair it is */
+    OBRISKA_PAIR_ELEVATED = 1, /* the number of its full token; 0: the slot is free */
+    OBRISKA_PAIR_FILTERED = 2  /* the number of its limited token */
+};
+
 /* ---- sizes ---------------------------------------------------------------------------------- */
 
-/* What one token slot has in `tokens` and in `dacls`, one station in `control` and in `pending`. */
+/* What one token slot has in `tokens` and in `dacls`, one station in `control` and in `pending`, one
+ * pair slot in `control`. */
 #define OBRISKA_TOKEN_WORDS (OBRISKA_TOKEN_RESTRICTING + OBRISKA_MAX_RESTRICTING)
 #define OBRISKA_DACL_BYTES OBRISKA_MAX_DACL
 #define OBRISKA_STATION_WORDS (OBRISKA_STATION_CLIENT_LEVEL + 1)
 #define OBRISKA_PENDING_BYTES (OBRISKA_LENGTH_BYTES + OBRISKA_MAX_BODY)
+#define OBRISKA_PAIR_WORDS (OBRISKA_PAIR_FILTERED + 1)
+
+/* The word of `control` that the first pair slot begins at: behind the stations' rows. */
+#define OBRISKA_FIRST_PAIR (OBRISKA_FIRST_STATION + OBRISKA_STATIONS * OBRISKA_STATION_WORDS)
 
 /* Elements of each array that the host lends: exactly these lengths, else refusal 13. */
 #define OBRISKA_TOKENS_LEN (OBRISKA_TOKENS * OBRISKA_TOKEN_WORDS)
 #define OBRISKA_DACLS_LEN (OBRISKA_TOKENS * OBRISKA_DACL_BYTES)
 #define OBRISKA_HANDLES_LEN OBRISKA_HANDLES
-#define OBRISKA_CONTROL_LEN (OBRISKA_FIRST_STATION + OBRISKA_STATIONS * OBRISKA_STATION_WORDS)
+#define OBRISKA_CONTROL_LEN (OBRISKA_FIRST_PAIR + OBRISKA_PAIRS * OBRISKA_PAIR_WORDS)
 #define OBRISKA_PENDING_LEN (OBRISKA_STATIONS * OBRISKA_PENDING_BYTES)
 
 /* Bytes of a handle, and of all arrays together. */
@@ -154,29 +167,31 @@ OBRISKA_ASSERT_(sizeof(struct obriska_memory) == OBRISKA_MEMORY_BYTES, "the memo
 
 /* ---- refusals ------------------------------------------------------------------------------- */
 
-/* 1 to 10 are the status of an answer, its first byte after the length. 1 to 9 use up their
- * request and change no token, no handle and no number. 11 to 13 refuse a whole call, the lowest
- * that applies, and then nothing at all is written. */
+/* 1 to 10 and 14 are the status of an answer, its first byte after the length. 1 to 9 and 14 use up
+ * their request and change no token, no handle, no pair and no number; where several apply, it is the
+ * first of 1 to 7, 14, 8, 9. 11 to 13 refuse a whole call, the lowest that applies, and then nothing
+ * at all is written. */
 enum obriska_refusal {
     OBRISKA_REFUSED_LAYOUT = 1,     /* unknown request, not in its layout, or bytes left over */
     OBRISKA_REFUSED_HANDLE = 2,     /* not a live handle of this station */
     OBRISKA_REFUSED_RIGHT = 3,      /* the handle lacks the right */
     OBRISKA_REFUSED_PRIVILEGE = 4,  /* the privilege is not enabled on the station's token */
     OBRISKA_REFUSED_FIELD = 5,      /* a bad field or entry, an unknown class, installing a token that
-                                       is not primary, acting for one that is, or restricting a
+                                       is not primary, acting for one that is, restricting a
                                        restricted one to none of its SIDs, or to write-restricted
-                                       where it is not */
+                                       where it is not, or linking two that can be no pair */
     OBRISKA_REFUSED_PROTECTED = 6,  /* an entry names a mandatory, deny-only or logon group, or
                                        disables one with the user's SID */
     OBRISKA_REFUSED_MISMATCH = 7,   /* installing a token of another user or session; acting for an
                                        unrestricted one while restricted, unless Impersonate is held */
     OBRISKA_REFUSED_FULL = 8,       /* no free slot, no number left, or too many restricting SIDs for
-                                       an unrestricted token */
+                                       an unrestricted token; linking for a fifth session */
     OBRISKA_REFUSED_CAPACITY = 9,   /* the report is larger than the capacity; its size follows */
     OBRISKA_REFUSED_BROKEN = 10,    /* a bad length: the stream is broken until a reconnect */
     OBRISKA_REFUSED_STATION = 11,   /* there is no such station */
     OBRISKA_REFUSED_BUFFER = 12,    /* the answer buffer is shorter than OBRISKA_ANSWER_LEN */
-    OBRISKA_REFUSED_MEMORY = 13     /* the memory is not valid, or not of its sizes */
+    OBRISKA_REFUSED_MEMORY = 13,    /* the memory is not valid, or not of its sizes */
+    OBRISKA_REFUSED_NOT_LINKED = 14 /* the token is in no linked pair */
 };
 
 /* ---- answers -------------------------------------------------------------------------------- */
@@ -184,7 +199,8 @@ enum obriska_refusal {
 /* After the length and the status 0 an answer has its request's fields, as numbers of seven bits a
  * byte, low bits first, the top bit set on all bytes but the last:
  *
- *   1, 3, 9, 10  the number of the new handle;
+ *   1, 3, 9, 10, 17
+ *                the number of the new handle;
  *   4            the report of the class, in which a DACL's bytes are plain. Class 9 has number,
  *                session, modified number, type and root;
  *   5            two words of before the change, at the bits of the named privileges: which were
@@ -195,7 +211,8 @@ enum obriska_refusal {
  *   12           the level in force;
  *   13           the number of the token given up and the level that was in force, 0 and 0 if the
  *                station acted for none;
- *   2, 7, 8, 11  nothing. */
+ *   2, 7, 8, 11, 16
+ *                nothing. */
 
 /* ---- rights, token fields and attributes ----------------------------------------------------- */
 
@@ -216,6 +233,11 @@ enum obriska_refusal {
 #define OBRISKA_LEVEL_IMPERSONATION 2u
 #define OBRISKA_LEVEL_DELEGATION 3u
 
+/* Elevations of a token. */
+#define OBRISKA_ELEVATION_DEFAULT 1u
+#define OBRISKA_ELEVATION_FULL 2u
+#define OBRISKA_ELEVATION_LIMITED 3u
+
 /* Attributes of a group. */
 #define OBRISKA_GROUP_MANDATORY 0x01u
 #define OBRISKA_GROUP_ENABLED_BY_DEFAULT 0x02u
@@ -235,6 +257,13 @@ enum obriska_refusal {
  * restricted where the station's token is not; the other way round is refused by 7. It stays as
  * request 12 answered it. Privileges are held by the station's own token all the while. */
 #define OBRISKA_NO_CLIENT 0u
+
+/* Request 16 links an elevated and a filtered token, two primary ones of one user and of the session
+ * that it names. They become full and limited, for good, and are that session's pair, which keeps both
+ * alive until the next 16 for the session: there is no other way to unlink. So not every full or limited
+ * token is in a pair. Request 17 gives a handle on the other token of a pair: on the token itself, with
+ * all rights, where Tcb is held; else on a new copy of it for impersonation, at level Identification,
+ * with right QUERY and the elevation kept, which is in no pair. */
 
 /* ---- the calls ------------------------------------------------------------------------------ */
 

@@ -26,6 +26,7 @@ static const char *refusal_text(uint32_t refusal)
     case OBRISKA_REFUSED_STATION: return "no such station";
     case OBRISKA_REFUSED_BUFFER: return "the answer buffer is too short";
     case OBRISKA_REFUSED_MEMORY: return "the memory is not valid";
+    case OBRISKA_REFUSED_NOT_LINKED: return "the token is in no linked pair";
     default: return "unknown refusal";
     }
 }

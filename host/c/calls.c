@@ -45,8 +45,9 @@ enum { ARRAYS = 5 };
 static void the_memory_has_the_sizes_of_the_docs(void)
 {
     EXPECT(sizeof memory.tokens == 12928 && sizeof memory.dacls == 4096);
-    EXPECT(sizeof memory.handles == 512 && sizeof memory.control == 336);
-    EXPECT(sizeof memory.pending == 16400 && sizeof memory == 34272);
+    EXPECT(sizeof memory.handles == 512 && sizeof memory.control == 432);
+    EXPECT(sizeof memory.pending == 16400 && sizeof memory == 34368);
+    EXPECT(OBRISKA_FIRST_PAIR == 42 && OBRISKA_PAIR_WORDS == 3);
 }
 
 static void start_asks_for_the_sizes_only(void)
@@ -76,6 +77,8 @@ static void start_asks_for_the_sizes_only(void)
         EXPECT(*station_word(station, OBRISKA_STATION_CLIENT) == OBRISKA_NO_CLIENT);
         EXPECT(*station_word(station, OBRISKA_STATION_CLIENT_LEVEL) == 0);
     }
+    for (size_t word = OBRISKA_FIRST_PAIR; word < OBRISKA_CONTROL_LEN; word++)
+        EXPECT(m->control[word] == 0);
     EXPECT(m->handles[0].number == 0 && m->handles[OBRISKA_HANDLES - 1].mask == 0);
     EXPECT(m->dacls[0] == 0 && m->pending[OBRISKA_PENDING_LEN - 1] == 0);
 }
@@ -274,6 +277,81 @@ static void a_client_is_an_impersonation_token_at_its_own_level_at_most(void)
     }
 }
 
+static uint64_t *pair_word(size_t slot, enum obriska_pair_word word)
+{
+    return &memory.control[OBRISKA_FIRST_PAIR + slot * OBRISKA_PAIR_WORDS + word];
+}
+
+static int pair_is(size_t slot, uint64_t session, uint64_t elevated, uint64_t filtered)
+{
+    return *pair_word(slot, OBRISKA_PAIR_SESSION) == session &&
+           *pair_word(slot, OBRISKA_PAIR_ELEVATED) == elevated &&
+           *pair_word(slot, OBRISKA_PAIR_FILTERED) == filtered;
+}
+
+/* The elevation word of a token slot. */
+static uint64_t elevation(size_t slot)
+{
+    return memory.tokens[slot * OBRISKA_TOKEN_WORDS + OBRISKA_TOKEN_ELEVATION];
+}
+
+/* Station 0 links its handles 1, on token 2, and 2, on token 3, for session 5. */
+static void start_with_a_pair(void)
+{
+    static const uint8_t create[] = {0x07, 0x03, 0x12, 0x05, 0x00, 0x00, 0x00, 0x00};
+    static const uint8_t link[] = {0x04, 0x10, 0x01, 0x02, 0x05};
+    static const uint8_t done[] = {0x01, 0x00};
+    EXPECT(obriska_memory_start(&memory) == 0);
+    EXPECT(is(feed(0, create, sizeof create), 0, 8, 3));
+    EXPECT(is(feed(0, create, sizeof create), 0, 8, 3));
+    EXPECT(answers(link, sizeof link, done, sizeof done));
+}
+
+static void a_pair_keeps_its_tokens_alive_and_gives_the_other_one(void)
+{
+    static const uint8_t close_first[] = {0x02, 0x02, 0x01};
+    static const uint8_t linked[] = {0x02, 0x11, 0x02};
+    static const uint8_t handle_3[] = {0x02, 0x00, 0x03};
+    start_with_a_pair();
+    EXPECT(pair_is(0, 5, 2, 3) && pair_is(1, 0, 0, 0));
+    EXPECT(elevation(0) == OBRISKA_ELEVATION_DEFAULT && elevation(1) == OBRISKA_ELEVATION_FULL);
+    EXPECT(elevation(2) == OBRISKA_ELEVATION_LIMITED);
+    EXPECT(is(feed(0, close_first, sizeof close_first), 0, 3, 2));
+    EXPECT(memory.tokens[OBRISKA_TOKEN_WORDS + OBRISKA_TOKEN_NUMBER] == 2);
+    EXPECT(answers(linked, sizeof linked, handle_3, sizeof handle_3));
+    EXPECT(obriska_memory_find(&memory, 0, 3)->token == 2);
+    EXPECT(obriska_memory_find(&memory, 0, 3)->mask == OBRISKA_RIGHT_ALL);
+}
+
+static void a_token_in_no_pair_is_refused_by_14(void)
+{
+    static const uint8_t open_all[] = {0x03, 0x01, 0xEF, 0x03};
+    static const uint8_t linked[] = {0x02, 0x11, 0x01};
+    static const uint8_t refused[] = {0x01, OBRISKA_REFUSED_NOT_LINKED};
+    EXPECT(obriska_memory_start(&memory) == 0);
+    EXPECT(is(feed(0, open_all, sizeof open_all), 0, 4, 3));
+    before = memory;
+    EXPECT(answers(linked, sizeof linked, refused, sizeof refused) && unchanged());
+}
+
+static void a_pair_is_of_one_session_full_and_limited(void)
+{
+    static const struct {
+        uint64_t session, elevated, filtered;
+        int valid;
+    } slots[] = {{5, 2, 3, 1}, {0, 0, 0, 1}, {5, 3, 2, 0}, {6, 2, 3, 0}, {5, 2, 2, 0},
+                 {5, 1, 3, 0}, {5, 2, 4, 0}, {5, 0, 0, 0}, {0, 0, 3, 0}};
+    start_with_a_pair();
+    for (size_t i = 0; i < sizeof slots / sizeof slots[0]; i++) {
+        *pair_word(0, OBRISKA_PAIR_SESSION) = slots[i].session;
+        *pair_word(0, OBRISKA_PAIR_ELEVATED) = slots[i].elevated;
+        *pair_word(0, OBRISKA_PAIR_FILTERED) = slots[i].filtered;
+        before = memory;
+        EXPECT(is(feed(0, open_own, 0), slots[i].valid ? 0 : OBRISKA_REFUSED_MEMORY, 0, 0));
+        EXPECT(unchanged());
+    }
+}
+
 static void a_request_is_answered_at_its_last_byte(void)
 {
     const uint8_t *pending = &memory.pending[3 * OBRISKA_PENDING_BYTES];
@@ -337,6 +415,9 @@ int main(void)
     a_root_above_the_tokens_number_is_refused();
     a_station_acts_for_a_token_and_keeps_it_alive();
     a_client_is_an_impersonation_token_at_its_own_level_at_most();
+    a_pair_keeps_its_tokens_alive_and_gives_the_other_one();
+    a_token_in_no_pair_is_refused_by_14();
+    a_pair_is_of_one_session_full_and_limited();
     a_request_is_answered_at_its_last_byte();
     a_broken_stream_ignores_bytes_until_a_reconnect();
     find_gives_the_stations_live_handle();

@@ -6,7 +6,7 @@ use mathlib.Core.Bool.{Bool, true}
 use mathlib.Core.List.{List}
 use lib.ListN.{getD, drop}
 use Rattle.rules.specs.Number.{readNumber, max16, max32, max64}
-use Rattle.rules.specs.Request.{create, query, scope, defaults, duplicate, restrict, u16, u32, u64, byte, times, group, entry, numberLayout, entriesLayout, createLayout, queryLayout, scopeLayout, defaultsLayout, duplicateLayout, restrictLayout, layouts, unknown, parse}
+use Rattle.rules.specs.Request.{create, query, scope, defaults, duplicate, restrict, link, u16, u32, u64, byte, times, group, entry, numberLayout, entriesLayout, createLayout, queryLayout, scopeLayout, defaultsLayout, duplicateLayout, restrictLayout, linkLayout, layouts, unknown, parse}
 use Rattle.number.specs.Rest.{readFrom, isEnd}
 use Rattle.number.specs.Meaning.{restOf, FieldAfter, Onward}
 use Rattle.number.specs.declared.cursor.Cursor.{Cursor}
@@ -43,6 +43,11 @@ module _ (s : List ℕ) (c : Cursor) (ok : Bool) where
             λ request.
             list-ends entry (b .value) (pairs-onward (λ k v. record { key = k; value = v }) (b .value) o) (request (a .value)) e (field _ p then field _ q);
       }
+
+      pub link-read : (d : Field) → FieldAfter s (b .next) max64 d → ok ≡ isEnd (restOf s (d .next))
+          → whole ok (link (a .value) (b .value) (d .value)) ≡ readFrom linkLayout (restOf s c)
+      unfolding linkLayout u32 u64
+      link-read d t e = ends _ e (field _ p then field _ q then field _ t)
 
       module _ (d : Field) (t : FieldAfter s (b .next) max32 d) where
         pub query-read : ok ≡ isEnd (restOf s (d .next)) → whole ok (query (a .value) (b .value) (d .value)) ≡ readFrom queryLayout (restOf s c)

@@ -26,7 +26,7 @@ pub record Begun (s : List ℕ) (r : Field) : Type 0 where
 pub record NothingRead (s : List ℕ) (c : Cursor) (ok : Bool) : Type 0 where
   pub parsed : (request : Request) → whole ok request ≡ readFrom (end request) (restOf s c)
 
--- requests 1, 2, 11 and 12
+-- requests 1, 2, 11, 12 and 17
 pub record NumberRead (s : List ℕ) (c : Cursor) (ok : Bool) (value : ℕ) : Type 0 where
   pub parsed : (request : ℕ → Request) → whole ok (request value) ≡ readFrom (numberLayout request) (restOf s c)
 

@@ -1,6 +1,6 @@
 // What a body says, by the layout of its request: ok if it was whole, and its fields.
 
-// Requests 1, 2, 11 and 12: a mask or a handle.
+// Requests 1, 2, 11, 12 and 17: a mask or a handle.
 pub struct One {
     pub ok: bool,
     pub value: u32,
@@ -28,6 +28,14 @@ pub struct DuplicateFields {
     pub kind: u32,
     pub level: u32,
     pub mask: u32,
+}
+
+// Request 16.
+pub struct LinkFields {
+    pub ok: bool,
+    pub elevated: u32,
+    pub filtered: u32,
+    pub session: u64,
 }
 
 // Requests 5 and 6: count entries from a place on.

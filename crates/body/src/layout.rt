@@ -1,7 +1,7 @@
-// The layouts of the thirteen requests. A body is read whole before anything else is judged: numbers by value, lists by skipping them.
+// The layouts of the fifteen requests. A body is read whole before anything else is judged: numbers by value, lists by skipping them.
 ghost use mathlib.Core.Path.{_≡_};
 ghost use Rattle.rules.specs.Request as rules;
-ghost use Rattle.rules.specs.Request.{group, byte, createLayout, queryLayout, scopeLayout, defaultsLayout, duplicateLayout};
+ghost use Rattle.rules.specs.Request.{group, byte, createLayout, queryLayout, scopeLayout, defaultsLayout, duplicateLayout, linkLayout};
 ghost use Rattle.number.specs.Rest.{readFrom};
 ghost use Rattle.number.specs.Meaning.{restOf};
 ghost use Rattle.body.specs.Layout.{whole, Begun, NothingRead, NumberRead, valuesAt, Listed, EntriesRead, RestrictRead};
@@ -9,6 +9,7 @@ use crate::fields::CreateFields;
 use crate::fields::DefaultsFields;
 use crate::fields::DuplicateFields;
 use crate::fields::EntriesFields;
+use crate::fields::LinkFields;
 use crate::fields::One;
 use crate::fields::QueryFields;
 use crate::fields::RestrictFields;
@@ -96,6 +97,20 @@ pub fn duplicate(s: &[u8], c: Cursor) -> DuplicateFields
         kind: kind.value as u32,
         level: level.value as u32,
         mask: mask.value as u32,
+    }
+}
+
+pub fn link(s: &[u8], c: Cursor) -> LinkFields
+    ensures { λ r. ⌜ whole (r .ok) (rules.link (r .elevated) (r .filtered) (r .session)) ≡ readFrom linkLayout (restOf (now (s .entry)) c) ⌝ }
+{
+    let elevated = c.number(s, U32);
+    let filtered = elevated.next.number(s, U32);
+    let session = filtered.next.number(s, U64);
+    LinkFields {
+        ok: session.next.ended(s),
+        elevated: elevated.value as u32,
+        filtered: filtered.value as u32,
+        session: session.value,
     }
 }
 

@@ -9,7 +9,7 @@ use Rattle.rules.specs.Basic.{changeAt}
 use Rattle.rules.specs.Number.{Read, got, bad}
 use Rattle.rules.specs.Token.{Token}
 use Rattle.rules.specs.Station.{Station, withToken, withClient}
-use Rattle.rules.specs.State.{State, withTokens, withHandles, withStations, changeStation, setToken, setClient, putToken, changeToken, used, addToken, addHandle, dropHandle, released}
+use Rattle.rules.specs.State.{State, withTokens, withHandles, withStations, changeStation, setToken, setClient, putToken, changeToken, used, addToken, addHandle, dropHandle, withPairs, setPair, held, released}
 use Rattle.rules.specs.Memory.{pendingBytes, pendingRow}
 use Rattle.rules.specs.Decision.{Decision, need_else_then_, success, carriedOut, withHandle, issued}
 use Rattle.rules.specs.Request as Request
@@ -26,6 +26,9 @@ use Rattle.rules.specs.Duplicate as Duplicate
 use Rattle.rules.specs.Restrict as Restrict
 use Rattle.rules.specs.Install as Install
 use Rattle.rules.specs.Impersonate as Impersonate
+use Rattle.rules.specs.Link as Link
+use Rattle.rules.specs.Privileges.{tcb}
+use Rattle.rules.proofs.Tables.{on-if}
 use Rattle.rules.proofs.Steps.{install-marked, client-marked}
 
 abbrev rows : State → List ℕ
@@ -54,7 +57,7 @@ Keeps σ (need_else_then_ b r rest) = Keeps σ rest
 Keeps σ (success τ bytes) = rows τ ≡ rows σ
 
 by-rule : (σ : State) (s : ℕ) (r : Request) → Keeps σ (rule σ s r)
-unfolding Keeps rule withHandle issued OpenClose.openOwn OpenClose.close Create.create Query.query AdjustPrivileges.adjust AdjustGroups.adjust AdjustScope.scope AdjustDefaults.adjust Duplicate.duplicate Restrict.restrict Install.install Impersonate.impersonate Impersonate.revert withTokens withHandles withStations changeStation setToken setClient withToken withClient putToken changeToken used addToken addHandle dropHandle released
+unfolding Keeps rule withHandle issued OpenClose.openOwn OpenClose.close Create.create Query.query AdjustPrivileges.adjust AdjustGroups.adjust AdjustScope.scope AdjustDefaults.adjust Duplicate.duplicate Restrict.restrict Install.install Impersonate.impersonate Impersonate.revert Link.withBoth Link.linked Link.link Link.getLinked withPairs setPair withTokens withHandles withStations changeStation setToken setClient withToken withClient putToken changeToken used addToken addHandle dropHandle released
 by-rule σ s (Request.openOwn mask) = refl
 by-rule σ s (Request.close n) = refl
 by-rule σ s (Request.create user session integrity present byDefault gs) = refl
@@ -68,6 +71,8 @@ by-rule σ s (Request.restrict n mark removed deny sids) = refl
 by-rule σ s (Request.install n) = same-pending (withToken _) (λ x. refl) s _ ∙ ap (flat pendingRow) (install-stations σ s _)
 by-rule σ s (Request.impersonate n) = same-pending (withClient _) (λ x. refl) s _ ∙ ap (flat pendingRow) (client-stations σ s _)
 by-rule σ s Request.revert = same-pending (withClient _) (λ x. refl) s _
+by-rule σ s (Request.link n m session) = refl
+by-rule σ s (Request.linked n) = on-if (Keeps σ) (held σ s tcb) _ _ (λ t. refl) (λ t. refl)
 
 by-read : (σ : State) (s : ℕ) (r : Read Request) → Keeps σ (decided σ s r)
 unfolding decided Keeps

@@ -9,7 +9,7 @@ use Rattle.table.specs.Table.{flat}
 use Rattle.rules.specs.Basic.{changeAt}
 use Rattle.rules.specs.Station.{noClient, startStation, withToken}
 use Rattle.rules.specs.State.{State, start, stationCount, withStations, changeStation, setToken}
-use Rattle.rules.specs.Memory.{tokenCounter, handleCounter, controlWords, mark, stationRow, sections}
+use Rattle.rules.specs.Memory.{tokenCounter, handleCounter, controlWords, mark, stationRow, slotPair, sections}
 use Rattle.control.specs.Control.{ControlIn}
 use Rattle.control.specs.Stations.{TokenSet}
 use Rattle.control.proofs.Sections.{control-same}
@@ -25,7 +25,7 @@ pub record Begun (ws : List ℕ) (i : ℕ) : Type 0 where
   pub held : ControlIn (begun i) ws
 
 pub begun-none : {ws zs : List ℕ} → zs ≡ replicate controlWords 0 → ws ≡ set (set zs tokenCounter 2) handleCounter 1 → Begun ws 0
-unfolding begun start withStations sections flat stationRow withToken startStation noClient mark
+unfolding begun start withStations sections flat stationRow slotPair withToken startStation noClient mark
 begun-none z e = record { within = omega arith; long = rw (e, z); held = record { words = record { words = rw (e, z); fixed = refl } } }
 
 pub begun-more : {ws ws′ : List ℕ} {i : ℕ} → Begun ws i → i < stationCount → length ws′ ≡ length ws → TokenSet i 1 ws ws′ → Begun ws′ (i + 1)

@@ -1,4 +1,6 @@
 pub mod Sections
+pub mod SectionRows
 pub mod StationRows
+pub mod PairRows
 pub mod Referring
 pub mod Beginning

@@ -1,19 +1,26 @@
--- The loop that asks whether some station's row has a number in a word, and whether some station refers to a token. Assumes nothing.
+-- The loop that asks whether some station's row has a number in a word, and whether some station or some pair refers to a token. Assumes nothing.
 use Prim.Native.Nat.{ℕ, zero, suc, _+_, _≤_, _<_}
 use native.Mathlib.Omega.{arith}
 use mathlib.Core.Path.{_≡_, refl, sym, ap, ap₂, _∙_}
-use mathlib.Core.Bool.{Bool, false, not, _&&_, _||_}
-use mathlib.Core.List.{List, [], _∷_, map}
-use lib.Dec.{eqb}
+use mathlib.Core.Bool.{Bool, true, false, not, _&&_, _||_, or-true}
+use mathlib.Core.List.{List, [], _∷_, _++_, map, append-assoc}
+use lib.Dec.{eqb, ltb, leb·suc-suc}
 use lib.ListN.{length, getD, length-map}
-use Rattle.rules.specs.Basic.{member, nonZero}
+use borrow.Author.Tests.{eqb-true, eqb-false, eq-eqb, ne-eqb, lt-ltb}
+use Rattle.table.specs.Rows.{length-rows}
+use Rattle.rules.specs.Basic.{if_then_else_, member, nonZero}
+use Rattle.rules.specs.Table.{Slot, free, live, lives}
+use Rattle.rules.specs.Pair.{Pair, has}
+use Rattle.rules.specs.Index.{foundIndex}
 use Rattle.rules.specs.Station.{Station, startStation}
-use Rattle.rules.specs.State.{State, stationCount, stationAt, stationToken, clientToken}
-use Rattle.rules.specs.Memory.{primaryWord, clientWord, stationRow}
+use Rattle.rules.specs.State.{State, stationCount, pairSlots, stationAt, stationToken, clientToken, elevatedToken, filteredToken}
+use Rattle.rules.specs.Memory.{primaryWord, clientWord, pairWords, stationRow, pairsIn, pairAt}
 use Rattle.rules.proofs.Logic.{member-append, member-filter}
 use Rattle.handle.proofs.Rest.{Gathering, gather-more, gather-done}
 use Rattle.control.specs.Control.{ControlIn}
 use Rattle.control.specs.Stations.{WordGiven, column, StationsHave, StationsRefer}
+use Rattle.control.specs.Pairs.{pairsOf, PairFound, PairsRefer}
+use Rattle.control.specs.References.{Refer}
 use Rattle.control.proofs.StationRows.{station-count}
 
 module _ (n k : ℕ) where
@@ -55,4 +62,48 @@ refers token p c = record {
   refer = λ σ i.
       ap₂ (λ a b. a || (not (eqb token 0) && b)) (p .have σ i) (c .have σ i)
       ∙ sym (member-append token (map stationToken (σ .stations)) _ ∙ ap (λ b. member token (map stationToken (σ .stations)) || b) (member-filter _ token (map clientToken (σ .stations))));
+}
+
+-- ---- the pairs
+
+same-test : (a b : ℕ) → eqb a b ≡ eqb b a
+same-test a b = by (eqb b a) refl
+  where
+    by : (t : Bool) → eqb b a ≡ t → eqb a b ≡ t
+    by true e = eq-eqb a b (sym (eqb-true b a e))
+    by false e = ne-eqb a b (λ q. eqb-false b a e (sym q))
+
+-- a pair that has the token is below the length
+refer-below : (token : ℕ) (ps : List (Slot Pair)) → ltb (foundIndex (has token) ps) (length ps) ≡ (member token (map elevatedToken (lives ps)) || member token (map filteredToken (lives ps)))
+unfolding foundIndex has lives member elevatedToken filteredToken
+refer-below token [] = refl
+refer-below token (free ∷ ps) = leb·suc-suc (suc (foundIndex (has token) ps)) (length ps) ∙ refer-below token ps
+refer-below token (live p ∷ ps) =
+    rw (same-test token (p .elevated), same-test token (p .filtered)) (by (eqb (p .elevated) token) (eqb (p .filtered) token) _ _ (refer-below token ps))
+  where
+    by : (a b e f : Bool) → ltb (foundIndex (has token) ps) (length ps) ≡ (e || f)
+        → ltb (if a || b then zero else suc (foundIndex (has token) ps)) (suc (length ps)) ≡ (a || e || (b || f))
+    by true b e f q = lt-ltb zero (suc (length ps)) (omega arith)
+    by false true e f q = lt-ltb zero (suc (length ps)) (omega arith) ∙ sym (or-true e)
+    by false false e f q = leb·suc-suc (suc (foundIndex (has token) ps)) (length ps) ∙ q
+
+pub pairs-refer : (token : ℕ) {ws : List ℕ} {r : ℕ} → PairFound (has token) ws r → PairsRefer token ws (ltb r pairSlots)
+pairs-refer token {ws} f =
+    let ps = pairsOf ws in
+    record {
+      refer =
+          ap₂ ltb (f .index) (sym (length-rows pairAt pairWords 0 pairSlots (pairsIn ws) [])) ∙ refer-below token ps
+          ∙ sym (member-append token (map elevatedToken (lives ps)) (map filteredToken (lives ps)));
+    }
+
+-- ---- both
+
+pub refer : (token : ℕ) {ws : List ℕ} {s p : Bool} → StationsRefer token ws s → PairsRefer token ws p → Refer token ws (s || p)
+refer token f g = record {
+  refer = λ σ i e.
+      let stations = map stationToken (σ .stations) ++ nonZero (map clientToken (σ .stations)) in
+      let elevated = map elevatedToken (lives (σ .pairs)) in
+      let filtered = map filteredToken (lives (σ .pairs)) in
+      ap₂ _||_ (f .refer σ i) (g .refer ∙ ap (λ ps. member token (map elevatedToken (lives ps) ++ map filteredToken (lives ps))) e)
+      ∙ sym (ap (member token) (append-assoc stations elevated filtered) ∙ member-append token stations (elevated ++ filtered));
 }

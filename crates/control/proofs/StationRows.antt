@@ -6,9 +6,9 @@ use mathlib.Core.Bool.{Bool, true, false}
 use mathlib.Core.List.{List}
 use mir.Val.{boolByte}
 use lib.Dec.{eqb}
-use lib.ListN.{length, getD, set, length-set}
-use Rattle.table.specs.Table.{flat, put-record, length-flat, record-element, put-element, record-flat, put-back}
-use Rattle.table.specs.Sections.{Sectioned, section-long, section-word, section-set}
+use lib.ListN.{length, getD, set}
+use Rattle.table.specs.Table.{flat, length-flat, record-element, record-flat}
+use Rattle.table.specs.Sections.{section-long, section-word}
 use Rattle.rules.specs.Station.{Station, startStation, withToken, withClient}
 use Rattle.rules.specs.State.{State, stationCount, withStations, stationAt, changeStation, setToken, clientAt, setClient, callerNumber}
 use Rattle.rules.specs.Memory.{stationWords, primaryWord, countWord, brokenWord, clientWord, levelWord, stationSection, controlSizes, stationWordAt, mark, stationRow, sections}
@@ -16,6 +16,7 @@ use Rattle.rules.proofs.Rows.{length-stationRow}
 use Rattle.rules.proofs.Control.{row-put}
 use Rattle.control.specs.Control.{ControlIn}
 use Rattle.control.specs.Stations.{WordGiven, CallerNumber, TokenSet, ClientGiven, ClientSet, StreamGiven, StreamSet}
+use Rattle.control.proofs.SectionRows.{RowIn, own-row, row-stored}
 
 -- ---- reading
 
@@ -61,49 +62,34 @@ pub stored-at : (ws : List ℕ) (v : ℕ) {at k : ℕ} → at ≡ k → set ws a
 stored-at ws v e = ap (λ (j : ℕ). set ws j v) e
 
 -- the words of a state, with another row for station s
-record RowIn (σ : State) (s : ℕ) (row ws : List ℕ) : Type 0 where
-  words : Sectioned controlSizes (set (sections σ) stationSection (put-record stationWords s row (flat stationRow (σ .stations)))) ws
-  long : length row ≡ stationWords
-  count : length (σ .stations) ≡ stationCount
+abbrev RowOf : State → ℕ → List ℕ → List ℕ → Type 0
+RowOf σ s row ws = RowIn stationRow stationWords controlSizes (sections σ) stationSection (σ .stations) s row ws
 
 module _ (s : ℕ) (h : s < stationCount) where
-  own-row : {ws : List ℕ} (σ : State) → ControlIn σ ws → RowIn σ s (stationRow (stationAt σ s)) ws
+  own : {ws : List ℕ} (σ : State) → ControlIn σ ws → RowOf σ s (stationRow (stationAt σ s)) ws
   unfolding sections stationAt
-  own-row {ws} σ i =
+  own {ws} σ i =
       let n = station-count σ i in
-      record {
-        words = rw (put-back stationRow stationWords length-stationRow s (σ .stations) startStation (omega arith)) (i .words);
-        long = length-stationRow (getD (σ .stations) s startStation);
-        count = n;
-      }
+      own-row stationRow stationWords length-stationRow stationSection (σ .stations) s startStation (i .words) refl (omega arith) (omega arith)
+      (omega (arith, length-flat stationRow stationWords length-stationRow (σ .stations))) (omega arith)
 
-  row-stored : {σ : State} {row ws : List ℕ} (k v : ℕ) → k < stationWords → RowIn σ s row ws → RowIn σ s (set row k v) (set ws (stationWordAt s k) v)
-  unfolding sections
-  row-stored {σ} {row} k v l r = record {
-    words =
-        rw (put-element stationWords s k row (flat stationRow (σ .stations)) v (omega (arith, r .count, length-flat stationRow stationWords length-stationRow (σ .stations))) (omega (arith, r .long)))
-        at (section-set (r .words) stationSection (s * stationWords + k) v (omega arith));
-    long = length-set row k v ∙ r .long;
-    count = r .count;
-  }
-
-  row-changed : {row ws : List ℕ} (σ : State) (f : Station → Station) → row ≡ stationRow (f (stationAt σ s)) → RowIn σ s row ws → ControlIn (changeStation s f σ) ws
+  row-changed : {row ws : List ℕ} (σ : State) (f : Station → Station) → row ≡ stationRow (f (stationAt σ s)) → RowOf σ s row ws → ControlIn (changeStation s f σ) ws
   unfolding sections changeStation withStations
   row-changed σ f e r = record {
-    words = rw (e, row-put stationRow stationWords length-stationRow σ s f (omega (arith, r .count))) at (r .words);
+    words = rw (e, row-put stationRow stationWords length-stationRow σ s f (r .among)) at (r .words);
   }
 
   pub token-set : (n : ℕ) {ws ws′ : List ℕ} → ws′ ≡ set ws (stationWordAt s primaryWord) n → TokenSet s n ws ws′
   unfolding setToken stationRow withToken
   token-set n {ws} e = record {
-    control = λ σ i. rw e (row-changed σ (withToken n) refl (row-stored primaryWord n (omega arith) (own-row σ i)));
+    control = λ σ i. rw e (row-changed σ (withToken n) refl (row-stored primaryWord n (omega arith) (own σ i)));
   }
 
   pub client-set : (t l : ℕ) {ws ws₁ ws₂ : List ℕ} → ws₁ ≡ set ws (stationWordAt s clientWord) t → ws₂ ≡ set ws₁ (stationWordAt s levelWord) l → ClientSet s t l ws ws₂
   unfolding setClient stationRow withClient
   client-set t l d e = record {
     control = λ σ i.
-        rw (e, d) (row-changed σ (withClient (record { token = t; level = l })) refl (row-stored levelWord l (omega arith) (row-stored clientWord t (omega arith) (own-row σ i))));
+        rw (e, d) (row-changed σ (withClient (record { token = t; level = l })) refl (row-stored levelWord l (omega arith) (row-stored clientWord t (omega arith) (own σ i))));
   }
 
   byte-mark : (b : Bool) → boolByte b ≡ mark b
@@ -115,5 +101,5 @@ module _ (s : ℕ) (h : s < stationCount) where
       → StreamSet s n b ws ws₂
   stream-set n b d e = record {
     control = λ σ f q i.
-        rw (e, d, byte-mark b) (row-changed σ f (sym (q (stationAt σ s))) (row-stored brokenWord (mark b) (omega arith) (row-stored countWord n (omega arith) (own-row σ i))));
+        rw (e, d, byte-mark b) (row-changed σ f (sym (q (stationAt σ s))) (row-stored brokenWord (mark b) (omega arith) (row-stored countWord n (omega arith) (own σ i))));
   }

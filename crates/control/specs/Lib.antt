@@ -1,3 +1,5 @@
 pub mod Control
 pub mod Counters
 pub mod Stations
+pub mod Pairs
+pub mod References

@@ -22,12 +22,27 @@ pub const LEVEL_WORD: usize = 4;
 
 pub const STATION_WORDS: usize = 5;
 
+// A linked pair's row: its session, its elevated token and its filtered one. A free place is zero.
+pub const PAIRS: usize = 4;
+
+pub const SESSION_WORD: usize = 0;
+
+pub const ELEVATED_WORD: usize = 1;
+
+pub const FILTERED_WORD: usize = 2;
+
+pub const PAIR_WORDS: usize = 3;
+
 // Where the sections begin and end.
 pub const STATIONS_AT: usize = COUNTER_WORDS;
 
 pub const STATIONS_END: usize = STATIONS_AT + STATIONS * STATION_WORDS;
 
-pub const CONTROL_WORDS: usize = STATIONS_END;
+pub const PAIRS_AT: usize = STATIONS_END;
+
+pub const PAIRS_END: usize = PAIRS_AT + PAIRS * PAIR_WORDS;
+
+pub const CONTROL_WORDS: usize = PAIRS_END;
 
 // The largest numbers of their types, which are given to no token and to no handle.
 pub const MAX_TOKEN: u64 = 0xFFFF_FFFF_FFFF_FFFF;

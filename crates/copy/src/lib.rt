@@ -4,4 +4,4 @@ pub mod duplicate;
 pub mod restrict;
 mod restricted_row;
 mod restricting;
-mod rows;
+pub mod rows;

@@ -1,4 +1,4 @@
-// Requests 9 and 10: the rows that a copy of a token is made in.
+// Requests 9, 10 and 17: the rows that a copy of a token is made in.
 ghost use mathlib.Core.Path.{_≡_};
 ghost use Prim.Native.Nat.{_*_, _<_};
 ghost use lib.ListN.{length};

@@ -8,7 +8,8 @@ use lib.ListN.{length, length-map}
 use lib.Seq.{set-out}
 use borrow.Author.Tests.{not-true, not-false}
 use Rattle.rules.specs.Refusal.{Refusal, refusal}
-use Rattle.rules.specs.State.{State, handleSlots, used}
+use Rattle.rules.specs.Token.{Token}
+use Rattle.rules.specs.State.{State, handleSlots, putToken, changeToken, used}
 use Rattle.rules.specs.Valid.{valid}
 use Rattle.rules.specs.Decision.{Decision, need_else_then_, carriedOut}
 use Rattle.rules.specs.Memory.{slotHandle}
@@ -16,10 +17,10 @@ use Rattle.rules.proofs.Facts.{valid-facts}
 use Rattle.handle.specs.Meaning.{handleOf}
 use Rattle.handle.specs.declared.Handle.{Handle}
 use Rattle.state.specs.Parts.{HandlesIn}
-use Rattle.state.specs.TokenCalls.{Used}
+use Rattle.state.specs.TokenCalls.{WordsChanged, Used}
 use Rattle.state.specs.HandleFacts.{changed}
 use Rattle.state.specs.ReleaseFacts.{PartsIn}
-use Rattle.state.proofs.TokenFrames.{used-control, used-handles}
+use Rattle.state.proofs.TokenFrames.{with-slots, with-tokens, used-control, used-handles}
 use Rattle.answer.specs.declared.Answer.{Answer}
 use Rattle.answer.specs.declared.Answer.the-variants as answers
 use Rattle.answer.specs.Answer.{answerOf, Fit}
@@ -74,6 +75,12 @@ pub used-parts : {n s : ℕ} {hs : List Handle} {cs ts ds ts′ : List ℕ} (σ 
     → PartsIn (used n s σ) ts′ ds hs cs
 used-parts {n} {s} σ v u p =
     record { handles = used-handles (p .handles) n s; control = used-control (p .control) n s; tokens = u .tokens σ v (p .tokens) (p .control) }
+
+-- a token is changed in its row
+pub changed-parts : {n : ℕ} {f : Token → Token} {hs : List Handle} {cs ts ds ts′ : List ℕ} (σ : State) → valid σ ≡ true → WordsChanged n f ts ts′ → PartsIn σ ts ds hs cs
+    → PartsIn (changeToken n f σ) ts′ ds hs cs
+unfolding changeToken putToken
+changed-parts σ v c p = record { handles = with-tokens (p .handles) _; control = with-slots (p .control) _; tokens = c .tokens σ v (p .tokens) }
 
 -- another decision that comes to the same
 pub carried-as : {x y : State → Decision} {hs : List Handle} {cs ts ds cs′ ts′ ds′ : List ℕ} {r : Outcome}

@@ -32,7 +32,7 @@ use Rattle.decide.proofs.Deciding.{refuses}
 
 -- ---- the handle that was found
 
-refusal-small : (known permitted : Bool) → refusalNumber known permitted < 128
+pub refusal-small : (known permitted : Bool) → refusalNumber known permitted < 128
 refusal-small true true = omega arith
 refusal-small true false = omega arith
 refusal-small false permitted = omega arith
@@ -66,20 +66,20 @@ abbrev decide : (σ : State) (known permitted : Bool) (rest : Decision) → Serv
 decide σ known permitted rest =
     carriedOut σ (need known else notALiveHandle then need permitted else rightMissing then rest)
 
-refused : (σ : State) (known permitted : Bool) (rest : Decision) → (refusalNumber known permitted ≡ 0 → ⊥)
+pub refused : (σ : State) (known permitted : Bool) (rest : Decision) → (refusalNumber known permitted ≡ 0 → ⊥)
     → decide σ known permitted rest ≡ record { state = σ; answer = refusalNumber known permitted ∷ [] }
 unfolding carriedOut refusal
 refused σ true true rest f = absurd (f refl)
 refused σ true false rest f = refl
 refused σ false permitted rest f = refl
 
-passed : (σ : State) (known permitted : Bool) (rest : Decision) → refusalNumber known permitted ≡ 0 → decide σ known permitted rest ≡ carriedOut σ rest
+pub passed : (σ : State) (known permitted : Bool) (rest : Decision) → refusalNumber known permitted ≡ 0 → decide σ known permitted rest ≡ carriedOut σ rest
 unfolding carriedOut
 passed σ true true rest e = refl
 passed σ true false rest e = absurd (omega arith)
 passed σ false permitted rest e = absurd (omega arith)
 
-is-known : (known permitted : Bool) → refusalNumber known permitted ≡ 0 → known ≡ true
+pub is-known : (known permitted : Bool) → refusalNumber known permitted ≡ 0 → known ≡ true
 is-known true permitted e = refl
 is-known false permitted e = absurd (omega arith)
 

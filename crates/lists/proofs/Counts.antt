@@ -10,8 +10,9 @@ use lib.ListN.{length}
 use Rattle.rules.specs.Basic.{if_then_else_, all, member, distinct}
 use Rattle.rules.specs.Growth.{Mem, here, there}
 use Rattle.rules.proofs.Logic.{and-l, and-r, not-i, all-mem, mem-all, member-mem, distinct-head, distinct-tail, distinct-cons}
-use Rattle.lists.specs.Tests.{one, count, tally}
+use Rattle.lists.specs.Tests.{one, count, isOnce, tally}
 use Rattle.lists.proofs.Truth.{same-truth, eqb-flip}
+use Rattle.lists.proofs.Loops.{Tested, tested-done}
 
 one-same : (x y : ℕ) → x ≡ y → one x y ≡ 1
 one-same x y e = rw (eq-eqb x y e)
@@ -55,6 +56,10 @@ is-once (y ∷ s) h {x} (there m) =
 
 pub distinct-count : (s : List ℕ) → all (λ x. eqb (count x s) 1) s ≡ distinct s
 distinct-count s = same-truth _ _ (once s) (λ h. mem-all _ s (λ x m. eq-eqb (count x s) 1 (is-once s h m)))
+
+-- after a loop over all of them
+pub distinct-done : {s : List ℕ} {ok : Bool} {i : ℕ} → Tested (isOnce s) 0 s ok i → length s ≤ i → ok ≡ distinct s
+distinct-done {s} t h = tested-done (isOnce s) 0 s t h ∙ distinct-count s
 
 -- ---- counted from the other side
 

@@ -5,7 +5,7 @@ use mathlib.Core.List.{List, [], _∷_}
 use lib.Dec.{eqb, leb, ltb}
 use lib.ListN.{length}
 use Rattle.rules.specs.Basic.{if_then_else_, all}
-use Rattle.rules.specs.State.{handleSlots, stationCount}
+use Rattle.rules.specs.State.{handleSlots, stationCount, pairSlots}
 use Rattle.rules.specs.Memory.{word32}
 
 abbrev pub isZero : ℕ → Bool
@@ -16,13 +16,16 @@ isNarrow w = ltb w word32
 
 -- ---- how often numbers stand in lists
 
--- the references of handles and stations: each station has two
+-- the references of handles, stations and linked pairs: each station has two, and so has each pair
 
 abbrev pub stationReferences : ℕ
 stationReferences = stationCount + stationCount
 
+abbrev pub pairReferences : ℕ
+pairReferences = pairSlots + pairSlots
+
 abbrev pub referenceSlots : ℕ
-referenceSlots = handleSlots + stationReferences
+referenceSlots = handleSlots + pairReferences + stationReferences
 
 abbrev pub one : ℕ → ℕ → ℕ
 one x y = if eqb x y then 1 else 0
@@ -36,6 +39,9 @@ count x (y ∷ ys) = one x y + count x ys
 unfoldable pub tally : List ℕ → List ℕ → ℕ
 tally [] ys = 0
 tally (x ∷ xs) ys = count x ys + tally xs ys
+
+abbrev pub isOnce : List ℕ → ℕ → Bool
+isOnce xs x = eqb (count x xs) 1
 
 -- below the next, and once in the list
 abbrev pub isGiven : ℕ → List ℕ → ℕ → Bool

@@ -3,9 +3,9 @@
 ghost use mathlib.Core.Path.{_≡_};
 ghost use Prim.Native.Nat.{_≤_};
 ghost use lib.ListN.{length};
-ghost use Rattle.rules.specs.Basic.{all};
+ghost use Rattle.rules.specs.Basic.{all, distinct};
 ghost use Rattle.rules.specs.State.{tokenSlots, handleSlots};
-ghost use Rattle.lists.specs.Tests.{one, count, isGiven, isApart, referenceSlots, refsTest};
+ghost use Rattle.lists.specs.Tests.{one, count, isOnce, isGiven, isApart, referenceSlots, refsTest};
 
 fn same(x: u64, y: u64) -> u64
     ensures { λ r. ⌜ (r ≡ one x y) × (r ≤ 1) ⌝ }
@@ -78,6 +78,25 @@ pub fn all_given_32(s: &[u32], next: u64) -> bool
     let mut i: usize = 0;
     while i < s.len() {
         ok = ok & is_given_32(s[i], next, s);
+        i += 1;
+    }
+    ok
+}
+
+fn is_once(x: u64, s: &[u64]) -> bool
+    ensures { λ r. ⌜ r ≡ isOnce (now (s .entry)) x ⌝ }
+{
+    count_of(x, s) == 1
+}
+
+// No number stands twice.
+pub fn all_once(s: &[u64]) -> bool
+    ensures { λ r. ⌜ r ≡ distinct (now (s .entry)) ⌝ }
+{
+    let mut ok = true;
+    let mut i: usize = 0;
+    while i < s.len() {
+        ok = ok & is_once(s[i], s);
         i += 1;
     }
     ok

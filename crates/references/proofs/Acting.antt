@@ -1,6 +1,6 @@
 -- The tokens that stations act for: the references with a stand-in where there is none, and the tokens' rows that are tested for a station. Assumes nothing.
 use mathlib.Core.Path.{_≡_, refl, sym, ap, ap₂, _∙_}
-use mathlib.Core.Bool.{Bool, true, false, not, _&&_, _||_, and-assoc}
+use mathlib.Core.Bool.{Bool, true, false, not, _&&_, _||_, and-assoc, and-comm}
 use mathlib.Core.List.{List, [], _∷_, _++_, map}
 use Prim.Native.Nat.{ℕ, zero, suc, _%_}
 use borrow.Author.Tests.{eq-eqb, ne-eqb, eqb-true}
@@ -53,16 +53,31 @@ module _ (p : ℕ → Bool) where
       by true ih = again (p t) ts cs (all p ns) ih
       by false ih = and-swap (p t) ts (p c) cs ∙ ap (λ b. (p t && p c) && b) ih ∙ sym (and-swap (p t) ts (p c) (all p ns))
 
-  pub all-references : (hs : List ℕ) (n : ℕ) (ws bs : List ℕ)
-      → all p (hs ++ columnBy tokenIn stationWords n ws ++ columnBy clientIn stationWords n ws)
-      ≡ all p (hs ++ columnBy tokenIn stationWords n ws ++ nonZero (map clientToken (readRows stationAt stationWords pendingBytes n ws bs)))
-  all-references hs n ws bs = apart (columnBy clientIn stationWords n ws) ∙ ap (λ b. all p hs && b) (stand-ins n ws bs) ∙ sym (apart _)
+  -- the pairs' tokens es and fs stand before the stations' in the code's list, behind them in the rules'
+  pub all-references : (hs es fs : List ℕ) (n : ℕ) (ws bs : List ℕ)
+      → all p (hs ++ es ++ fs ++ columnBy tokenIn stationWords n ws ++ columnBy clientIn stationWords n ws)
+      ≡ all p (hs ++ columnBy tokenIn stationWords n ws ++ nonZero (map clientToken (readRows stationAt stationWords pendingBytes n ws bs)) ++ es ++ fs)
+  all-references hs es fs n ws bs =
+      apart hs es fs ss cs ∙ and-assoc (all p hs && all p es && all p fs) (all p ss) (all p cs) ∙ ap (λ b. (all p hs && all p es && all p fs) && b) (stand-ins n ws bs)
+      ∙ moved (all p hs) (all p es) (all p fs) (all p ss) (all p ns) ∙ sym (apart hs ss ns es fs)
     where
       ss : List ℕ
       ss = columnBy tokenIn stationWords n ws
 
-      apart : (cs : List ℕ) → all p (hs ++ ss ++ cs) ≡ (all p hs && (all p ss && all p cs))
-      apart cs = all-append p (hs ++ ss) cs ∙ ap (λ b. b && all p cs) (all-append p hs ss) ∙ and-assoc (all p hs) (all p ss) (all p cs)
+      cs : List ℕ
+      cs = columnBy clientIn stationWords n ws
+
+      ns : List ℕ
+      ns = nonZero (map clientToken (readRows stationAt stationWords pendingBytes n ws bs))
+
+      apart : (us vs xs ys zs : List ℕ) → all p (us ++ vs ++ xs ++ ys ++ zs) ≡ (all p us && all p vs && all p xs && all p ys && all p zs)
+      apart us vs xs ys zs =
+          all-append p (us ++ vs ++ xs ++ ys) zs
+          ∙ ap (λ b. b && all p zs) (all-append p (us ++ vs ++ xs) ys ∙ ap (λ b. b && all p ys) (all-append p (us ++ vs) xs ∙ ap (λ b. b && all p xs) (all-append p us vs)))
+
+      moved : (h e f s n : Bool) → ((h && e && f) && (s && n)) ≡ (h && s && n && e && f)
+      moved true e f s n = and-comm (e && f) (s && n) ∙ sym (and-assoc (s && n) e f)
+      moved false e f s n = refl
 
 member-all : (x : ℕ) (ys : List ℕ) → member x ys ≡ not (all (λ y. not (eqb x y)) ys)
 unfolding member all
@@ -73,10 +88,10 @@ member-all x (y ∷ ys) = by (eqb x y) (member-all x ys)
     by true ih = refl
     by false ih = ih
 
-pub member-references : (x : ℕ) (hs : List ℕ) (n : ℕ) (ws bs : List ℕ)
-    → member x (hs ++ columnBy tokenIn stationWords n ws ++ columnBy clientIn stationWords n ws)
-    ≡ member x (hs ++ columnBy tokenIn stationWords n ws ++ nonZero (map clientToken (readRows stationAt stationWords pendingBytes n ws bs)))
-member-references x hs n ws bs = member-all x _ ∙ ap not (all-references (λ y. not (eqb x y)) hs n ws bs) ∙ sym (member-all x _)
+pub member-references : (x : ℕ) (hs es fs : List ℕ) (n : ℕ) (ws bs : List ℕ)
+    → member x (hs ++ es ++ fs ++ columnBy tokenIn stationWords n ws ++ columnBy clientIn stationWords n ws)
+    ≡ member x (hs ++ columnBy tokenIn stationWords n ws ++ nonZero (map clientToken (readRows stationAt stationWords pendingBytes n ws bs)) ++ es ++ fs)
+member-references x hs es fs n ws bs = member-all x _ ∙ ap not (all-references (λ y. not (eqb x y)) hs es fs n ws bs) ∙ sym (member-all x _)
 
 -- ---- the tokens' rows, for a station that acts for token c with level l in force
 

@@ -1,4 +1,5 @@
 pub mod Loops
 pub mod Lists
 pub mod Acting
+pub mod PairRows
 pub mod Links

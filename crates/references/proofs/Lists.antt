@@ -10,23 +10,24 @@ use native.Mathlib.Omega.{arith}
 use borrow.Author.Tests.{eqb-false, leb-true, le-leb, ltb-true, lt-ltb}
 use lib.Dec.{eqb, leb, ltb}
 use lib.ListN.{length, take, drop, getD, set, length-set, length-drop}
-use lib.Seq.{drop-drop, take-all, take-add, take-suc, take-set-le, take-suc-set, drop-set-add}
-use Rattle.table.specs.Rows.{readRows}
+use lib.Seq.{drop-drop, length-take-le, take-all, take-add, take-suc, take-set-le, take-suc-set, drop-set-add}
+use Rattle.table.specs.Table.{record-element}
+use Rattle.table.specs.Rows.{readRows, length-rows, rows-at}
 use Rattle.rules.specs.Basic.{if_then_else_, all, member, distinct, implies}
 use Rattle.rules.specs.Token.{Token, maxDacl, primary}
 use Rattle.rules.specs.Table.{Slot, free, live, lives}
 use Rattle.rules.specs.Handle.{Handle, noHandle}
-use Rattle.rules.specs.State.{handleSlots, stationCount, numberOf, handleNumber, stationToken}
+use Rattle.rules.specs.State.{handleSlots, stationCount, pairSlots, numberOf, handleNumber, stationToken}
 use Rattle.rules.specs.Valid.{between, handleValid}
 use Rattle.rules.specs.Head as Head
-use Rattle.rules.specs.Memory.{slotAt, tokenAt, identityAt, handleAt, slotHandle, sameHandle, sameHandles, stationAt, tokenWords, stationWords, pendingBytes}
+use Rattle.rules.specs.Memory.{slotAt, tokenAt, identityAt, handleAt, slotHandle, sameHandle, sameHandles, stationAt, tokenWords, stationWords, pairWords, elevatedWord, filteredWord, pendingBytes}
 use Rattle.rules.proofs.Logic.{and-r, and-i, or-e, or-l, or-r, either}
 use Rattle.token_rows.specs.Tests.{slotTest}
 use Rattle.lists.specs.Tests.{stationReferences, referenceSlots, count, isGiven, isApart}
-use Rattle.references.specs.Tests.{columnBy, firstWord, otherWord, tokenIn, clientIn, kept, nonzero, isKept, Room, Added, Referred, fieldsTest}
+use Rattle.references.specs.Tests.{columnBy, firstWord, otherWord, tokenIn, clientIn, rowsIn, pairColumn, kept, nonzero, isKept, Room, Front, Joined, Added, Referred, fieldsTest}
 use Rattle.lists.proofs.Truth.{same-truth, all-cong, all-and, all-map, eqb-same, eqb-flip}
 use Rattle.lists.proofs.Cuts.{drop-take}
-use Rattle.references.proofs.Loops.{Keeping, keeping-none, keeping-more, Sorting, sorting-first, sorting-second}
+use Rattle.references.proofs.Loops.{Keeping, keeping-none, keeping-more, keeping-done, Sorting, sorting-first, sorting-second}
 use Rattle.lists.proofs.Counts.{count-none, distinct-count}
 
 -- ---- loops over rows: they keep what is not 0 of a column, or write a column behind other elements
@@ -49,14 +50,17 @@ module _ (f : List ℕ → ℕ) (w : ℕ) where
   column-lent : (n i : ℕ) (ws : List ℕ) {v : ℕ} → i < n → v ≡ f (take (i * w + w - i * w) (drop (i * w) ws)) → v ≡ getD (columnBy f w n ws) i 0
   column-lent n i ws h e = e ∙ ap (λ (k : ℕ). f (take k (drop (i * w) ws))) (add-sub-cancel-left (i * w) w) ∙ sym (column-at n i ws h)
 
-  pub given-none : (n : ℕ) (ws out : List ℕ) → length out ≡ n → Keeping (λ x. x) (λ x. x) (columnBy f w n ws) n n out 0 0
-  given-none n ws out e = keeping-none _ _ _ n n out (length-column n ws) (omega arith) e
+  pub given-none : (n : ℕ) (ws out : List ℕ) → length out ≡ n → Keeping (λ x. x) (λ x. x) (columnBy f w n ws) [] n n out 0 0
+  given-none n ws out e = keeping-none _ _ _ _ n n 0 out (length-column n ws) (omega arith) e (omega arith) refl
 
-  pub given-more : (ws : List ℕ) {n i m v j : ℕ} {out : List ℕ} → Keeping (λ x. x) (λ x. x) (columnBy f w n ws) n n out m i → i < n
-      → v ≡ f (take (i * w + w - i * w) (drop (i * w) ws)) → j ≡ isKept v → Keeping (λ x. x) (λ x. x) (columnBy f w n ws) n n (set out m v) (m + j) (i + 1)
+  pub given-more : (ws : List ℕ) {n i m v j : ℕ} {out : List ℕ} → Keeping (λ x. x) (λ x. x) (columnBy f w n ws) [] n n out m i → i < n
+      → v ≡ f (take (i * w + w - i * w) (drop (i * w) ws)) → j ≡ isKept v → Keeping (λ x. x) (λ x. x) (columnBy f w n ws) [] n n (set out m v) (m + j) (i + 1)
   given-more ws {n} {i} t h e ej =
       let x = column-lent n i ws h e in
-      keeping-more _ _ _ 0 t h x (ej ∙ ap isKept x)
+      keeping-more _ _ _ _ 0 t h x (ej ∙ ap isKept x)
+
+  pub given-done : (ws : List ℕ) {n i m : ℕ} {out : List ℕ} → Keeping (λ x. x) (λ x. x) (columnBy f w n ws) [] n n out m i → n ≤ i → Front n (nonzero (columnBy f w n ws)) m out
+  given-done ws t h = keeping-done _ _ _ [] t h
 
 -- f of every station's row is written behind the first n elements of an array
 module _ (f : List ℕ → ℕ) (n : ℕ) (ws before : List ℕ) where
@@ -98,24 +102,62 @@ module _ (f : List ℕ → ℕ) (n : ℕ) (ws before : List ℕ) where
         behind = ap (λ (k : ℕ). take k (drop n items)) (sym e) ∙ t .behind ∙ take-all i added (omega (arith, length-column f stationWords stationCount ws));
       }
 
--- the stations' references stand behind those that were kept
-pub at-referred : {A : Type 0} (t : A → Bool) (k f g : A → ℕ) (d : A) (src : List A) {ok : Bool} {n i : ℕ} {fs gs ws ps items : List ℕ}
+-- a word of every live pair's row is written behind the first n elements of an array
+module _ (k n : ℕ) (ws before : List ℕ) where
+  abbrev pairRows : List (List ℕ)
+  pairRows = rowsIn pairWords pairSlots ws
+
+  -- after i of the rows, the array's front has m
+  pub record Joining (items : List ℕ) (m i : ℕ) : Type 0 where
+    pub first : n + pairSlots ≤ length before
+    pub keeping : Keeping (λ row. getD row elevatedWord 0) (λ row. getD row k 0) pairRows (take n before) pairSlots (length before) items m i
+
+  pre-long : n + pairSlots ≤ length before → length (take n before) ≡ n
+  pre-long h = length-take-le n before (omega arith)
+
+  pub joining-none : n + pairSlots ≤ length before → Joining before n 0
+  joining-none h =
+      let l = pre-long h in
+      record { first = h; keeping = keeping-none _ _ _ _ pairSlots (length before) n before (length-rows _ pairWords 0 pairSlots ws []) (omega arith) refl (omega arith) refl }
+
+  pair-element : {i : ℕ} (j : ℕ) → i < pairSlots → j < pairWords → getD ws (i * pairWords + j) 0 ≡ getD (getD pairRows i []) j 0
+  pair-element {i} j h l = record-element pairWords i j ws 0 l ∙ ap (λ row. getD row j 0) (sym (rows-at _ pairWords 0 [] pairSlots i ws [] h))
+
+  pub joining-more : {items : List ℕ} {m i v j : ℕ} → Joining items m i → i < pairSlots → k < pairWords
+      → v ≡ getD ws (i * pairWords + k) 0 → j ≡ isKept (getD ws (i * pairWords + elevatedWord) 0) → Joining (set items m v) (m + j) (i + 1)
+  joining-more t h l e f = record {
+    first = t .first;
+    keeping = keeping-more _ _ _ _ [] (t .keeping) h (e ∙ pair-element k h l) (f ∙ ap isKept (pair-element elevatedWord h (omega arith)));
+  }
+
+  pub joining-done : {items : List ℕ} {m i : ℕ} → Joining items m i → pairSlots ≤ i → Joined (pairColumn k ws) n before items m
+  joining-done t h =
+      let l = pre-long (t .first) in
+      let f = t .keeping .few in
+      let w = t .keeping .within in
+      record { long = t .keeping .long; few = omega arith; front = keeping-done _ _ _ _ (t .keeping) h .front }
+
+-- the pairs' references stand behind those that were kept, and behind them the stations'
+pub at-referred : {A : Type 0} (t : A → Bool) (k f g : A → ℕ) (d : A) (src : List A) (us : List ℕ) {ok : Bool} {n i m l : ℕ} {fs gs ws es hs ps items : List ℕ}
     → Sorting t k f g d src handleSlots referenceSlots ok fs gs n i → handleSlots ≤ i
-    → Added tokenIn n ws gs ps → Added clientIn (n + stationCount) ws ps items
-    → Referred (kept k g src) (columnBy tokenIn stationWords stationCount ws) (columnBy clientIn stationWords stationCount ws) n items
-at-referred t k f g d src {n = n} {items = items} s h a b =
-    let r : Room handleSlots n _ = sorting-first t k f g d src s h .room in
-    let held : take n _ ≡ kept k g src = sorting-second t k f g d src s h .front in
-    let e : n + stationReferences ≡ n + stationCount + stationCount = omega arith in
-    let cut : (xs : List ℕ) → drop n (take (n + stationCount) xs) ≡ take stationCount (drop n xs) =
-    λ xs. drop-take n (n + stationCount) xs ∙ ap (λ (j : ℕ). take j (drop n xs)) (add-sub-cancel-left n stationCount) in
+    → Joined (pairColumn elevatedWord us) n gs es m → Joined (pairColumn filteredWord us) m es hs l
+    → Added tokenIn l ws hs ps → Added clientIn (l + stationCount) ws ps items
+    → Referred (kept k g src ++ pairColumn elevatedWord us ++ pairColumn filteredWord us) (columnBy tokenIn stationWords stationCount ws) (columnBy clientIn stationWords stationCount ws) l items
+at-referred t k f g d src us {n = n} {l = l} {fs = fs} {gs = gs} {hs = hs} {items = items} s h x y a b =
+    let r : Room handleSlots n fs = sorting-first t k f g d src s h .room in
+    let held : take n gs ≡ kept k g src = sorting-second t k f g d src s h .front in
+    let pairs : take l hs ≡ kept k g src ++ pairColumn elevatedWord us ++ pairColumn filteredWord us =
+    y .front ∙ ap (λ xs. xs ++ pairColumn filteredWord us) (x .front ∙ ap (λ xs. xs ++ pairColumn elevatedWord us) held) in
+    let e : l + stationReferences ≡ l + stationCount + stationCount = omega arith in
+    let cut : (xs : List ℕ) → drop l (take (l + stationCount) xs) ≡ take stationCount (drop l xs) =
+    λ xs. drop-take l (l + stationCount) xs ∙ ap (λ (j : ℕ). take j (drop l xs)) (add-sub-cancel-left l stationCount) in
     record {
-      room = record { fits = omega arith; long = b .long };
+      room = record { fits = omega (arith, r .fits, x .few, y .few); long = b .long };
       front =
           ap (λ (j : ℕ). take j items) e
-          ∙ take-add (n + stationCount) stationCount items
-          ∙ ap₂ (λ l m. l ++ m) (b .held ∙ take-add n stationCount _ ∙ ap₂ (λ l m. l ++ m) (a .held ∙ held) (a .behind)) (b .behind);
-      primaries = sym (cut items) ∙ ap (drop n) (b .held) ∙ cut _ ∙ a .behind;
+          ∙ take-add (l + stationCount) stationCount items
+          ∙ ap₂ (λ l m. l ++ m) (b .held ∙ take-add l stationCount _ ∙ ap₂ (λ l m. l ++ m) (a .held ∙ pairs) (a .behind)) (b .behind);
+      primaries = sym (cut items) ∙ ap (drop l) (b .held) ∙ cut _ ∙ a .behind;
     }
 
 -- ---- what is kept of a list

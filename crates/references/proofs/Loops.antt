@@ -12,20 +12,21 @@ use Rattle.rules.specs.Basic.{if_then_else_, all}
 use Rattle.lists.proofs.Loops.{TestedArray, array-none, array-more, array-done}
 use Rattle.references.specs.Tests.{kept, isKept, Front}
 
--- ---- elements are kept in the front of an array
+-- ---- elements are kept behind the first elements of an array, which are pre
 
-module _ {A : Type 0} (k f : A → ℕ) (src : List A) where
-  -- after i elements, n were kept
+module _ {A : Type 0} (k f : A → ℕ) (src : List A) (pre : List ℕ) where
+  -- after i elements, the array's front has n
   pub record Keeping (size room : ℕ) (items : List ℕ) (n i : ℕ) : Type 0 where
     pub within : i ≤ size
     pub source : length src ≡ size
-    pub enough : size ≤ room
+    pub enough : length pre + size ≤ room
     pub long : length items ≡ room
-    pub few : n ≤ i
-    pub rest : take n items ++ kept k f (drop i src) ≡ kept k f src
+    pub few : n ≤ length pre + i
+    pub rest : take n items ++ kept k f (drop i src) ≡ pre ++ kept k f src
 
-  pub keeping-none : (size room : ℕ) (items : List ℕ) → length src ≡ size → size ≤ room → length items ≡ room → Keeping size room items 0 0
-  keeping-none size room items e r l = record { within = omega arith; source = e; enough = r; long = l; few = omega arith; rest = refl }
+  pub keeping-none : (size room n : ℕ) (items : List ℕ) → length src ≡ size → length pre + size ≤ room → length items ≡ room → n ≤ length pre → take n items ≡ pre
+      → Keeping size room items n 0
+  keeping-none size room n items e r l w p = record { within = omega arith; source = e; enough = r; long = l; few = omega arith; rest = ap (λ xs. xs ++ kept k f src) p }
 
   pub keeping-more : {size room : ℕ} {items : List ℕ} {n i v j : ℕ} (d : A) → Keeping size room items n i → i < size → v ≡ f (getD src i d) → j ≡ isKept (k (getD src i d))
       → Keeping size room (set items n v) (n + j) (i + 1)
@@ -70,7 +71,7 @@ module _ {A : Type 0} (k f : A → ℕ) (src : List A) where
                 ∙ t .rest;
           }
 
-  pub keeping-done : {size room : ℕ} {items : List ℕ} {n i : ℕ} → Keeping size room items n i → size ≤ i → Front room (kept k f src) n items
+  pub keeping-done : {size room : ℕ} {items : List ℕ} {n i : ℕ} → Keeping size room items n i → size ≤ i → Front room (pre ++ kept k f src) n items
   unfolding kept
   keeping-done {items = items} {n = n} {i = i} t h = record {
     room = record { fits = omega (arith, t .few, t .within, t .enough); long = t .long };
@@ -84,12 +85,12 @@ module _ {A : Type 0} (k f : A → ℕ) (src : List A) where
 module _ {A : Type 0} (t : A → Bool) (k f g : A → ℕ) (d : A) (src : List A) where
   pub record Sorting (size room : ℕ) (ok : Bool) (fs gs : List ℕ) (n i : ℕ) : Type 0 where
     pub tested : TestedArray t d src size ok i
-    pub first : Keeping k f src size size fs n i
-    pub second : Keeping k g src size room gs n i
+    pub first : Keeping k f src [] size size fs n i
+    pub second : Keeping k g src [] size room gs n i
 
   pub sorting-none : (size room : ℕ) (fs gs : List ℕ) → length src ≡ size → size ≤ room → length fs ≡ size → length gs ≡ room → Sorting size room true fs gs 0 0
   sorting-none size room fs gs e r lf lg =
-      record { tested = array-none t d src size e; first = keeping-none k f src size size fs e (omega arith) lf; second = keeping-none k g src size room gs e r lg }
+      record { tested = array-none t d src size e; first = keeping-none k f src [] size size 0 fs e (omega arith) lf (omega arith) refl; second = keeping-none k g src [] size room 0 gs e (omega arith) lg (omega arith) refl }
 
   pub sorting-more : {size room : ℕ} {ok r : Bool} {fs gs : List ℕ} {n i v w j : ℕ} {x : A} → Sorting size room ok fs gs n i → i < size
       → x ≡ getD src i d → r ≡ t x → v ≡ f x → w ≡ g x → j ≡ isKept (k x)
@@ -98,15 +99,15 @@ module _ {A : Type 0} (t : A → Bool) (k f g : A → ℕ) (d : A) (src : List A
       let kept-or-not = ej ∙ ap (λ x. isKept (k x)) q in
       record {
         tested = array-more t d src (s .tested) h (er ∙ ap t q);
-        first = keeping-more k f src d (s .first) h (ev ∙ ap f q) kept-or-not;
-        second = keeping-more k g src d (s .second) h (ew ∙ ap g q) kept-or-not;
+        first = keeping-more k f src [] d (s .first) h (ev ∙ ap f q) kept-or-not;
+        second = keeping-more k g src [] d (s .second) h (ew ∙ ap g q) kept-or-not;
       }
 
   pub sorting-tested : {size room : ℕ} {ok : Bool} {fs gs : List ℕ} {n i : ℕ} → Sorting size room ok fs gs n i → size ≤ i → ok ≡ all t src
   sorting-tested s h = array-done t d src (s .tested) h
 
   pub sorting-first : {size room : ℕ} {ok : Bool} {fs gs : List ℕ} {n i : ℕ} → Sorting size room ok fs gs n i → size ≤ i → Front size (kept k f src) n fs
-  sorting-first s h = keeping-done k f src (s .first) h
+  sorting-first s h = keeping-done k f src [] (s .first) h
 
   pub sorting-second : {size room : ℕ} {ok : Bool} {fs gs : List ℕ} {n i : ℕ} → Sorting size room ok fs gs n i → size ≤ i → Front room (kept k g src) n gs
-  sorting-second s h = keeping-done k g src (s .second) h
+  sorting-second s h = keeping-done k g src [] (s .second) h

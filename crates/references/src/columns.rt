@@ -1,13 +1,16 @@
-// The numbers of tokens, in the order of their slots, and of stations' tokens. Those of free slots are left out, so that loops over the list are short.
+// The numbers of tokens, in the order of their slots, and of stations' and pairs' tokens. Those of free slots are left out, so that loops over the list are short.
 ghost use mathlib.Core.Path.{_≡_};
-ghost use Prim.Native.Nat.{_+_, _*_, _≤_};
+ghost use Prim.Native.Nat.{_+_, _*_, _≤_, _<_};
 ghost use lib.ListN.{length};
-ghost use Rattle.rules.specs.State.{tokenSlots, stationCount};
-ghost use Rattle.rules.specs.Memory.{tokenWords, stationWords};
+ghost use Rattle.rules.specs.State.{tokenSlots, stationCount, pairSlots};
+ghost use Rattle.rules.specs.Memory.{tokenWords, stationWords, pairWords};
 ghost use Rattle.lists.specs.Tests.{referenceSlots};
-ghost use Rattle.references.specs.Tests.{columnBy, firstWord, otherWord, tokenIn, clientIn, nonzero, isKept, Front, Added};
+ghost use Rattle.references.specs.Tests.{columnBy, firstWord, otherWord, tokenIn, clientIn, pairColumn, nonzero, isKept, Front, Joined, Added};
 use crate::REFERENCES;
 use control::layout::CLIENT_WORD;
+use control::layout::ELEVATED_WORD;
+use control::layout::PAIR_WORDS;
+use control::layout::PAIRS;
 use control::layout::PRIMARY_WORD;
 use control::layout::STATION_WORDS;
 use control::layout::STATIONS;
@@ -110,6 +113,22 @@ pub fn other_numbers(tokens: &[u64]) -> Given
         count: n,
         numbers: out,
     }
+}
+
+// A word of every live pair's row, behind the first n of `out`; how many stand there then.
+pub fn add_pairs(out: &mut [u64], n: usize, word: usize, rows: &[u64]) -> usize
+    requires { ⌜ (n + pairSlots ≤ length (now out)) × (word < pairWords) × (length (now rows) ≡ pairSlots * pairWords) ⌝ }
+    ensures { λ r. ⌜ Joined (pairColumn word (now (rows .entry))) n (now (out .entry)) (now (out .exit)) r ⌝ }
+{
+    let mut m = n;
+    let mut i: usize = 0;
+    while i < PAIRS {
+        let at = i * PAIR_WORDS;
+        out[m] = rows[at + word];
+        m = m + is_kept(rows[at + ELEVATED_WORD]);
+        i += 1;
+    }
+    m
 }
 
 // The stations' primary tokens, behind the first n of `referred`.

@@ -1,16 +1,21 @@
-// The handles (document 01: free places are zero, and ranges are kept), what the live ones are called, and what they and the stations refer to.
+// The handles (document 01: free places are zero, and ranges are kept), what the live ones are called, and what they, the linked pairs and the
+// stations refer to.
 ghost use mathlib.Core.Path.{_≡_};
+ghost use mathlib.Core.List.{_++_};
 ghost use Prim.Native.Nat.{_*_, _≤_};
 ghost use lib.ListN.{length};
 ghost use Rattle.rules.specs.Basic.{all};
-ghost use Rattle.rules.specs.State.{handleSlots, stationCount};
-ghost use Rattle.rules.specs.Memory.{stationWords};
+ghost use Rattle.rules.specs.State.{handleSlots, stationCount, pairSlots};
+ghost use Rattle.rules.specs.Memory.{stationWords, pairWords, elevatedWord, filteredWord};
 ghost use Rattle.handle.specs.Words.{recordsIn};
-ghost use Rattle.references.specs.Tests.{columnBy, tokenIn, clientIn, isKept, kept, Front, Referred};
+ghost use Rattle.references.specs.Tests.{columnBy, tokenIn, clientIn, pairColumn, isKept, kept, Front, Referred};
 ghost use Rattle.references.specs.Meaning.{numberOf, tokenOf, fieldsOf};
 use crate::REFERENCES;
 use crate::columns::add_clients;
+use crate::columns::add_pairs;
 use crate::columns::add_primaries;
+use control::layout::ELEVATED_WORD;
+use control::layout::FILTERED_WORD;
 use control::layout::STATIONS;
 use handle::HANDLE_WORDS;
 use handle::Handle;
@@ -18,10 +23,12 @@ use handle::SLOTS;
 use privilege::mask::Mask;
 
 // Whether the fields of all are valid; of the live ones, the first `count` of each list, their numbers and their tokens'. Behind these in
-// `referred` stand the stations' primary tokens and those that they act for, so that all references are counted in one list.
+// `referred` stand the live pairs' tokens, up to `held`, then the stations' primary ones and those that they act for, so that all references
+// are counted in one list.
 pub struct Held {
     pub ok: bool,
     pub count: usize,
+    pub held: usize,
     pub numbers: [u32; SLOTS],
     pub referred: [u64; REFERENCES],
 }
@@ -55,11 +62,11 @@ fn is_kept(h: Handle) -> usize
     if h.number == 0 { 0 } else { 1 }
 }
 
-pub fn live(handles: &[u64; HANDLE_WORDS], rows: &[u64]) -> Held
-    requires { ⌜ length (now rows) ≡ stationCount * stationWords ⌝ }
+pub fn live(handles: &[u64; HANDLE_WORDS], rows: &[u64], pairs: &[u64]) -> Held
+    requires { ⌜ (length (now rows) ≡ stationCount * stationWords) × (length (now pairs) ≡ pairSlots * pairWords) ⌝ }
     ensures fields { λ r. ⌜ r .ok ≡ all fieldsOf (recordsIn (now (handles .entry))) ⌝ }
     ensures called { λ r. ⌜ Front handleSlots (kept numberOf numberOf (recordsIn (now (handles .entry)))) (r .count) (r .numbers) ⌝ }
-    ensures refers { λ r. ⌜ Referred (kept numberOf tokenOf (recordsIn (now (handles .entry)))) (columnBy tokenIn stationWords stationCount (now (rows .entry))) (columnBy clientIn stationWords stationCount (now (rows .entry))) (r .count) (r .referred) ⌝ }
+    ensures refers { λ r. ⌜ Referred (kept numberOf tokenOf (recordsIn (now (handles .entry))) ++ pairColumn elevatedWord (now (pairs .entry)) ++ pairColumn filteredWord (now (pairs .entry))) (columnBy tokenIn stationWords stationCount (now (rows .entry))) (columnBy clientIn stationWords stationCount (now (rows .entry))) (r .held) (r .referred) ⌝ }
 {
     let mut ok = true;
     let mut numbers = [0u32; SLOTS];
@@ -74,11 +81,14 @@ pub fn live(handles: &[u64; HANDLE_WORDS], rows: &[u64]) -> Held
         n = n + is_kept(h);
         i += 1;
     }
-    add_primaries(&mut referred, n, rows);
-    add_clients(&mut referred, n + STATIONS, rows);
+    let k = add_pairs(&mut referred, n, ELEVATED_WORD, pairs);
+    let m = add_pairs(&mut referred, k, FILTERED_WORD, pairs);
+    add_primaries(&mut referred, m, rows);
+    add_clients(&mut referred, m + STATIONS, rows);
     Held {
         ok: ok,
         count: n,
+        held: m,
         numbers: numbers,
         referred: referred,
     }

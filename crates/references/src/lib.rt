@@ -1,4 +1,4 @@
-// Part of the test of refusal 13: the handles' fields, all numbers given, and what handles and stations refer to.
+// Part of the test of refusal 13: the handles' fields, all numbers given, what handles, stations and linked pairs refer to, and the pairs.
 ghost use mathlib.Core.Path.{_≡_};
 ghost use mathlib.Core.List.{map};
 ghost use Prim.Native.Nat.{_+_, _*_, _≤_};
@@ -16,6 +16,9 @@ use columns::token_numbers;
 use control::layout::MAX_HANDLE;
 use control::layout::NEXT_HANDLE;
 use control::layout::NEXT_TOKEN;
+use control::layout::PAIRS;
+use control::layout::PAIRS_AT;
+use control::layout::PAIRS_END;
 use control::layout::STATIONS;
 use control::layout::STATIONS_AT;
 use control::layout::STATIONS_END;
@@ -27,19 +30,24 @@ use lists::numbers::all_apart;
 use lists::numbers::all_given;
 use lists::numbers::all_given_32;
 use lists::numbers::refs_valid;
+use pairs::pairs_valid;
 
 mod clients;
 mod columns;
 mod handles;
+mod pairs;
 
-// All that can refer to a token: handles and stations, each by its primary token and by the one that it acts for.
+// All that can refer to a token: handles, linked pairs by their two tokens, and stations, each by its primary token and by the one that it
+// acts for.
 pub const STATION_REFERENCES: usize = STATIONS + STATIONS;
 
-pub const REFERENCES: usize = SLOTS + STATION_REFERENCES;
+pub const PAIR_REFERENCES: usize = PAIRS + PAIRS;
 
-// The next numbers are not 0 and of their type. Numbers given are distinct and below the next; handles' and stations' tokens live, and
-// stations' own are primary; every token is referred to. `others` are the tokens that are not primary. Behind the first `held` of `referred`
-// stand the stations' own tokens.
+pub const REFERENCES: usize = SLOTS + PAIR_REFERENCES + STATION_REFERENCES;
+
+// The next numbers are not 0 and of their type. Numbers given are distinct and below the next; the tokens of handles, pairs and stations
+// live, and stations' own are primary; every token is referred to. `others` are the tokens that are not primary. Behind the first `held` of
+// `referred` stand the stations' own tokens.
 fn numbers_valid(
     tokens: &[u64],
     others: &[u64],
@@ -62,8 +70,8 @@ fn numbers_valid(
 
 // The same of what stands in the fronts of arrays.
 fn fronts_valid(given: Given, others: Given, held: Held, next_token: u64, next_handle: u64) -> bool
-    requires { ⌜ Room tokenSlots (given .count) (given .numbers) × Room tokenSlots (others .count) (others .numbers) × Room handleSlots (held .count) (held .numbers) × Room referenceSlots (held .count + stationReferences) (held .referred) ⌝ }
-    ensures { λ r. ⌜ r ≡ numbersTest (take (given .count) (given .numbers)) (take (others .count) (others .numbers)) (take (held .count) (held .numbers)) (take (held .count + stationReferences) (held .referred)) (take stationCount (drop (held .count) (held .referred))) «next_token» «next_handle» ⌝ }
+    requires { ⌜ Room tokenSlots (given .count) (given .numbers) × Room tokenSlots (others .count) (others .numbers) × Room handleSlots (held .count) (held .numbers) × Room referenceSlots (held .held + stationReferences) (held .referred) ⌝ }
+    ensures { λ r. ⌜ r ≡ numbersTest (take (given .count) (given .numbers)) (take (others .count) (others .numbers)) (take (held .count) (held .numbers)) (take (held .held + stationReferences) (held .referred)) (take stationCount (drop (held .held) (held .referred))) «next_token» «next_handle» ⌝ }
 {
     let n = given.count;
     let numbers = given.numbers;
@@ -71,30 +79,36 @@ fn fronts_valid(given: Given, others: Given, held: Held, next_token: u64, next_h
     let apart = others.numbers;
     let h = held.count;
     let called = held.numbers;
+    let first = held.held;
     let referred = held.referred;
-    let end = h + STATION_REFERENCES;
+    let end = first + STATION_REFERENCES;
     numbers_valid(
         &numbers[0..n],
         &apart[0..m],
         &called[0..h],
         &referred[0..end],
-        h,
+        first,
         next_token,
         next_handle,
     )
 }
 
-// The handles' fields, all numbers, and the tokens that stations act for.
+// The handles' fields, all numbers, the tokens that stations act for, and the linked pairs.
 pub fn links_valid(tokens: &[u64], handles: &[u64; HANDLE_WORDS], control: &[u64]) -> bool
     requires { ⌜ (length (now tokens) ≡ tokenSlots * tokenWords) × (length (now control) ≡ controlWords) ⌝ }
     ensures { λ r. ⌜ r ≡ linksTest (now (tokens .entry)) (map handleOf (recordsIn (now (handles .entry)))) (now (control .entry)) ⌝ }
 {
     let given = token_numbers(tokens);
     let others = other_numbers(tokens);
-    let held = live(handles, &control[STATIONS_AT..STATIONS_END]);
+    let held = live(
+        handles,
+        &control[STATIONS_AT..STATIONS_END],
+        &control[PAIRS_AT..PAIRS_END],
+    );
     let next_token = control[NEXT_TOKEN];
     let next_handle = control[NEXT_HANDLE];
     held.ok
         & fronts_valid(given, others, held, next_token, next_handle)
         & clients_valid(tokens, &control[STATIONS_AT..STATIONS_END])
+        & pairs_valid(tokens, &control[PAIRS_AT..PAIRS_END])
 }

@@ -47,7 +47,7 @@ module _ (station : ℕ) {hs : List Handle} {cs ts ds : List ℕ} (r : Outcome) 
     unfolding decided
     served f x = record { carried = read-alike (ap (λ (b : Bool). whole b request) (sym (not-false ok f)) ∙ e) x }
 
--- requests 1, 2, 11 and 12
+-- requests 1, 2, 11, 12 and 17
 module _ (request : ℕ → Request) (station : ℕ) {s : List ℕ} {c : Cursor} (ok : Bool) (value : ℕ) (n : NumberRead s c ok value)
     {hs : List Handle} {cs ts ds : List ℕ} (r : Outcome) where
   pub number-not-read : not ok ≡ true → Ends (answers.Refused 1) r → LayoutCarried (numberLayout request) station s c ts ds hs cs ts ds cs r

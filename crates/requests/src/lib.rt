@@ -3,7 +3,7 @@ ghost use Prim.Native.Nat.{_≤_, _<_};
 ghost use lib.ListN.{length};
 ghost use Rattle.rules.specs.State.{stationCount};
 ghost use Rattle.rules.specs.Request as rules;
-ghost use Rattle.rules.specs.Request.{end, numberLayout, createLayout, queryLayout, entriesLayout, scopeLayout, defaultsLayout, duplicateLayout, restrictLayout};
+ghost use Rattle.rules.specs.Request.{end, numberLayout, createLayout, queryLayout, entriesLayout, scopeLayout, defaultsLayout, duplicateLayout, restrictLayout, linkLayout};
 ghost use Rattle.handle.specs.Words.{recordsIn};
 ghost use Rattle.state.specs.Parts.{Lent};
 ghost use Rattle.requests.specs.Layouts.{LayoutCarried};
@@ -258,4 +258,42 @@ pub fn revert(
         return outcome::refused(refusal::MALFORMED);
     }
     impersonate::revert(station, handles, tokens, dacls, control)
+}
+
+pub fn link(
+    station: u32,
+    s: &[u8],
+    c: Cursor,
+    handles: &[u64; HANDLE_WORDS],
+    tokens: &mut [u64],
+    dacls: &mut [u8],
+    control: &mut [u64],
+) -> Outcome
+    requires { ⌜ Lent (now tokens) (now dacls) (now control) × (station < stationCount) ⌝ }
+    ensures { λ r. ⌜ LayoutCarried linkLayout station (now (s .entry)) c (now (tokens .entry)) (now (dacls .entry)) (recordsIn (now (handles .entry))) (now (control .entry)) (now (tokens .exit)) (now (dacls .exit)) (now (control .exit)) r ⌝ }
+{
+    let f = layout::link(s, c);
+    if !f.ok {
+        return outcome::refused(refusal::MALFORMED);
+    }
+    link::link::link(station, f, handles, tokens, dacls, control)
+}
+
+pub fn linked(
+    station: u32,
+    s: &[u8],
+    c: Cursor,
+    handles: &[u64; HANDLE_WORDS],
+    tokens: &mut [u64],
+    dacls: &mut [u8],
+    control: &mut [u64],
+) -> Outcome
+    requires { ⌜ Lent (now tokens) (now dacls) (now control) × (station < stationCount) ⌝ }
+    ensures { λ r. ⌜ LayoutCarried (numberLayout rules.linked) station (now (s .entry)) c (now (tokens .entry)) (now (dacls .entry)) (recordsIn (now (handles .entry))) (now (control .entry)) (now (tokens .exit)) (now (dacls .exit)) (now (control .exit)) r ⌝ }
+{
+    let f = layout::number(s, c);
+    if !f.ok {
+        return outcome::refused(refusal::MALFORMED);
+    }
+    link::linked::linked(station, f.value, handles, tokens, dacls, control)
 }

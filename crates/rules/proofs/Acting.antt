@@ -20,20 +20,23 @@ use Rattle.rules.specs.Duplicate as Duplicate
 use Rattle.rules.specs.Growth.{Live, Mem, here, there}
 use Rattle.rules.specs.Impersonate as Impersonate
 use Rattle.rules.specs.Install as Install
+use Rattle.rules.specs.Link as Link
 use Rattle.rules.specs.Ladder.{status}
 use Rattle.rules.specs.Number.{Read, got, bad}
 use Rattle.rules.specs.OpenClose as OpenClose
+use Rattle.rules.specs.Privileges.{tcb}
 use Rattle.rules.specs.Query as Query
 use Rattle.rules.specs.Request as Request
 use Rattle.rules.specs.Request.{parse, Request}
 use Rattle.rules.specs.Restrict as Restrict
 use Rattle.rules.specs.Run.{Serving, servedBy}
 use Rattle.rules.specs.Serve.{rule, decided, decision, serve}
-use Rattle.rules.specs.State.{State, withTokens, withHandles, withStations, stationAt, changeStation, setToken, clientAt, setClient, numberOf, putToken, changeToken, used, addToken, addHandle, dropHandle, clientToken, released}
+use Rattle.rules.specs.State.{State, withTokens, withHandles, withStations, withPairs, held, setPair, stationAt, changeStation, setToken, clientAt, setClient, numberOf, putToken, changeToken, used, addToken, addHandle, dropHandle, clientToken, released}
 use Rattle.rules.specs.Station.{Station, Client, noClient, startStation, withToken, withClient}
 use Rattle.rules.specs.Table.{lives}
 use Rattle.rules.specs.Token.{Token}
 use Rattle.rules.proofs.Logic.{not-both, either, map-mem, mem-map}
+use Rattle.rules.proofs.Tables.{on-if}
 use Rattle.rules.proofs.Facts.{Loose}
 use Rattle.rules.proofs.Changes.{by-client}
 use Rattle.rules.proofs.Steps.{Ends, ended, install-marked, client-marked}
@@ -109,7 +112,7 @@ module _ (d : State) (s : ℕ) where
   sets e c r same q k = ⊎-elim (λ h. inl (ap (λ xs. getD (changeAt s (withClient c) xs) k startStation .client) same ∙ h)) (λ h. inr (h, q)) (other-station (d .stations) s k (withClient c))
 
   leaves : (r : Read Request) → Ends (Leaves r) (decided d s r)
-  unfolding decided rule Ends Leaves setsClient SameStations clientAt stationAt withHandle issued OpenClose.openOwn OpenClose.close Create.create Query.query AdjustPrivileges.adjust AdjustGroups.adjust AdjustScope.scope AdjustDefaults.adjust Duplicate.duplicate Restrict.restrict Install.install Impersonate.impersonate Impersonate.revert released addToken addHandle dropHandle withHandles withTokens used changeToken putToken
+  unfolding decided rule Ends Leaves setsClient SameStations clientAt stationAt withHandle issued OpenClose.openOwn OpenClose.close Create.create Query.query AdjustPrivileges.adjust AdjustGroups.adjust AdjustScope.scope AdjustDefaults.adjust Duplicate.duplicate Restrict.restrict Install.install Impersonate.impersonate Impersonate.revert Link.withBoth Link.link Link.linked Link.getLinked released addToken addHandle dropHandle setPair withPairs withHandles withTokens used changeToken putToken
   leaves bad = λ h. absurd (not-both h refl)
   leaves (got (Request.openOwn mask) bytes) = λ ok room k. inl refl
   leaves (got (Request.close n) bytes) = λ known k. inl refl
@@ -124,6 +127,9 @@ module _ (d : State) (s : ℕ) where
   leaves (got (Request.install n) bytes) = λ known may held ok match k. inl (installs _ _ k)
   leaves (got (Request.impersonate n) bytes) = λ known may ok gate. sets _ _ (got (Request.impersonate n) bytes) (client-marks _) refl
   leaves (got Request.revert bytes) = sets d noClient (got Request.revert bytes) refl refl
+  leaves (got (Request.link n m session) bytes) = λ known may held ok room k. inl refl
+  leaves (got (Request.linked n) bytes) = λ known may paired.
+      on-if (Ends (Leaves (got (Request.linked n) bytes))) (held d s tcb) _ _ (λ t room k. inl refl) (λ t room k. inl refl)
 
 -- ---- one body
 

@@ -1,7 +1,7 @@
 -- Over any list of calls from a valid state: the state stays valid, and what lasts of tokens and handles lasts. Assumes nothing.
 use Prim.Native.Nat.{ℕ, suc, _+_, _*_, _-_, _≤_, _<_}
 use native.Mathlib.Omega.{arith}
-use mathlib.Core.Path.{_≡_, refl, sym, ap, _∙_, subst}
+use mathlib.Core.Path.{_≡_, refl, sym, ap, subst}
 use mathlib.Core.Bool.{Bool, true, false, _||_}
 use mathlib.Core.Logic.{⊎-elim}
 use mathlib.Core.List.{List, [], _∷_, _++_, map}
@@ -26,7 +26,7 @@ use Rattle.rules.specs.Throughout.{IsAnswer}
 use Rattle.rules.proofs.Logic.{and-l, and-r, and-i, all-mem, mem-none, mem-append, getD-mem, map-mem, mem-map, all-append}
 use Rattle.rules.proofs.Tables.{on-if, only-one}
 use Rattle.rules.proofs.Facts.{StateFacts}
-use Rattle.rules.proofs.Changes.{later-refl, handles-refl, OnlyStream, only-pending, only-cleared, only-broken, stream-facts}
+use Rattle.rules.proofs.Changes.{carried, of-later, later-refl, handles-refl, OnlyStream, only-pending, only-cleared, only-broken, stream-facts}
 use Rattle.rules.proofs.PrivilegesKept.{sound}
 use Rattle.rules.proofs.Steps.{Advance, stays, _then_}
 use Rattle.rules.proofs.Kept.{serve-step}
@@ -90,10 +90,11 @@ keeps p s bytes b e f = streams p s (withPending bytes) (only-pending bytes) (λ
 pub record Onward (x : Serving) : Type 0 where
   pub facts : StateFacts (x .before)
   pub step : Advance (x .before) (servedBy x .state)
+  pub station : x .station < stationCount
 
 onward : (p : State) (s : ℕ) (body : List ℕ) → all isByte body ≡ true → s < stationCount → StateFacts p → Onward (record { before = changeStation s cleared p; station = s; body = body })
 unfolding servedBy
-onward p s body o in8 f = let g = clears p s f .facts in record { facts = g; step = serve-step (changeStation s cleared p) g s in8 body o }
+onward p s body o in8 f = let g = clears p s f .facts in record { facts = g; step = serve-step (changeStation s cleared p) g s in8 body o; station = in8 }
 
 joins : (p : State) (s : ℕ) (bytes : List ℕ) (x : Framed) → framed bytes ≡ x → OfBytes x → all isByte bytes ≡ true → s < stationCount → StateFacts p → Advance p (stateOf (joined p s bytes x))
 unfolding joined stateOf OfBytes servedBy
@@ -236,12 +237,8 @@ module _ (σ : State) (f : StateFacts σ) where
   module _ (cs : List Call) (w : all ofBytes cs ≡ true) where
     -- a token that is live at both ends: all that lasts lasted
     pub lasts : (t u : Token) → Live t σ → Live u (after cs σ) → u .number ≡ t .number → Follows t u
-    unfolding Live numberOf
-    lasts t u mt mu e =
-        let below = token-given t mt .1 in
-        let b = run-step cs σ w f .later .old u mu (omega arith) in
-        let q : b .token ≡ t = only-one numberOf (σ .tokens .slots) (f .loose .tokens .apart) (b .was) mt (sym (b .follows .number) ∙ e) in
-        subst (λ (x : Token). Follows x u) q (b .follows)
+    unfolding Live
+    lasts t u mt mu e = carried Follows σ (after cs σ) (f .loose) (of-later (run-step cs σ w f .later)) t u mt mu e
 
     -- a handle that is live at both ends is the same
     pub handle-kept : (h k : Handle) → LiveHandle h σ → LiveHandle k (after cs σ) → k .number ≡ h .number → k ≡ h

@@ -30,9 +30,10 @@ use Rattle.rules.specs.Growth.{Live, Mem, here, there}
 use Rattle.rules.specs.Handle.{Handle}
 use Rattle.rules.specs.Impersonate as Impersonate
 use Rattle.rules.specs.Install as Install
+use Rattle.rules.specs.Link as Link
 use Rattle.rules.specs.Number.{encode, encodeAll, Read, got, bad}
 use Rattle.rules.specs.OpenClose as OpenClose
-use Rattle.rules.specs.Privileges.{existing}
+use Rattle.rules.specs.Privileges.{existing, tcb}
 use Rattle.rules.specs.Query as Query
 use Rattle.rules.specs.Refusal.{refusal, capacityBelow, streamBroken}
 use Rattle.rules.specs.Request as Request
@@ -40,7 +41,7 @@ use Rattle.rules.specs.Request.{group, parse, Request}
 use Rattle.rules.specs.Restrict as Restrict
 use Rattle.rules.specs.Run.{after}
 use Rattle.rules.specs.Serve.{rule, decided, decision, serve}
-use Rattle.rules.specs.State.{withTokens, clientAt, numberOf, tokenOf, putToken, changeToken, used, handleOf, State}
+use Rattle.rules.specs.State.{withTokens, clientAt, numberOf, tokenOf, held, putToken, changeToken, used, handleOf, State}
 use Rattle.rules.specs.Station.{noClient, Client}
 use Rattle.rules.specs.Token.{primary, impersonation, maxGroups, sidAt, Token}
 use Rattle.rules.specs.Valid.{is32, is64, between, identityValid, groupValid, limitsValid, defaultsValid}
@@ -341,7 +342,7 @@ module _ (σ : State) (f : StateFacts σ) (s : ℕ) where
       simp length-append (omega arith)
 
   by-rule : (r : Request) → Fits (rule σ s r)
-  unfolding rule OpenClose.openOwn OpenClose.close Create.create AdjustScope.scope AdjustDefaults.adjust Duplicate.duplicate Restrict.restrict Install.install issued used changeToken putToken withTokens Fits refusal
+  unfolding rule OpenClose.openOwn OpenClose.close Create.create AdjustScope.scope AdjustDefaults.adjust Duplicate.duplicate Restrict.restrict Install.install Link.withBoth Link.link Link.getLinked issued used changeToken putToken withTokens Fits refusal
   by-rule (Request.openOwn mask) = (omega arith, λ a. (omega arith, λ b. next-handle))
   by-rule (Request.close n) = (omega arith, λ a. omega arith)
   by-rule (Request.create user session integrity present byDefault gs) = (omega arith, λ a. (omega arith, λ b. (omega arith, λ c. next-handle)))
@@ -355,6 +356,11 @@ module _ (σ : State) (f : StateFacts σ) (s : ℕ) where
   by-rule (Request.install n) = on-handle n _ _ λ k. (omega arith, λ a. (omega arith, λ b. (omega arith, λ c. omega arith)))
   by-rule (Request.impersonate n) = impersonates n
   by-rule Request.revert = reverts
+  by-rule (Request.link n m session) = (omega arith, λ a. (omega arith, λ b. (omega arith, λ c. (omega arith, λ d. (omega arith, λ e. omega arith)))))
+  by-rule (Request.linked n) = on-handle n _ _ λ k. (
+    omega arith,
+    λ a. on-if Fits (held σ s tcb) _ _ (λ t. (omega arith, λ b. next-handle)) (λ t. (omega arith, λ b. next-handle)),
+  )
 
   by-read : (r : Read Request) → Fits (decided σ s r)
   unfolding decided Fits refusal

@@ -1,25 +1,27 @@
 -- Every call, on any memory: what it answers fits, a refusal does nothing, and only a request answered 0 alters a right. Assumes nothing.
-use Prim.Native.Nat.{ℕ, zero, suc, _+_, _≤_}
+use Prim.Native.Nat.{ℕ, zero, suc, _+_, _*_, _≤_}
 use native.Mathlib.Omega.{arith}
 use mathlib.Core.Path.{_≡_, refl, sym, ap, ap₂, _∙_, subst}
 use mathlib.Core.Bool.{true}
 use mathlib.Core.Logic.{_⊎_, inl, inr, ⊎-elim}
 use mathlib.Core.List.{List, [], _∷_, _++_, map}
 use lib.Dec.{leb, ltb}
-use lib.ListN.{length, drop, getD}
-use Rattle.table.specs.Table.{flat}
+use lib.ListN.{length, take, drop, getD, length-map}
+use lib.Seq.{drop-at}
+use Rattle.table.specs.Table.{flat, length-flat}
 use Rattle.table.specs.Column.{column}
 use Rattle.rules.specs.Basic.{changeAt}
 use Rattle.rules.specs.Refusal.{ranks, streamBroken, noStation, shortBuffer, invalidMemory}
-use Rattle.rules.specs.Table.{Table}
+use Rattle.rules.specs.Table.{Slot, Table}
 use Rattle.rules.specs.Token.{Token}
 use Rattle.rules.specs.Handle.{Handle}
 use Rattle.rules.specs.Station.{Station, cleared, withPending}
-use Rattle.rules.specs.State.{State, start, stationCount, stationAt, withStations, changeStation, stationToken, stationClient}
+use Rattle.rules.specs.Pair.{Pair}
+use Rattle.rules.specs.State.{State, start, stationCount, pairSlots, stationAt, withStations, changeStation, stationToken, stationClient}
 use Rattle.rules.specs.Serve.{serve}
 use Rattle.rules.specs.Frame.{maxAnswer, frame, lengthOf, framedBy, framed, Framed, part, broken, whole}
 use Rattle.rules.specs.Model.{Result, Step, silent, answers, joined, byteAt, step, fedOn, fedFrom, reconnect}
-use Rattle.rules.specs.Memory.{Memory, stationWords, primaryWord, clientWord, levelWord, slotRow, slotDacl, slotHandle, stationRow, sections, control, encode, decode, valid}
+use Rattle.rules.specs.Memory.{Memory, stationWords, pairWords, primaryWord, clientWord, levelWord, pairsIn, slotRow, slotDacl, slotHandle, stationRow, slotPair, sections, control, encode, decode, valid}
 use Rattle.rules.specs.Run.{Call, feeds, reconnects, returned, ofBytes, SameRights}
 use Rattle.rules.specs.Growth.{Mem, here, there}
 use Rattle.rules.specs.Calls.{Done, refusedOn, written, feedOn, reconnectOn}
@@ -29,6 +31,7 @@ use Rattle.rules.specs.AnyMemory.{statusesIn, statuses, counters, statio
 use Rattle.rules.proofs.Logic.{mem-none}
 use Rattle.rules.proofs.Tables.{on-if}
 use Rattle.rules.proofs.Facts.{StateFacts, valid-facts, facts-valid}
+use Rattle.rules.proofs.Rows.{length-stationRow}
 use Rattle.rules.proofs.Always.{clears}
 use Rattle.rules.proofs.Ladder.{served-status, ladder}
 use Rattle.rules.proofs.Answers.{serve-answers, serve-status, break-answers, break-status}
@@ -123,18 +126,32 @@ module _ {A : Type 0} (p : Station → A) (h : A → ℕ) (k : ℕ) (word : (x :
       ap₂ (λ i is. i ∷ is) (word x (at xs) ∙ ap h (cc) ∙ sym (word y (at ys)))
       (ap (column stationWords n) (next x (at xs)) ∙ rest ∙ ap (column stationWords n) (sym (next y (at ys))))
 
-rights-left : {p q : State} → SameRights p q → LeftAlone (encode p) (encode q)
+same-length : {A : Type 0} (p : Station → A) (xs ys : List Station) → map p xs ≡ map p ys → length xs ≡ length ys
+same-length p xs ys e = sym (length-map xs p) ∙ ap length e ∙ length-map ys p
+
+-- the pairs stand behind the stations' rows
+pairs-behind : (a b : ℕ) (xs : List Station) (l : List ℕ) → length xs ≡ stationCount → pairsIn (a ∷ b ∷ (flat stationRow xs ++ l)) ≡ take (pairSlots * pairWords) l
+pairs-behind a b xs l e =
+    ap (take (pairSlots * pairWords)) (drop-at (flat stationRow xs) l (stationCount * stationWords) (length-flat stationRow stationWords length-stationRow xs ∙ ap (λ (n : ℕ). n * stationWords) e))
+
+rights-left : {p q : State} → length (p .stations) ≡ stationCount → SameRights p q → LeftAlone (encode p) (encode q)
 unfolding encode control sections flat counters stationColumn stationRow stationToken stationClient
-rights-left {p} {q} h =
+rights-left {p} {q} long h =
     let t = sym (h .tokens) in
+    let behind : State → List ℕ = λ x. flat slotPair (x .pairs) ++ [] in
+    let same : behind q ≡ behind p = ap (λ (ps : List (Slot Pair)). flat slotPair ps ++ []) (sym (h .pairs)) in
+    let at : ℕ → List ℕ → List ℕ = λ k l. column stationWords stationCount (drop k (flat stationRow (q .stations) ++ l)) in
     record {
       tokens = ap (λ (x : Table Token). flat slotRow (x .slots)) t;
       dacls = ap (λ (x : Table Token). flat slotDacl (x .slots)) t;
       handles = ap (λ (x : Table Handle). map slotHandle (x .slots)) (sym (h .handles));
       counted = ap₂ (λ (x : Table Token) (y : Table Handle). x .next ∷ y .next ∷ []) t (sym (h .handles));
-      primary = same-column stationToken (λ n. n) primaryWord (λ x l. refl) (λ x l. refl) stationCount (q .stations) (p .stations) [] (sym (h .primary));
-      clients = same-column stationClient (λ c. c .token) clientWord (λ x l. refl) (λ x l. refl) stationCount (q .stations) (p .stations) [] (sym (h .clients));
-      levels = same-column stationClient (λ c. c .level) levelWord (λ x l. refl) (λ x l. refl) stationCount (q .stations) (p .stations) [] (sym (h .clients));
+      primary = ap (at primaryWord) same ∙ same-column stationToken (λ n. n) primaryWord (λ x l. refl) (λ x l. refl) stationCount (q .stations) (p .stations) (behind p) (sym (h .primary));
+      clients = ap (at clientWord) same ∙ same-column stationClient (λ c. c .token) clientWord (λ x l. refl) (λ x l. refl) stationCount (q .stations) (p .stations) (behind p) (sym (h .clients));
+      levels = ap (at levelWord) same ∙ same-column stationClient (λ c. c .level) levelWord (λ x l. refl) (λ x l. refl) stationCount (q .stations) (p .stations) (behind p) (sym (h .clients));
+      pairs =
+          pairs-behind (q .tokens .next) (q .handles .next) (q .stations) (behind q) (same-length stationToken (q .stations) (p .stations) (sym (h .primary)) ∙ long)
+          ∙ ap (take (pairSlots * pairWords)) same ∙ sym (pairs-behind (p .tokens .next) (p .handles .next) (p .stations) (behind p) long);
     }
 
 -- ---- a call
@@ -155,7 +172,7 @@ module _ (m : Memory) where
       record {
         isAnswer = e .isAnswer;
         status = e .status;
-        leftAlone = λ z. record { tokens = refl; dacls = refl; handles = refl; counted = refl; primary = refl; clients = refl; levels = refl };
+        leftAlone = λ z. record { tokens = refl; dacls = refl; handles = refl; counted = refl; primary = refl; clients = refl; levels = refl; pairs = refl };
         listed = i;
         refused = λ k. refl;
       }
@@ -166,7 +183,7 @@ module _ (m : Memory) where
       record {
         isAnswer = h .isAnswer;
         status = h .status;
-        leftAlone = λ z. subst (λ (x : Memory). LeftAlone x (encode (r .after))) (valid-written m v) (rights-left (rights-trans (cleared-rights (decode m) s) (h .rights z)));
+        leftAlone = λ z. subst (λ (x : Memory). LeftAlone x (encode (r .after))) (valid-written m v) (rights-left (valid-facts (decode m) (valid-state m v) .loose .stations) (rights-trans (cleared-rights (decode m) s) (h .rights z)));
         listed = here e;
         refused = λ k. absurd (k e);
       }

@@ -3,54 +3,122 @@ use Prim.Native.Nat.{ℕ, zero, suc, _<_, _≤_}
 use native.Mathlib.Nat.{le-refl, le-trans}
 use native.Mathlib.Omega.{arith}
 use mathlib.Core.Path.{_≡_, refl, sym, ap, ap₂, _∙_, subst}
-use mathlib.Core.Bool.{true}
+use mathlib.Core.Bool.{true, false}
 use mathlib.Core.Logic.{_⊎_, inl, inr, ⊎-elim}
 use mathlib.Core.List.{List, [], _∷_, _++_, map}
-use Rattle.rules.specs.Basic.{nonZero, changeAt}
+use lib.ListN.{length}
+use borrow.Author.Tests.{eq-eqb}
+use Rattle.rules.specs.Basic.{distinct, nonZero, changeAt}
 use Rattle.rules.specs.Decision.{canIssue}
-use Rattle.rules.specs.Growth.{Mem, Follows, Before, Later, HandlesLater}
+use Rattle.rules.specs.Growth.{Mem, Live, Follows, Later, HandlesLater}
 use Rattle.rules.specs.Handle.{isHandle, Handle}
+use Rattle.rules.specs.Linking.{InPair, Linked}
 use Rattle.rules.specs.Number.{max32, max64}
-use Rattle.rules.specs.State.{tokenSlots, handleSlots, withTokens, withHandles, withStations, changeStation, setToken, setClient, numberOf, isNumbered, putToken, canAddToken, addToken, handleNumber, canAddHandle, addHandle, dropHandle, handleToken, stationToken, clientToken, references, isReferred, released, State}
+use Rattle.rules.specs.Pair.{isOf, Pair}
+use Rattle.rules.specs.State.{tokenSlots, handleSlots, withTokens, withHandles, withStations, changeStation, setToken, setClient, numberOf, isNumbered, putToken, canAddToken, addToken, handleNumber, canAddHandle, addHandle, dropHandle, pairSlots, withPairs, hasPair, setPair, handleToken, stationToken, clientToken, elevatedToken, filteredToken, references, isReferred, released, State}
 use Rattle.rules.specs.Station.{noClient, withToken, withClient, withPending, cleared, brokenOff, Station, Client}
-use Rattle.rules.specs.Table.{lives, withSlots, canAdd, added, retained, Table, live}
-use Rattle.rules.specs.Token.{primary, impersonation, Token}
-use Rattle.rules.specs.Valid.{handleValid, streamValid}
-use Rattle.rules.proofs.Logic.{and-l, mem-nonZero, nonZero-mem, mem-left, mem-right, mem-append, length-changeAt, mem-changeAt, map-mem, mem-by, mem-map}
+use Rattle.rules.specs.Table.{isLive, lives, withSlots, canAdd, added, found, retained, Slot, Table, free, live}
+use Rattle.rules.specs.Token.{primary, impersonation, defaultElevation, Token, Identity}
+use Rattle.rules.specs.Valid.{handleValid, streamValid, sessionOf}
+use Rattle.rules.proofs.Logic.{and-l, not-both, mem-nonZero, nonZero-mem, mem-left, mem-right, mem-append, length-changeAt, mem-changeAt, map-mem, mem-by, mem-map}
 use Rattle.rules.proofs.Bits.{within-refl, within-trans}
-use Rattle.rules.proofs.Tables.{in-placed, placed-new, in-exchanged, some-free, in-retained, retained-in, number-placed, placed-number, in-freed, number-freed, same-numbers, only-one}
+use Rattle.rules.proofs.Tables.{on-if, in-placed, placed-new, length-placed, found-none, in-exchanged, exchanged-new, length-exchanged, distinct-placed, some-free, in-retained, retained-in, number-placed, placed-number, in-freed, number-freed, same-numbers, only-one}
 use Rattle.rules.proofs.Facts.{TokenFacts, added-facts, put-facts, freed-facts, retained-facts, Acts, Loose, StateFacts, is-referred, referred-is}
 
 -- ---- what lasts, over any time
 
+-- the elevation stays, or was Default
+abbrev pub ElevationStays : Token → Token → Type 0
+ElevationStays t u = (u .elevation ≡ t .elevation) ⊎ (t .elevation ≡ defaultElevation)
+
+elevation-stays : (t u v : Token) → ElevationStays t u → ElevationStays u v → ElevationStays t v
+elevation-stays t u v a b = ⊎-elim (λ e. ⊎-elim (λ q. inl (q ∙ e)) (λ q. inr (sym e ∙ q)) b) (λ e. inr e) a
+
 pub follows-refl : (t : Token) → Follows t t
-follows-refl t = search within-refl
+follows-refl t = let elevation : ElevationStays t t = inl refl in search within-refl
 
 pub follows-trans : (t u v : Token) → Follows t u → Follows u v → Follows t v
 follows-trans t u v a b =
     let number = b .number ∙ a .number in
     let identity = b .identity ∙ a .identity in
     let sids = b .sids ∙ a .sids in
+    let elevation = elevation-stays t u v (a .elevation) (b .elevation) in
     search (within-trans, a .denied, b .denied)
 
--- a token that was there is there as it was
-same : (x : Table Token) (u : Token) → Mem u (lives (x .slots)) → Before x u
-same x u m = record { token = u; was = m; follows = follows-refl u }
+-- what is there after a token was put
+put-in : (d : State) (u : Token) {v : Token} → Mem v (lives (putToken u d .tokens .slots)) → (v ≡ u) ⊎ Mem v (lives (d .tokens .slots))
+unfolding putToken withTokens withSlots
+put-in d u {v} m = ⊎-elim (λ e. inl (cc)) (λ k. inr k) (in-exchanged (isNumbered (u .number)) (live u) (d .tokens .slots) m)
 
-pub later-refl : (x : Table Token) → Later x x
-later-refl x = record { next = le-refl _; old = λ u m h. same x u m }
+-- any relation R of a token that was there, in the table x, and the same token later
+pub record Carried (R : Token → Token → Type 0) (x : Table Token) (u : Token) : Type 0 where
+  pub token : Token
+  pub was : Mem token (lives (x .slots))
+  pub number : u .number ≡ token .number
+  pub holds : R token u
 
-pub later-trans : (x y z : Table Token) → Later x y → Later y z → Later x z
-later-trans x y z a b =
+-- it holds of every token of y that is no new one
+pub record Carries (R : Token → Token → Type 0) (x y : Table Token) : Type 0 where
+  pub next : x .next ≤ y .next
+  pub old : (u : Token) → Mem u (lives (y .slots)) → u .number < x .next → Carried R x u
+
+pub carries-trans : (R : Token → Token → Type 0) → ((t u v : Token) → R t u → R u v → R t v) → {x y z : Table Token} → Carries R x y → Carries R y z → Carries R x z
+carries-trans R trans a b =
     record {
       next = le-trans (a .next) (b .next);
       old = λ v m h.
-          let g : v .number < y .next = let k = a .next in omega arith in
-          let p = b .old v m g in
-          let u = p .token in
-          let q = a .old u (p .was) (let e = p .follows .number in omega arith) in
-          record { token = q .token; was = q .was; follows = follows-trans (q .token) u v (q .follows) (p .follows) };
+          let p = b .old v m (let k = a .next in omega arith) in
+          let q = a .old (p .token) (p .was) (let e = p .number in omega arith) in
+          record { token = q .token; was = q .was; number = p .number ∙ q .number; holds = trans (q .token) (p .token) v (q .holds) (p .holds) };
     }
+
+-- of a token that is live before and after
+pub carried : (R : Token → Token → Type 0) (d e : State) → Loose d → Carries R (d .tokens) (e .tokens) → (t u : Token)
+    → Mem t (lives (d .tokens .slots)) → Mem u (lives (e .tokens .slots)) → u .number ≡ t .number → R t u
+unfolding numberOf
+carried R d e l c t u mt mu q =
+    let below = l .tokens .given (t .number) (map-mem numberOf mt) .1 in
+    let b = c .old u mu (omega arith) in
+    subst (λ (z : Token). R z u) (only-one numberOf (d .tokens .slots) (l .tokens .apart) (b .was) mt (sym (b .number) ∙ q)) (b .holds)
+
+module _ (R : Token → Token → Type 0) (alike : (t : Token) → R t t) where
+  same : (x : Table Token) (u : Token) → Mem u (lives (x .slots)) → Carried R x u
+  same x u m = record { token = u; was = m; number = refl; holds = alike u }
+
+  pub carries-refl : (x : Table Token) → Carries R x x
+  carries-refl x = record { next = le-refl _; old = λ u m h. same x u m }
+
+  -- a token is put in the place of one, a new one is added, some are freed
+  pub put-carries : (d : State) (t u : Token) → Mem t (lives (d .tokens .slots)) → u .number ≡ t .number → R t u → Carries R (d .tokens) (putToken u d .tokens)
+  unfolding putToken withTokens withSlots
+  put-carries d t u was e r =
+      record { next = le-refl _; old = λ v m h. ⊎-elim (λ q. rw q (record { token = t; was = was; number = e; holds = r })) (same (d .tokens) v) (put-in d u m) }
+
+  pub add-carries : (d : State) (t : Token) → t .number ≡ d .tokens .next → Carries R (d .tokens) (addToken t d .tokens)
+  unfolding addToken withTokens added
+  add-carries d t number =
+      record {
+        next = omega arith;
+        old = λ v m h. ⊎-elim (λ e. absurd (let k = ap (λ (x : Token). x .number) e in omega arith)) (same (d .tokens) v) (in-placed t (d .tokens .slots) m);
+      }
+
+  pub release-carries : (d : State) → Carries R (d .tokens) (released d .tokens)
+  unfolding released withTokens withSlots
+  release-carries d = record { next = le-refl _; old = λ v m h. same (d .tokens) v (in-retained (isReferred d) (d .tokens .slots) m .0) }
+
+-- `Later` is this of `Follows`
+later-of : {x y : Table Token} → Carries Follows x y → Later x y
+later-of c = record { next = c .next; old = λ u m h. let b = c .old u m h in record { token = b .token; was = b .was; follows = b .holds } }
+
+pub of-later : {x y : Table Token} → Later x y → Carries Follows x y
+of-later c =
+    record { next = c .next; old = λ u m h. let b = c .old u m h in record { token = b .token; was = b .was; number = b .follows .number; holds = b .follows } }
+
+pub later-refl : (x : Table Token) → Later x x
+later-refl x = later-of (carries-refl Follows follows-refl x)
+
+pub later-trans : (x y z : Table Token) → Later x y → Later y z → Later x z
+later-trans x y z a b = later-of (carries-trans Follows follows-trans (of-later a) (of-later b))
 
 pub handles-refl : (x : Table Handle) → HandlesLater x x
 handles-refl x = record { next = le-refl _; old = λ h m k. m }
@@ -72,40 +140,97 @@ pub drop-later : (d : State) (s n : ℕ) → HandlesLater (d .handles) (dropHand
 unfolding dropHandle withHandles withSlots
 drop-later d s n = record { next = le-refl _; old = λ h m k. in-freed handleNumber (isHandle s n) (d .handles .slots) m }
 
--- ---- a token is put in the place of one that it follows
+-- ---- what is referred to
 
 abbrev pub numbersOf : State → List ℕ
 numbersOf d = map numberOf (lives (d .tokens .slots))
 
--- a handle's token, a station's, and the one that it acts for are referred to
+-- a handle's token, a station's, the one that it acts for, and those of a linked pair are referred to
 pub by-handle : (d : State) {n : ℕ} → Mem n (map handleToken (lives (d .handles .slots))) → Mem n (references d)
 unfolding references
-by-handle d m = mem-left _ (mem-left _ m)
+by-handle d m = mem-left _ (mem-left _ (mem-left _ (mem-left _ m)))
 
 pub by-station : (d : State) {n : ℕ} → Mem n (map stationToken (d .stations)) → Mem n (references d)
 unfolding references
-by-station d m = mem-left _ (mem-right (map handleToken (lives (d .handles .slots))) m)
+by-station d m = mem-left _ (mem-left _ (mem-left _ (mem-right (map handleToken (lives (d .handles .slots))) m)))
 
 pub by-client : (d : State) {n : ℕ} → Mem n (map clientToken (d .stations)) → 1 ≤ n → Mem n (references d)
 unfolding references
-by-client d m h = mem-right (map handleToken (lives (d .handles .slots)) ++ map stationToken (d .stations)) (nonZero-mem _ m h)
+by-client d m h = mem-left _ (mem-left _ (mem-right (map handleToken (lives (d .handles .slots)) ++ map stationToken (d .stations)) (nonZero-mem _ m h)))
+
+pub by-elevated : (d : State) {n : ℕ} → Mem n (map elevatedToken (lives (d .pairs))) → Mem n (references d)
+unfolding references
+by-elevated d m = mem-left _ (mem-right (map handleToken (lives (d .handles .slots)) ++ map stationToken (d .stations) ++ nonZero (map clientToken (d .stations))) m)
+
+pub by-filtered : (d : State) {n : ℕ} → Mem n (map filteredToken (lives (d .pairs))) → Mem n (references d)
+unfolding references
+by-filtered d m =
+    mem-right (map handleToken (lives (d .handles .slots)) ++ map stationToken (d .stations) ++ nonZero (map clientToken (d .stations)) ++ map elevatedToken (lives (d .pairs))) m
 
 -- whatever is referred to is so by one of them
 pub by-any : (d : State) {n : ℕ} {P : Type 0} → (Mem n (map handleToken (lives (d .handles .slots))) → P) → (Mem n (map stationToken (d .stations)) → P)
-    → (Mem n (map clientToken (d .stations)) → 1 ≤ n → P) → Mem n (references d) → P
+    → (Mem n (map clientToken (d .stations)) → 1 ≤ n → P) → (Mem n (map elevatedToken (lives (d .pairs))) → P) → (Mem n (map filteredToken (lives (d .pairs))) → P) → Mem n (references d) → P
 unfolding references
-by-any d h s c m =
-    ⊎-elim (λ a. ⊎-elim h s (mem-append _ a)) (λ b. let r = mem-nonZero _ b in c (r .0) (r .1)) (mem-append _ m)
+by-any d h s c e f m =
+    ⊎-elim (λ k. ⊎-elim (λ j. ⊎-elim (λ a. ⊎-elim h s (mem-append _ a)) (λ b. let r = mem-nonZero _ b in c (r .0) (r .1)) (mem-append _ j)) e (mem-append _ k)) f (mem-append _ m)
 
-put-in : (d : State) (u : Token) {v : Token} → Mem v (lives (putToken u d .tokens .slots)) → (v ≡ u) ⊎ Mem v (lives (d .tokens .slots))
-unfolding putToken withTokens withSlots
-put-in d u {v} m = ⊎-elim (λ e. inl (cc)) (λ k. inr k) (in-exchanged (isNumbered (u .number)) (live u) (d .tokens .slots) m)
+-- ---- a linked pair over a step
+
+-- its tokens stay Full and Limited where they stay
+module _ (d e : State) (l : Loose d) (later : Later (d .tokens) (e .tokens)) where
+  in-later : {n k s : ℕ} → (k ≡ defaultElevation → ⊥) → Mem n (numbersOf e) → (x : InPair d n k s) → (y : InPair e n k s) × (y .token .identity ≡ x .token .identity)
+  unfolding numberOf Live
+  in-later {n} {k} ne m x =
+      let r = mem-map numberOf (lives (e .tokens .slots)) m in
+      let u = r .0 in
+      let f = carried Follows d e l (of-later later) (x .token) u (x .live) (r .1) (sym (r .2) ∙ sym (x .number)) in (
+        record {
+          token = u;
+          live = r .1;
+          number = sym (r .2);
+          elevation = ⊎-elim (λ q. q ∙ x .elevation) (λ q. absurd (ne (sym (x .elevation) ∙ q))) (f .elevation);
+          type = ap (λ (i : Identity). i .type) (f .identity) ∙ x .type;
+          session = ap (λ (i : Identity). i .session) (f .identity) ∙ x .session;
+        },
+        f .identity,
+      )
+
+  still-linked : {p : Pair} → Mem (p .elevated) (numbersOf e) → Mem (p .filtered) (numbersOf e) → Linked d p → Linked e p
+  still-linked i j was =
+      let a = in-later (λ q. omega arith) i (was .elevated) in
+      let b = in-later (λ q. omega arith) j (was .filtered) in
+      record {
+        elevated = a .0;
+        filtered = b .0;
+        user = ap (λ (i : Identity). i .user) (a .1) ∙ was .user ∙ sym (ap (λ (i : Identity). i .user) (b .1));
+      }
+
+  -- where all that is referred to stays, so do they
+  linked-later : ((n : ℕ) → Mem n (references d) → Mem n (numbersOf e)) → (p : Pair) → Mem p (lives (d .pairs)) → Linked e p
+  unfolding elevatedToken filteredToken
+  linked-later kept p m =
+      still-linked (kept _ (by-elevated d (map-mem elevatedToken m))) (kept _ (by-filtered d (map-mem filteredToken m))) (l .pairs p m)
+
+-- ---- a token is put in the place of one that it follows
 
 pub put-numbers : (d : State) (u : Token) → numbersOf (putToken u d) ≡ numbersOf d
 unfolding putToken withTokens withSlots isNumbered numberOf
 put-numbers d u = same-numbers numberOf u (d .tokens .slots)
 
+-- it is there
+pub put-there : (d : State) (u : Token) → Mem (u .number) (numbersOf d) → Mem u (lives (putToken u d .tokens .slots))
+unfolding putToken withTokens withSlots isNumbered numberOf
+put-there d u m =
+    let r = mem-map numberOf (lives (d .tokens .slots)) m in
+    exchanged-new (isNumbered (u .number)) u (d .tokens .slots) (r .1) (eq-eqb (r .0 .number) (u .number) (sym (r .2)))
+
 module _ (d : State) (t u : Token) (was : Mem t (lives (d .tokens .slots))) (f : Follows t u) where
+  pub put-later : Later (d .tokens) (putToken u d .tokens)
+  put-later = later-of (put-carries Follows follows-refl d t u was (f .number) f)
+
+  put-kept : Loose d → (n : ℕ) → Mem n (references d) → Mem n (numbersOf (putToken u d))
+  put-kept l n m = rw (put-numbers d u) (l .live n m)
+
   pub put-loose : TokenFacts u → Loose d → Loose (putToken u d)
   unfolding putToken withTokens withSlots references isNumbered numberOf
   put-loose g l =
@@ -116,7 +241,7 @@ module _ (d : State) (t u : Token) (was : Mem t (lives (d .tokens .slots))) (f :
         eachToken = λ v m. ⊎-elim (λ e. rw e g) (l .eachToken v) (put-in d u m);
         eachHandle = l .eachHandle;
         eachStation = l .eachStation;
-        live = λ n m. rw (put-numbers d u) (l .live n m);
+        live = put-kept l;
         stationPrimary = λ v m k.
             ⊎-elim (λ e. ap (λ (x : Token). x .identity .type) e ∙ ap (λ x. x .type) (f .identity) ∙ l .stationPrimary t was (subst (λ (x : ℕ). Mem x (map stationToken (d .stations))) (ap (λ (x : Token). x .number) e ∙ f .number) k))
             (λ m. l .stationPrimary v m k)
@@ -126,14 +251,9 @@ module _ (d : State) (t u : Token) (was : Mem t (lives (d .tokens .slots))) (f :
             (λ i. l .clients v i x k e)
             (put-in d u m);
         idle = l .idle;
-      }
-
-  pub put-later : Later (d .tokens) (putToken u d .tokens)
-  unfolding putToken withTokens withSlots
-  put-later =
-      record {
-        next = le-refl _;
-        old = λ v m h. ⊎-elim (λ e. record { token = t; was = was; follows = rw e f }) (same (d .tokens) v) (put-in d u m);
+        pairsSized = l .pairsSized;
+        sessions = l .sessions;
+        pairs = linked-later d (putToken u d) l put-later (put-kept l);
       }
 
   pub put-reached : ((n : ℕ) → Mem n (numbersOf d) → Mem n (references d)) → (n : ℕ) → Mem n (numbersOf (putToken u d)) → Mem n (references (putToken u d))
@@ -151,6 +271,13 @@ module _ (d : State) (t : Token) (number : t .number ≡ d .tokens .next) where
       let low = l .tokens .low in
       unnumbered l (subst (λ (n : ℕ). Mem n (numbersOf d)) e (l .live (clientToken x) (by-client d (map-mem clientToken m) (omega arith))))
 
+  pub add-later : Later (d .tokens) (addToken t d .tokens)
+  add-later = later-of (add-carries Follows follows-refl d t number)
+
+  add-kept : Loose d → (n : ℕ) → Mem n (references d) → Mem n (numbersOf (addToken t d))
+  unfolding addToken withTokens added
+  add-kept l n m = placed-number numberOf t (d .tokens .slots) (l .live n m)
+
   pub add-loose : canAddToken d ≡ true → TokenFacts t → Loose d → Loose (addToken t d)
   unfolding addToken withTokens added references canAddToken numberOf
   add-loose room g l =
@@ -161,19 +288,14 @@ module _ (d : State) (t : Token) (number : t .number ≡ d .tokens .next) where
         eachToken = λ v m. ⊎-elim (λ e. rw e g) (l .eachToken v) (in-placed t (d .tokens .slots) m);
         eachHandle = l .eachHandle;
         eachStation = l .eachStation;
-        live = λ n m. placed-number numberOf t (d .tokens .slots) (l .live n m);
+        live = add-kept l;
         stationPrimary = λ v m k.
             ⊎-elim (λ e. absurd (unnumbered l (subst (λ (x : Token). Mem (x .number) (numbersOf d)) e (l .live (v .number) (by-station d k))))) (λ m. l .stationPrimary v m k) (in-placed t (d .tokens .slots) m);
         clients = λ v m x k e. ⊎-elim (λ q. absurd (unacted l x k (e ∙ ap (λ (y : Token). y .number) q))) (λ i. l .clients v i x k e) (in-placed t (d .tokens .slots) m);
         idle = l .idle;
-      }
-
-  pub add-later : Later (d .tokens) (addToken t d .tokens)
-  unfolding addToken withTokens added
-  add-later =
-      record {
-        next = omega arith;
-        old = λ v m h. ⊎-elim (λ e. absurd (let k = ap (λ (x : Token). x .number) e in omega arith)) (same (d .tokens) v) (in-placed t (d .tokens .slots) m);
+        pairsSized = l .pairsSized;
+        sessions = l .sessions;
+        pairs = linked-later d (addToken t d) l add-later (add-kept l);
       }
 
 -- ---- a new handle
@@ -192,10 +314,13 @@ module _ (d : State) (s n mask : ℕ) where
         eachStation = l .eachStation;
         live = λ k.
             by-any (addHandle s n mask d) (λ a. ⊎-elim (λ e. rw e on) (λ b. l .live k (by-handle d b)) (number-placed handleToken h (d .handles .slots) a))
-            (λ b. l .live k (by-station d b)) (λ c i. l .live k (by-client d c i));
+            (λ b. l .live k (by-station d b)) (λ c i. l .live k (by-client d c i)) (λ c. l .live k (by-elevated d c)) (λ c. l .live k (by-filtered d c));
         stationPrimary = l .stationPrimary;
         clients = l .clients;
         idle = l .idle;
+        pairsSized = l .pairsSized;
+        sessions = l .sessions;
+        pairs = linked-later d (addHandle s n mask d) l (later-refl (d .tokens)) (l .live);
       }
 
   -- every token but token n was referred to before
@@ -205,7 +330,7 @@ module _ (d : State) (s n mask : ℕ) where
       let h : Handle = record { station = s; number = d .handles .next; token = n; mask = mask } in
       let e = addHandle s n mask d in
       ⊎-elim (λ q. by-handle e (mem-by handleToken q (placed-new h (d .handles .slots) (and-l _ _ room))))
-      (by-any d (λ a. by-handle e (placed-number handleToken h (d .handles .slots) a)) (λ b. by-station e b) (λ c i. by-client e c i))
+      (by-any d (λ a. by-handle e (placed-number handleToken h (d .handles .slots) a)) (λ b. by-station e b) (λ c i. by-client e c i) (λ c. by-elevated e c) (λ c. by-filtered e c))
       (r k m)
 
 -- ---- a handle is dropped, a station gets another token: then tokens may be unreferred
@@ -220,10 +345,75 @@ drop-loose d s n l =
       eachToken = l .eachToken;
       eachHandle = λ k m. l .eachHandle k (in-freed handleNumber (isHandle s n) (d .handles .slots) m);
       eachStation = l .eachStation;
-      live = λ k m. l .live k (by-any (dropHandle s n d) (λ a. by-handle d (number-freed handleToken (isHandle s n) (d .handles .slots) a)) (by-station d) (λ c i. by-client d c i) m);
+      live = λ k m. l .live k (by-any (dropHandle s n d) (λ a. by-handle d (number-freed handleToken (isHandle s n) (d .handles .slots) a)) (by-station d) (λ c i. by-client d c i) (by-elevated d) (by-filtered d) m);
       stationPrimary = l .stationPrimary;
       clients = l .clients;
       idle = l .idle;
+      pairsSized = l .pairsSized;
+      sessions = l .sessions;
+      pairs = linked-later d (dropHandle s n d) l (later-refl (d .tokens)) (l .live);
+    }
+
+-- ---- a session gets another pair: then too
+
+no-pair : (d : State) (s : ℕ) → hasPair d s ≡ false → Mem s (map sessionOf (lives (d .pairs))) → ⊥
+unfolding hasPair isLive isOf sessionOf
+no-pair d s h m =
+    let r = mem-map sessionOf (lives (d .pairs)) m in
+    go (found (isOf s) (d .pairs)) refl h (r .1) (eq-eqb (r .0 .session) s (sym (r .2)))
+  where
+    go : (p : Slot Pair) → found (isOf s) (d .pairs) ≡ p → isLive p ≡ false → {q : Pair} → Mem q (lives (d .pairs)) → isOf s q ≡ true → ⊥
+    go free e h m t = found-none (isOf s) (d .pairs) e m t
+    go (live p) e h m t = not-both refl h
+
+-- its old pair is gone: sessions stay distinct
+set-sessions : (d : State) (p : Pair) → distinct (map sessionOf (lives (d .pairs))) ≡ true → distinct (map sessionOf (lives (setPair p d .pairs))) ≡ true
+unfolding setPair withPairs isOf sessionOf
+set-sessions d p apart =
+    on-if (λ (ps : List (Slot Pair)). distinct (map sessionOf (lives ps)) ≡ true) (hasPair d (p .session)) _ _
+    (λ t. ap distinct (same-numbers sessionOf p (d .pairs)) ∙ apart) (λ t. distinct-placed sessionOf p (d .pairs) (no-pair d (p .session) t) apart)
+
+set-in : (d : State) (p : Pair) {q : Pair} → Mem q (lives (setPair p d .pairs)) → (q ≡ p) ⊎ Mem q (lives (d .pairs))
+unfolding setPair withPairs
+set-in d p {q} =
+    on-if (λ ps. Mem q (lives ps) → (q ≡ p) ⊎ Mem q (lives (d .pairs))) (hasPair d (p .session)) _ _
+    (λ t m. ⊎-elim (λ e. inl (cc)) (λ k. inr k) (in-exchanged (isOf (p .session)) (live p) (d .pairs) m))
+    (λ t m. in-placed p (d .pairs) m)
+
+-- the token that g names of each pair
+set-names : (d : State) (p : Pair) (g : Pair → ℕ) → Mem (g p) (numbersOf d) → ((n : ℕ) → Mem n (map g (lives (d .pairs))) → Mem n (numbersOf d))
+    → (n : ℕ) → Mem n (map g (lives (setPair p d .pairs))) → Mem n (numbersOf d)
+set-names d p g new old n m =
+    let r = mem-map g (lives (setPair p d .pairs)) m in
+    ⊎-elim (λ e. subst (λ (k : ℕ). Mem k (numbersOf d)) (sym (r .2 ∙ ap g e)) new) (λ k. old n (mem-by g (r .2) k)) (set-in d p (r .1))
+
+pub pair-loose : (d : State) (p : Pair) → Linked d p → Loose d → Loose (setPair p d)
+unfolding setPair withPairs elevatedToken filteredToken numberOf Live
+pair-loose d p new l =
+    let i : Mem (p .elevated) (numbersOf d) = mem-by numberOf (sym (new .elevated .number)) (new .elevated .live) in
+    let j : Mem (p .filtered) (numbersOf d) = mem-by numberOf (sym (new .filtered .number)) (new .filtered .live) in
+    record {
+      tokens = l .tokens;
+      handles = l .handles;
+      stations = l .stations;
+      eachToken = l .eachToken;
+      eachHandle = l .eachHandle;
+      eachStation = l .eachStation;
+      live = λ n.
+          by-any (setPair p d) (λ h. l .live n (by-handle d h)) (λ s. l .live n (by-station d s)) (λ c i. l .live n (by-client d c i))
+          (set-names d p elevatedToken i (λ k m. l .live k (by-elevated d m)) n)
+          (set-names d p filteredToken j (λ k m. l .live k (by-filtered d m)) n);
+      stationPrimary = l .stationPrimary;
+      clients = l .clients;
+      idle = l .idle;
+      pairsSized =
+          on-if (λ (ps : List (Slot Pair)). length ps ≡ pairSlots) (hasPair d (p .session)) _ _
+          (λ t. length-exchanged _ (live p) (d .pairs) ∙ l .pairsSized) (λ t. length-placed p (d .pairs) ∙ l .pairsSized);
+      sessions = set-sessions d p (l .sessions);
+      pairs = λ q m.
+          ⊎-elim (λ e. subst (Linked (setPair p d)) (sym e) (still-linked d (setPair p d) l (later-refl (d .tokens)) i j new))
+          (linked-later d (setPair p d) l (later-refl (d .tokens)) (l .live) q)
+          (set-in d p m);
     }
 
 -- ---- a change of one station
@@ -267,10 +457,14 @@ token-loose d s t was p l =
       live = λ n.
           by-any (setToken s (t .number) d) (λ a. l .live n (by-handle d a))
           (λ b. ⊎-elim (λ e. rw e (map-mem numberOf was)) (λ c. l .live n (by-station d c)) (token-set n b))
-          (λ c i. l .live n (by-client d (rw (same-map clientToken (withToken (t .number)) (λ x. refl) s (d .stations)) at c) i));
+          (λ c i. l .live n (by-client d (rw (same-map clientToken (withToken (t .number)) (λ x. refl) s (d .stations)) at c) i))
+          (λ c. l .live n (by-elevated d c)) (λ c. l .live n (by-filtered d c));
       stationPrimary = λ v m k. ⊎-elim (λ e. ap (λ (y : Token). y .identity .type) (only-one numberOf (d .tokens .slots) (l .tokens .apart) m was e) ∙ p) (l .stationPrimary v m) (token-set (v .number) k);
       clients = λ v m. each-client d s (withToken (t .number)) (λ c. c .token ≡ v .number → Acts (v .identity) c) (l .clients v m) (l .clients v m);
       idle = each-client d s (withToken (t .number)) (λ c. c .token ≡ 0 → c .level ≡ 0) (l .idle) (l .idle);
+      pairsSized = l .pairsSized;
+      sessions = l .sessions;
+      pairs = linked-later d (setToken s (t .number) d) l (later-refl (d .tokens)) (l .live);
     }
   where
     token-set : (n : ℕ) → Mem n (map stationToken (changeAt s (withToken (t .number)) (d .stations))) → (n ≡ numberOf t) ⊎ Mem n (map stationToken (d .stations))
@@ -315,10 +509,13 @@ client-loose d s c may l =
       eachToken = l .eachToken;
       eachHandle = l .eachHandle;
       eachStation = each-station d s (withClient c) (λ x m. with-client c x ∙ l .eachStation x m) l;
-      live = λ n. by-any (setClient s c d) (λ a. l .live n (by-handle d a)) (λ b. l .live n (by-station d (rw same at b))) (client-set n);
+      live = λ n. by-any (setClient s c d) (λ a. l .live n (by-handle d a)) (λ b. l .live n (by-station d (rw same at b))) (client-set n) (λ b. l .live n (by-elevated d b)) (λ b. l .live n (by-filtered d b));
       stationPrimary = λ v m k. l .stationPrimary v m (rw same at k);
       clients = λ v m. each-client d s (withClient c) (λ c. c .token ≡ v .number → Acts (v .identity) c) (l .clients v m) (λ x k. may .fits v m);
       idle = each-client d s (withClient c) (λ c. c .token ≡ 0 → c .level ≡ 0) (l .idle) (λ x m. may .idle);
+      pairsSized = l .pairsSized;
+      sessions = l .sessions;
+      pairs = linked-later d (setClient s c d) l (later-refl (d .tokens)) (l .live);
     }
   where
     client-set : (n : ℕ) → Mem n (map clientToken (changeAt s (withClient c) (d .stations))) → 1 ≤ n → Mem n (numbersOf d)
@@ -348,7 +545,7 @@ only-broken = record { token = λ x. refl; client = λ x. refl }
 same-references : (d : State) (s : ℕ) (f : Station → Station) → OnlyStream f → references (changeStation s f d) ≡ references d
 unfolding changeStation withStations references clientToken
 same-references d s f only =
-    ap₂ (λ (a b : List ℕ). map handleToken (lives (d .handles .slots)) ++ a ++ nonZero b) (same-map stationToken f (only .token) s (d .stations))
+    ap₂ (λ (a b : List ℕ). map handleToken (lives (d .handles .slots)) ++ a ++ nonZero b ++ map elevatedToken (lives (d .pairs)) ++ map filteredToken (lives (d .pairs))) (same-map stationToken f (only .token) s (d .stations))
     (same-map clientToken f (λ x. ap (λ (c : Client). c .token) (only .client x)) s (d .stations))
 
 pub stream-facts : (d : State) (s : ℕ) (f : Station → Station) → OnlyStream f → ((x : Station) → Mem x (d .stations) → streamValid (f x) ≡ true) → StateFacts d → StateFacts (changeStation s f d)
@@ -370,11 +567,22 @@ stream-facts d s f only ok k =
             let P : Client → Type 0 = λ c. c .token ≡ v .number → Acts (v .identity) c in
             each-client d s f P (l .clients v m) (λ x i. subst P (sym (only .client x)) (l .clients v m x i));
         idle = let P : Client → Type 0 = λ c. c .token ≡ 0 → c .level ≡ 0 in each-client d s f P (l .idle) (λ x i. subst P (sym (only .client x)) (l .idle x i));
+        pairsSized = l .pairsSized;
+        sessions = l .sessions;
+        pairs = linked-later d (changeStation s f d) l (later-refl (d .tokens)) (l .live);
       };
       reached = λ n m. subst (Mem n) (sym same) (k .reached n m);
     }
 
 -- ---- every token that nothing refers to is freed
+
+release-kept : (d : State) → Loose d → (n : ℕ) → Mem n (references d) → Mem n (numbersOf (released d))
+unfolding released withTokens withSlots
+release-kept d l n m =
+    let r = mem-map numberOf (lives (d .tokens .slots)) (l .live n m) in mem-by numberOf (r .2) (retained-in (isReferred d) (d .tokens .slots) (r .1) (referred-is d n (r .0) (r .2) m))
+
+pub release-later : (d : State) → Later (d .tokens) (released d .tokens)
+release-later d = later-of (release-carries Follows follows-refl d)
 
 pub release-facts : (d : State) → Loose d → StateFacts (released d)
 unfolding released withTokens withSlots references
@@ -387,17 +595,16 @@ release-facts d l =
         eachToken = λ v m. l .eachToken v (in-retained (isReferred d) (d .tokens .slots) m .0);
         eachHandle = l .eachHandle;
         eachStation = l .eachStation;
-        live = λ n m. let r = mem-map numberOf (lives (d .tokens .slots)) (l .live n m) in mem-by numberOf (r .2) (retained-in (isReferred d) (d .tokens .slots) (r .1) (referred-is d n (r .0) (r .2) m));
+        live = release-kept d l;
         stationPrimary = λ v m k. l .stationPrimary v (in-retained (isReferred d) (d .tokens .slots) m .0) k;
         clients = λ v m. l .clients v (in-retained (isReferred d) (d .tokens .slots) m .0);
         idle = l .idle;
+        pairsSized = l .pairsSized;
+        sessions = l .sessions;
+        pairs = linked-later d (released d) l (release-later d) (release-kept d l);
       };
       reached = λ n m. let r = mem-map numberOf (lives (retained (isReferred d) (d .tokens .slots))) m in is-referred d n (r .0) (r .2) (in-retained (isReferred d) (d .tokens .slots) (r .1) .1);
     }
-
-pub release-later : (d : State) → Later (d .tokens) (released d .tokens)
-unfolding released withTokens withSlots
-release-later d = record { next = le-refl _; old = λ v m h. same (d .tokens) v (in-retained (isReferred d) (d .tokens .slots) m .0) }
 
 -- ---- a new token, and then a handle on it
 

@@ -9,6 +9,7 @@ use Rattle.rules.specs.Token as Token
 use Rattle.rules.specs.Table as Table
 use Rattle.rules.specs.Handle as Handle
 use Rattle.rules.specs.Station as Station
+use Rattle.rules.specs.Pair as Pair
 use Rattle.rules.specs.State as State
 use Rattle.rules.specs.Index as Index
 use Rattle.rules.specs.Entry as Entry
@@ -26,6 +27,7 @@ use Rattle.rules.specs.Duplicate as Duplicate
 use Rattle.rules.specs.Restrict as Restrict
 use Rattle.rules.specs.Install as Install
 use Rattle.rules.specs.Impersonate as Impersonate
+use Rattle.rules.specs.Link as Link
 use Rattle.rules.specs.Serve as Serve
 use Rattle.rules.specs.Frame as Frame
 use Rattle.rules.specs.Model as Model
@@ -34,6 +36,7 @@ use Rattle.rules.specs.Ladder as Ladder
 use Rattle.rules.specs.Run as Run
 use Rattle.rules.specs.Growth as Growth
 use Rattle.rules.specs.Acting as Acting
+use Rattle.rules.specs.Linking as Linking
 use Rattle.rules.specs.Memory as Memory
 
 unfoldable pub computes : Unit {0}
@@ -44,16 +47,17 @@ unfolding
     Mask.permits Mask.validMask
     Privileges.exists Privileges.isEnabled Privileges.enable Privileges.disable Privileges.remove Privileges.reset Privileges.markUsed Privileges.onlyUsed Privileges.granted
     Group.noGroup Group.isMandatory Group.isEnabledByDefault Group.isEnabled Group.isOwner Group.isDenyOnly Group.isLogon Group.isFixed Group.withEnabled Group.denied
-    Token.sidAt Token.isRestricted Token.primaryOf Token.noLimits Token.noDefaults Token.newToken Token.startToken Token.withPrivileges Token.withGroups Token.withDefaults Token.withScope Token.nextModified
+    Token.sidAt Token.isRestricted Token.primaryOf Token.noLimits Token.noDefaults Token.newToken Token.startToken Token.withPrivileges Token.withGroups Token.withDefaults Token.withElevation Token.withScope Token.nextModified
     Table.isLive Table.orElse Table.lives Table.someFree Table.found Table.withSlots Table.placed Table.canAdd Table.added Table.exchanged Table.retained
     Handle.noHandle Handle.isHandle
     Station.noClient Station.startStation Station.withToken Station.withClient Station.withPending Station.cleared Station.brokenOff
-    State.start State.withTokens State.withHandles State.withStations State.stationAt State.changeStation State.setToken State.clientAt State.setClient State.numberOf State.isNumbered State.noToken State.tokenOf State.callerNumber State.caller State.held State.putToken State.changeToken State.usedOn State.used State.canAddToken State.addToken State.handleNumber State.findHandle State.handleOf State.canAddHandle State.addHandle State.dropHandle State.handleToken State.stationToken State.stationClient State.clientToken State.references State.isReferred State.released
+    Pair.noPair Pair.isOf Pair.has Pair.partner
+    State.start State.withTokens State.withHandles State.withStations State.withPairs State.stationAt State.changeStation State.setToken State.clientAt State.setClient State.numberOf State.isNumbered State.noToken State.tokenOf State.callerNumber State.caller State.held State.putToken State.changeToken State.usedOn State.used State.canAddToken State.addToken State.handleNumber State.findHandle State.handleOf State.canAddHandle State.addHandle State.dropHandle State.pairOf State.hasPair State.canLink State.setPair State.handleToken State.stationToken State.stationClient State.clientToken State.elevatedToken State.filteredToken State.references State.isReferred State.released
     Index.freeIndex Index.foundIndex Index.freedOne
     Entry.keyOf Entry.isOnly Entry.validEntries Entry.applyAll
     Refusal.refusal Refusal.capacityBelow
     Decision.carriedOut Decision.withHandle Decision.canIssue Decision.issued
-    Request.follow Request._>>=_ Request.give Request.end Request.byte Request.times Request.u16 Request.u32 Request.u64 Request.group Request.entry Request.numberLayout Request.entriesLayout Request.createLayout Request.queryLayout Request.scopeLayout Request.defaultsLayout Request.duplicateLayout Request.restrictLayout Request.unknown Request.layouts Request.parse
+    Request.follow Request._>>=_ Request.give Request.end Request.byte Request.times Request.u16 Request.u32 Request.u64 Request.group Request.entry Request.numberLayout Request.entriesLayout Request.createLayout Request.queryLayout Request.scopeLayout Request.defaultsLayout Request.duplicateLayout Request.restrictLayout Request.linkLayout Request.unknown Request.layouts Request.parse
     OpenClose.openOwn OpenClose.close
     Create.validPair Create.validIntegrity Create.validCreate Create.entered Create.create
     Query.pairs Query.words Query.classes Query.classBytes Query.query
@@ -65,13 +69,15 @@ unfolding
     Restrict.isBelow Restrict.restrictingTo Restrict.narrows Restrict.validRestrict Restrict.deniedAll Restrict.limited Restrict.restricted Restrict.restrict
     Install.matches Install.marked Install.install
     Impersonate.alike Impersonate.passes Impersonate.mayAct Impersonate.inForce Impersonate.marked Impersonate.impersonate Impersonate.revert
+    Link.withBoth Link.isOfSession Link.linkable Link.linked Link.link Link.partnerOf Link.clone Link.getLinked
     Serve.rule Serve.decided Serve.decision Serve.serve
     Frame.frame Frame.secondOf Frame.lengthOf Frame.framedBy Frame.framed
     Model.joined Model.byteAt Model.step Model.refused Model.fedOn Model.fedFrom Model.feed Model.reconnect
-    Valid.isByte Valid.is32 Valid.is64 Valid.between Valid.identityValid Valid.privilegesValid Valid.groupValid Valid.groupsValid Valid.limitsValid Valid.defaultsValid Valid.tokenValid Valid.handleValid Valid.isPart Valid.streamValid Valid.tableValid Valid.isToken Valid.primaryAtStation Valid.clientFits Valid.clientAtStations Valid.levelValid Valid.valid
+    Valid.isByte Valid.is32 Valid.is64 Valid.between Valid.identityValid Valid.privilegesValid Valid.groupValid Valid.groupsValid Valid.limitsValid Valid.defaultsValid Valid.tokenValid Valid.handleValid Valid.isPart Valid.streamValid Valid.tableValid Valid.isToken Valid.primaryAtStation Valid.clientFits Valid.clientAtStations Valid.levelValid Valid.sessionOf Valid.pairFits Valid.pairValid Valid.pairsValid Valid.valid
     Ladder.failing Ladder.firstOf Ladder.status
     Run.returned Run.after Run.noted Run.answered Run.ofBytes Run.eventsOf Run.events Run.happens Run.stateOf Run.told Run.afterEvents Run.answersTo Run.stationOf Run.notedAt Run.timed Run.placeOf Run.toldAt Run.timedTo Run.untilUsed Run.outcomeOf Run.outcomeAt Run.outcomes Run.servedBy Run.answerTo Run.answeredAt Run.answeredFrom Run.OneByOne
-    Growth.sidOf Growth.Live Growth.LiveHandle Growth.sourceAt Growth.sourceOf Growth.Copying Growth.makesRoot Growth.Creating
+    Growth.sidOf Growth.Live Growth.LiveHandle Growth.sourceAt Growth.partnerAt Growth.sourceOf Growth.Copying Growth.makesRoot Growth.Creating
     Acting.setsClient Acting.ClientKept
-    Memory.sized Memory.mark Memory.pack Memory.unpack Memory.head Memory.tokenRow Memory.daclRow Memory.slotRow Memory.slotDacl Memory.slotHandle Memory.stationRow Memory.pendingRow Memory.sections Memory.control Memory.encode Memory.identityAt Memory.privilegesAt Memory.groupsAt Memory.limitsAt Memory.defaultsAt Memory.tokenAt Memory.slotAt Memory.handleAt Memory.stationAt Memory.decode Memory.same Memory.sameHandle Memory.sameHandles Memory.sameMemory Memory.isImage Memory.valid
+    Linking.PairsKept Linking.ElevationKept
+    Memory.sized Memory.mark Memory.pack Memory.unpack Memory.head Memory.tokenRow Memory.daclRow Memory.slotRow Memory.slotDacl Memory.slotHandle Memory.stationRow Memory.pairRow Memory.slotPair Memory.pendingRow Memory.sections Memory.control Memory.encode Memory.identityAt Memory.privilegesAt Memory.groupsAt Memory.limitsAt Memory.defaultsAt Memory.tokenAt Memory.slotAt Memory.handleAt Memory.stationAt Memory.pairAt Memory.decode Memory.same Memory.sameHandle Memory.sameHandles Memory.sameMemory Memory.isImage Memory.valid
 computes = tt

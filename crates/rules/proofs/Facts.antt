@@ -1,7 +1,7 @@
 -- A valid state, as facts. Assumes nothing.
 use Prim.Native.Nat.{ℕ, _-_, _≤_, _<_}
 use native.Mathlib.Omega.{arith}
-use mathlib.Core.Path.{_≡_, refl, ap, _∙_}
+use mathlib.Core.Path.{_≡_, refl, sym, ap, _∙_}
 use mathlib.Core.Bool.{Bool, true}
 use mathlib.Core.Logic.{⊎-elim}
 use mathlib.Core.List.{List, map}
@@ -10,16 +10,19 @@ use lib.ListN.{length}
 use borrow.Author.Tests.{eqb-true, eq-eqb, leb-true, le-leb, ltb-true}
 use Rattle.rules.specs.Basic.{all, member, distinct}
 use Rattle.rules.specs.Group.{Group}
-use Rattle.rules.specs.Growth.{Mem}
+use Rattle.rules.specs.Growth.{Mem, Live}
 use Rattle.rules.specs.Handle.{Handle}
+use Rattle.rules.specs.Link.{isOfSession}
+use Rattle.rules.specs.Linking.{InPair, Linked}
 use Rattle.rules.specs.Number.{max32, max64}
-use Rattle.rules.specs.State.{tokenSlots, handleSlots, stationCount, numberOf, handleNumber, stationToken, clientToken, references, isReferred, State}
+use Rattle.rules.specs.Pair.{Pair}
+use Rattle.rules.specs.State.{tokenSlots, handleSlots, stationCount, pairSlots, numberOf, isNumbered, noToken, tokenOf, handleNumber, stationToken, clientToken, references, isReferred, State}
 use Rattle.rules.specs.Station.{Station, Client}
-use Rattle.rules.specs.Table.{lives, someFree, withSlots, canAdd, added, exchanged, retained, Table, free, live}
-use Rattle.rules.specs.Token.{primary, impersonation, maxGroups, Token, Identity}
-use Rattle.rules.specs.Valid.{is32, is64, between, identityValid, privilegesValid, groupValid, groupsValid, limitsValid, defaultsValid, tokenValid, handleValid, streamValid, tableValid, isToken, primaryAtStation, clientFits, clientAtStations, levelValid, valid}
-use Rattle.rules.proofs.Logic.{and-l, and-r, and-i, implies-e, implies-i, all-mem, mem-all, map-mem, mem-map, member-mem, mem-member}
-use Rattle.rules.proofs.Tables.{length-placed, length-exchanged, length-retained, number-placed, number-retained, number-freed, distinct-placed, distinct-retained, distinct-freed, same-numbers}
+use Rattle.rules.specs.Table.{orElse, lives, someFree, withSlots, canAdd, added, found, exchanged, retained, Slot, Table, free, live}
+use Rattle.rules.specs.Token.{primary, impersonation, defaultElevation, full, limited, maxGroups, newToken, Token, Identity}
+use Rattle.rules.specs.Valid.{is32, is64, between, identityValid, privilegesValid, groupValid, groupsValid, limitsValid, defaultsValid, tokenValid, handleValid, streamValid, tableValid, isToken, primaryAtStation, clientFits, clientAtStations, levelValid, sessionOf, pairFits, pairValid, pairsValid, valid}
+use Rattle.rules.proofs.Logic.{and-l, and-r, and-i, implies-e, implies-i, all-mem, mem-all, map-mem, mem-by, mem-map, member-mem, mem-member}
+use Rattle.rules.proofs.Tables.{length-placed, length-exchanged, length-retained, number-placed, number-retained, number-freed, distinct-placed, distinct-retained, distinct-freed, same-numbers, found-in, found-some, only-one}
 
 -- ---- a token
 
@@ -60,7 +63,7 @@ pub record TableFacts {A : Type 0} (size top : ℕ) (number : A → ℕ) (x : Ta
   pub apart : distinct (map number (lives (x .slots))) ≡ true
   pub given : (n : ℕ) → Mem n (map number (lives (x .slots))) → (1 ≤ n) × (n < x .next)
 
-between-low : (a b n : ℕ) → between a b n ≡ true → a ≤ n
+pub between-low : (a b n : ℕ) → between a b n ≡ true → a ≤ n
 unfolding between
 between-low a b n h = leb-true a n (and-l (leb a n) (leb n b) h)
 
@@ -167,6 +170,9 @@ pub record Loose (d : State) : Type 0 where
   pub stationPrimary : (t : Token) → Mem t (lives (d .tokens .slots)) → Mem (t .number) (map stationToken (d .stations)) → t .identity .type ≡ primary
   pub clients : (t : Token) → Mem t (lives (d .tokens .slots)) → (x : Station) → Mem x (d .stations) → clientToken x ≡ t .number → Acts (t .identity) (x .client)
   pub idle : (x : Station) → Mem x (d .stations) → clientToken x ≡ 0 → x .client .level ≡ 0
+  pub pairsSized : length (d .pairs) ≡ pairSlots
+  pub sessions : distinct (map sessionOf (lives (d .pairs))) ≡ true
+  pub pairs : (p : Pair) → Mem p (lives (d .pairs)) → Linked d p
 
 pub record StateFacts (d : State) : Type 0 where
   pub loose : Loose d
@@ -212,6 +218,80 @@ idle-is : (x : Station) → (clientToken x ≡ 0 → x .client .level ≡ 0) →
 unfolding levelValid
 idle-is x h = implies-i (eqb (clientToken x) 0) _ (λ q. eq-eqb (x .client .level) 0 (h (eqb-true (clientToken x) 0 q)))
 
+-- ---- a linked pair: a dead number stands for a token of elevation Default, so one that fits is live
+
+not-default : (d : State) (n : ℕ) → (tokenOf d n .elevation ≡ defaultElevation → ⊥) → Live (tokenOf d n) d × (tokenOf d n .number ≡ n)
+unfolding tokenOf orElse noToken newToken isNumbered Live
+not-default d n h = go (found (isNumbered n) (d .tokens .slots)) refl h
+  where
+    go : (p : Slot Token) → found (isNumbered n) (d .tokens .slots) ≡ p → (orElse noToken p .elevation ≡ defaultElevation → ⊥)
+        → Mem (orElse noToken p) (lives (d .tokens .slots)) × (orElse noToken p .number ≡ n)
+    go free e h = absurd (h refl)
+    go (live t) e h = let r = found-in (isNumbered n) (d .tokens .slots) e in (r .0, eqb-true (t .number) n (r .1))
+
+-- the token of a live token's number
+pub token-at : (d : State) → distinct (map numberOf (lives (d .tokens .slots))) ≡ true → {t : Token} {n : ℕ} → Mem t (lives (d .tokens .slots)) → t .number ≡ n → tokenOf d n ≡ t
+unfolding tokenOf orElse isNumbered numberOf
+token-at d apart {t} {n} m e = go (found-some numberOf n (d .tokens .slots) (mem-by numberOf (sym e) m))
+  where
+    go : (u : Token) × (found (λ (c : Token). eqb (numberOf c) n) (d .tokens .slots) ≡ live u) → tokenOf d n ≡ t
+    go (u, q) =
+        let r = found-in (isNumbered n) (d .tokens .slots) q in
+        rw q (only-one numberOf (d .tokens .slots) apart (r .0) m (eqb-true (u .number) n (r .1) ∙ sym e))
+
+-- one of its tokens
+fits-pair : (d : State) (n e s : ℕ) → (e ≡ defaultElevation → ⊥) → eqb (tokenOf d n .elevation) e ≡ true → isOfSession s (tokenOf d n) ≡ true
+    → (x : InPair d n e s) × (x .token ≡ tokenOf d n)
+unfolding isOfSession
+fits-pair d n e s ne h k =
+    let t = tokenOf d n in
+    let q = eqb-true (t .elevation) e h in
+    let a = not-default d n (λ z. ne (sym q ∙ z)) in (
+      record {
+        token = t;
+        live = a .0;
+        number = a .1;
+        elevation = q;
+        type = eqb-true (t .identity .type) primary (and-l _ (eqb (t .identity .session) s) k);
+        session = eqb-true (t .identity .session) s (and-r (eqb (t .identity .type) primary) _ k);
+      },
+      refl,
+    )
+
+pair-fits : (d : State) {n e s : ℕ} → distinct (map numberOf (lives (d .tokens .slots))) ≡ true → (x : InPair d n e s)
+    → (eqb (tokenOf d n .elevation) e ≡ true) × (isOfSession s (tokenOf d n) ≡ true) × (tokenOf d n ≡ x .token)
+unfolding isOfSession Live
+pair-fits d {n} {e} {s} apart x =
+    let q = token-at d apart (x .live) (x .number) in (
+      rw q (eq-eqb (x .token .elevation) e (x .elevation)),
+      rw q (and-i (eq-eqb (x .token .identity .type) primary (x .type)) (eq-eqb (x .token .identity .session) s (x .session))),
+      q,
+    )
+
+is-linked : (d : State) (p : Pair) → pairValid d p ≡ true → Linked d p
+unfolding pairValid pairFits
+is-linked d p h =
+    let t = tokenOf d (p .elevated) in
+    let u = tokenOf d (p .filtered) in
+    let a = fits-pair d (p .elevated) full (p .session) (λ q. omega arith) (search (and-l, and-r)) (search (and-l, and-r)) in
+    let b = fits-pair d (p .filtered) limited (p .session) (λ q. omega arith) (search (and-l, and-r)) (search (and-l, and-r)) in
+    let same : eqb (t .identity .user) (u .identity .user) ≡ true = search (and-l, and-r) in
+    record {
+      elevated = a .0;
+      filtered = b .0;
+      user =
+          ap (λ (x : Token). x .identity .user) (a .1) ∙ eqb-true (t .identity .user) (u .identity .user) same
+          ∙ sym (ap (λ (x : Token). x .identity .user) (b .1));
+    }
+
+linked-is : (d : State) (p : Pair) → distinct (map numberOf (lives (d .tokens .slots))) ≡ true → Linked d p → pairValid d p ≡ true
+unfolding pairValid pairFits
+linked-is d p apart l =
+    let a = pair-fits d apart (l .elevated) in
+    let b = pair-fits d apart (l .filtered) in
+    let user = ap (λ (x : Token). x .identity .user) (a .2) ∙ l .user ∙ sym (ap (λ (x : Token). x .identity .user) (b .2)) in
+    and-i (and-i (and-i (and-i (a .0) (a .1)) (b .0)) (b .1)) (eq-eqb _ _ user)
+
 pub is-referred : (d : State) (n : ℕ) (t : Token) → n ≡ numberOf t → isReferred d t ≡ true → Mem n (references d)
 unfolding isReferred numberOf
 is-referred d n t e h = rw e (member-mem (t .number) (references d) h)
@@ -221,20 +301,24 @@ unfolding isReferred numberOf
 referred-is d n t e m = mem-member (rw e at m)
 
 pub valid-facts : (d : State) → valid d ≡ true → StateFacts d
-unfolding valid clientAtStations
+unfolding valid clientAtStations pairsValid
 valid-facts d h =
     let ts = lives (d .tokens .slots) in
-    let tokens : tableValid tokenSlots max64 numberOf (d .tokens) ≡ true = search (and-l, and-r) depth 11 in
-    let handles : tableValid handleSlots max32 handleNumber (d .handles) ≡ true = search (and-l, and-r) depth 11 in
-    let stations : eqb (length (d .stations)) stationCount ≡ true = search (and-l, and-r) depth 11 in
-    let each : all tokenValid ts ≡ true = search (and-l, and-r) depth 11 in
-    let eachHandle : all handleValid (lives (d .handles .slots)) ≡ true = search (and-l, and-r) depth 11 in
-    let eachStation : all streamValid (d .stations) ≡ true = search (and-l, and-r) depth 11 in
-    let alive : all (isToken d) (references d) ≡ true = search (and-l, and-r) depth 11 in
-    let reached : all (isReferred d) ts ≡ true = search (and-l, and-r) depth 11 in
-    let primaries : all (primaryAtStation d) ts ≡ true = search (and-l, and-r) depth 11 in
-    let acts : all (clientAtStations d) ts ≡ true = search (and-l, and-r) depth 11 in
-    let idle : all levelValid (d .stations) ≡ true = search (and-l, and-r) depth 11 in
+    let tokens : tableValid tokenSlots max64 numberOf (d .tokens) ≡ true = search (and-l, and-r) depth 14 in
+    let handles : tableValid handleSlots max32 handleNumber (d .handles) ≡ true = search (and-l, and-r) depth 14 in
+    let stations : eqb (length (d .stations)) stationCount ≡ true = search (and-l, and-r) depth 14 in
+    let each : all tokenValid ts ≡ true = search (and-l, and-r) depth 14 in
+    let eachHandle : all handleValid (lives (d .handles .slots)) ≡ true = search (and-l, and-r) depth 14 in
+    let eachStation : all streamValid (d .stations) ≡ true = search (and-l, and-r) depth 14 in
+    let alive : all (isToken d) (references d) ≡ true = search (and-l, and-r) depth 14 in
+    let reached : all (isReferred d) ts ≡ true = search (and-l, and-r) depth 14 in
+    let primaries : all (primaryAtStation d) ts ≡ true = search (and-l, and-r) depth 14 in
+    let acts : all (clientAtStations d) ts ≡ true = search (and-l, and-r) depth 14 in
+    let idle : all levelValid (d .stations) ≡ true = search (and-l, and-r) depth 14 in
+    let paired : pairsValid d ≡ true = search (and-l, and-r) depth 14 in
+    let pairsSized : eqb (length (d .pairs)) pairSlots ≡ true = search (and-l, and-r) in
+    let sessions : distinct (map sessionOf (lives (d .pairs))) ≡ true = search (and-l, and-r) in
+    let linked : all (pairValid d) (lives (d .pairs)) ≡ true = search (and-l, and-r) in
     record {
       loose = record {
         tokens = table-facts tokenSlots max64 numberOf (d .tokens) tokens;
@@ -247,16 +331,19 @@ valid-facts d h =
         stationPrimary = λ t m k. is-primary d t (all-mem (primaryAtStation d) ts primaries m) k;
         clients = λ t m x k. is-client t x (all-mem (clientFits t) (d .stations) (all-mem (clientAtStations d) ts acts m) k);
         idle = λ x m. is-idle x (all-mem levelValid (d .stations) idle m);
+        pairsSized = eqb-true (length (d .pairs)) pairSlots pairsSized;
+        sessions = sessions;
+        pairs = λ p m. is-linked d p (all-mem (pairValid d) (lives (d .pairs)) linked m);
       };
       reached = λ n m. let r = mem-map numberOf ts m in is-referred d n (r .0) (r .2) (all-mem (isReferred d) ts reached (r .1));
     }
 
 pub facts-valid : (d : State) → StateFacts d → valid d ≡ true
-unfolding valid clientAtStations
+unfolding valid clientAtStations pairsValid
 facts-valid d f =
     let l = f .loose in
     let ts = lives (d .tokens .slots) in
-    and-i (and-i (and-i (and-i (and-i (and-i (and-i (and-i (and-i (and-i
+    and-i (and-i (and-i (and-i (and-i (and-i (and-i (and-i (and-i (and-i (and-i
     (facts-table tokenSlots max64 numberOf (d .tokens) (l .tokens))
     (facts-table handleSlots max32 handleNumber (d .handles) (l .handles)))
     (eq-eqb (length (d .stations)) stationCount (l .stations)))
@@ -267,4 +354,6 @@ facts-valid d f =
     (mem-all (isReferred d) ts (λ t m. referred-is d _ t refl (f .reached (numberOf t) (map-mem numberOf m)))))
     (mem-all (primaryAtStation d) ts (λ t m. primary-is d t (l .stationPrimary t m))))
     (mem-all (clientAtStations d) ts (λ t m. mem-all (clientFits t) (d .stations) (λ x k. client-is t x (l .clients t m x k)))))
-    (mem-all levelValid (d .stations) (λ x m. idle-is x (l .idle x m)))
+    (mem-all levelValid (d .stations) (λ x m. idle-is x (l .idle x m))))
+    (and-i (and-i (eq-eqb (length (d .pairs)) pairSlots (l .pairsSized)) (l .sessions))
+    (mem-all (pairValid d) (lives (d .pairs)) (λ p m. linked-is d p (l .tokens .apart) (l .pairs p m))))

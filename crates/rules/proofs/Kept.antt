@@ -2,11 +2,11 @@
 use Prim.Native.Nat.{ℕ, _^_, _<_, _≤_}
 use native.Mathlib.Omega.{arith}
 use mathlib.Core.Path.{_≡_, refl, sym, ap, _∙_, subst}
-use mathlib.Core.Bool.{true, _&&_}
+use mathlib.Core.Bool.{true, not, _&&_}
 use mathlib.Core.List.{List, map}
-use lib.Dec.{leb, ltb}
+use lib.Dec.{eqb, leb, ltb}
 use lib.ListN.{length, length-map}
-use borrow.Author.Tests.{eqb-true, lt-ltb, ltb-true, le-leb}
+use borrow.Author.Tests.{eqb-true, eq-eqb, lt-ltb, ltb-true, le-leb}
 use Rattle.rules.specs.AdjustDefaults as AdjustDefaults
 use Rattle.rules.specs.AdjustGroups as AdjustGroups
 use Rattle.rules.specs.AdjustPrivileges as AdjustPrivileges
@@ -18,33 +18,37 @@ use Rattle.rules.specs.Decision.{canIssue, issued}
 use Rattle.rules.specs.Duplicate as Duplicate
 use Rattle.rules.specs.Entry.{Entry}
 use Rattle.rules.specs.Group.{Group}
-use Rattle.rules.specs.Growth.{Mem}
+use Rattle.rules.specs.Growth.{Mem, Live, Follows}
 use Rattle.rules.specs.Handle.{Handle}
 use Rattle.rules.specs.Impersonate as Impersonate
 use Rattle.rules.specs.Install as Install
+use Rattle.rules.specs.Link as Link
+use Rattle.rules.specs.Linking.{InPair, Linked}
+use Rattle.rules.specs.Mask as Mask
 use Rattle.rules.specs.Mask.{allRights, validMask}
 use Rattle.rules.specs.Number.{max64, Read, got, bad}
 use Rattle.rules.specs.OpenClose as OpenClose
+use Rattle.rules.specs.Pair.{Pair}
 use Rattle.rules.specs.Privileges.{createToken, assignPrimaryToken, tcb, impersonate, existing, granted}
 use Rattle.rules.specs.Query as Query
 use Rattle.rules.specs.Request as Request
 use Rattle.rules.specs.Request.{parse, Request}
 use Rattle.rules.specs.Restrict as Restrict
 use Rattle.rules.specs.Serve.{rule, decided, decision, serve}
-use Rattle.rules.specs.State.{stationCount, withTokens, setToken, setClient, numberOf, tokenOf, callerNumber, caller, putToken, changeToken, usedOn, used, canAddToken, handleOf, canAddHandle, released, State}
+use Rattle.rules.specs.State.{stationCount, withTokens, setToken, setClient, numberOf, tokenOf, callerNumber, caller, held, putToken, changeToken, usedOn, used, canAddToken, handleOf, canAddHandle, released, State}
 use Rattle.rules.specs.Station.{noClient}
 use Rattle.rules.specs.Table.{someFree, withSlots, canAdd}
-use Rattle.rules.specs.Token.{maxGroups, maxRestricting, primary, impersonation, primaryOf, newToken, Token}
+use Rattle.rules.specs.Token.{maxGroups, maxRestricting, primary, impersonation, full, limited, primaryOf, newToken, withPrivileges, withElevation, Token, Identity}
 use Rattle.rules.specs.Valid.{isByte, is32, is64, between, identityValid, privilegesValid, groupsValid, handleValid}
-use Rattle.rules.proofs.Logic.{and-l, and-r, and-i, not-both, mem-by}
+use Rattle.rules.proofs.Logic.{and-l, and-r, and-i, not-both, not-e, mem-by}
 use Rattle.rules.proofs.Bits.{none-within}
-use Rattle.rules.proofs.Tables.{on-if, only-one}
-use Rattle.rules.proofs.Facts.{TokenFacts, StateFacts}
-use Rattle.rules.proofs.Changes.{numbersOf, put-numbers, put-room, none-may, token-may}
+use Rattle.rules.proofs.Tables.{on-if}
+use Rattle.rules.proofs.Facts.{TokenFacts, token-at, StateFacts}
+use Rattle.rules.proofs.Changes.{Carries, carried, put-carries, of-later, numbersOf, put-numbers, put-there, put-room, none-may, token-may}
 use Rattle.rules.proofs.Widths.{Got, sid32, Fits, parsed}
 use Rattle.rules.proofs.GroupsKept.{all-entered}
-use Rattle.rules.proofs.TokensKept.{After, used-after, privileges-after, groups-after, scope-after, defaults-after, new-facts, duplicated-made, restricted-made}
-use Rattle.rules.proofs.Steps.{Advance, stays, _then_, Is, token-ok, is-live, is-caller, change, open-step, issue-step, close-step, token-step, client-step, Ends, Keeps, ended, Found, on-handle, install-marked, client-marked}
+use Rattle.rules.proofs.TokensKept.{After, used-after, privileges-after, groups-after, scope-after, defaults-after, full-after, limited-after, new-facts, clone-made, duplicated-made, restricted-made}
+use Rattle.rules.proofs.Steps.{Advance, stays, _then_, Is, token-ok, is-live, is-caller, partner-live, change, open-step, issue-step, close-step, token-step, client-step, pair-step, Ends, Keeps, ended, Found, after-both, on-handle, install-marked, client-marked}
 
 -- ---- the token of a number, over a step
 
@@ -52,17 +56,32 @@ is-number : (d : State) (n : ℕ) → Is d n → Mem n (numbersOf d)
 unfolding numberOf
 is-number d n i = mem-by numberOf (sym (i .number)) (i .was)
 
-changed-is : (d : State) (m n : ℕ) (g : Token → Token) → Is d n → Is (changeToken m g d) n
+pub changed-is : (d : State) (m n : ℕ) (g : Token → Token) → Is d n → Is (changeToken m g d) n
 unfolding changeToken
 changed-is d m n g i = is-live (changeToken m g d) n (rw (put-numbers d (g (tokenOf d m))) (is-number d n i))
 
+-- what a step carries over, of the token of a number
+pub carried-token : (R : Token → Token → Type 0) (d e : State) (n : ℕ) → StateFacts d → Carries R (d .tokens) (e .tokens) → Is d n → Is e n → R (tokenOf d n) (tokenOf e n)
+carried-token R d e n f c i j = carried R d e (f .loose) c (tokenOf d n) (tokenOf e n) (i .was) (j .was) (j .number ∙ sym (i .number))
+
 pub same-identity : (d e : State) (n : ℕ) → StateFacts d → Advance d e → Is d n → Is e n → tokenOf e n .identity ≡ tokenOf d n .identity
-unfolding numberOf
-same-identity d e n f st i j =
-    let below = f .loose .tokens .given n (is-number d n i) .1 in
-    let b = st .later .old (tokenOf e n) (j .was) (let q = j .number in omega arith) in
-    b .follows .identity
-    ∙ ap (λ (t : Token). t .identity) (only-one numberOf (d .tokens .slots) (f .loose .tokens .apart) (b .was) (i .was) (sym (b .follows .number) ∙ j .number ∙ sym (i .number)))
+same-identity d e n f st i j = carried-token Follows d e n f (of-later (st .later)) i j .identity
+
+-- a token that is changed, and the others
+changed-token : (d : State) (n : ℕ) (g : Token → Token) → Is d n → g (tokenOf d n) .number ≡ tokenOf d n .number → StateFacts (changeToken n g d) → tokenOf (changeToken n g d) n ≡ g (tokenOf d n)
+unfolding changeToken
+changed-token d n g i same f =
+    let e = same ∙ i .number in
+    token-at (changeToken n g d) (f .loose .tokens .apart) (put-there d (g (tokenOf d n)) (subst (λ (k : ℕ). Mem k (numbersOf d)) (sym e) (is-number d n i))) e
+
+unfoldable Else : ℕ → Token → Token → Type 0
+Else n t u = (t .number ≡ n → ⊥) → u ≡ t
+
+others : (d : State) (n k : ℕ) (g : Token → Token) → StateFacts d → Is d n → g (tokenOf d n) .number ≡ tokenOf d n .number → (k ≡ n → ⊥) → Is d k → tokenOf (changeToken n g d) k ≡ tokenOf d k
+unfolding changeToken Else
+others d n k g f i same ne j =
+    carried-token (Else n) d (changeToken n g d) k f (put-carries (Else n) (λ t h. refl) d (tokenOf d n) (g (tokenOf d n)) (i .was) same (λ h. absurd (h (i .number)))) j (changed-is d n k g j)
+    (λ q. ne (sym (j .number) ∙ q))
 
 -- a live token's number is below the next one
 older : (d : State) (n : ℕ) → StateFacts d → Is d n → tokenOf d n .number ≤ d .tokens .next
@@ -86,6 +105,13 @@ mark d s n f in8 h =
     let a = used-after (tokenOf d r) n h (token-ok d r f i) in
     record { step = change d r (usedOn n) f i (a .facts) (a .follows); is = λ m j. changed-is d r m (usedOn n) j }
 
+-- what they leave alone of a token they carry over
+pub marks-carry : (R : Token → Token → Type 0) → ((t : Token) → R t t) → (d : State) (s n : ℕ) → StateFacts d → s < stationCount → ((t : Token) → R t (usedOn n t))
+    → Carries R (d .tokens) (used n s d .tokens)
+unfolding used changeToken usedOn withPrivileges
+marks-carry R alike d s n f in8 h =
+    let r = callerNumber d s in put-carries R alike d (tokenOf d r) (usedOn n (tokenOf d r)) (is-live d r (is-caller d s f in8) .was) refl (h (tokenOf d r))
+
 mark-again : (d e g : State) → Marked d e → Marked e g → Marked d g
 mark-again d e g a b = record { step = a .step then b .step; is = λ n i. b .is n (a .is n i) }
 
@@ -93,7 +119,11 @@ marked-room : (d : State) (s n : ℕ) → canIssue d ≡ true → canIssue (used
 unfolding used changeToken
 marked-room d s n h = put-room d (usedOn n (tokenOf d (callerNumber d s))) h
 
-marked-next : (d : State) (s n : ℕ) → used n s d .tokens .next ≡ d .tokens .next
+marked-handles : (d : State) (s n : ℕ) → canAddHandle d ≡ true → canAddHandle (used n s d) ≡ true
+unfolding used changeToken putToken withTokens canAddHandle
+marked-handles d s n h = h
+
+pub marked-next : (d : State) (s n : ℕ) → used n s d .tokens .next ≡ d .tokens .next
 unfolding used changeToken putToken withTokens withSlots
 marked-next d s n = refl
 
@@ -131,6 +161,14 @@ created n user session integrity present byDefault gs w wu ws wg ok =
     (and-i (and-i (and-i (and-i (and-i wu ws) level) refl) refl) refl)
     (and-i (and-i (and-i inside inside) known) (none-within existing))
     (and-i (ap (λ (k : ℕ). leb k maxGroups) (length-map gs Create.entered) ∙ few) (all-entered user gs each wg))
+
+-- ---- the states that request 16 goes through are valid, and the last one's tokens are such that they make the pair
+
+pub record LinkStages (d : State) (s session x y : ℕ) : Type 0 where
+  pub marked : StateFacts (used tcb s d)
+  pub raised : StateFacts (changeToken x (withElevation full) (used tcb s d))
+  pub lowered : StateFacts (changeToken y (withElevation limited) (changeToken x (withElevation full) (used tcb s d)))
+  pub linked : Linked (changeToken y (withElevation limited) (changeToken x (withElevation full) (used tcb s d))) (record { session = session; elevated = x; filtered = y })
 
 -- ---- the rules, one by one
 
@@ -254,6 +292,131 @@ module _ (d : State) (f : StateFacts d) (s : ℕ) (in8 : s < stationCount) where
   unfolding Impersonate.revert Ends
   reverts = client-step d s noClient f (none-may d (f .loose))
 
+  -- token x becomes Full, token y Limited, and they the session's pair
+  module _ (session x y : ℕ) (i : Is d x) (j : Is d y) (ok : Link.linkable session (tokenOf d x) (tokenOf d y) ≡ true) where
+    pair : Pair
+    pair = record { session = session; elevated = x; filtered = y }
+
+    d1 : State
+    d1 = used tcb s d
+
+    d2 : State
+    d2 = changeToken x (withElevation full) d1
+
+    d3 : State
+    d3 = changeToken y (withElevation limited) d2
+
+    apart : x ≡ y → ⊥
+    unfolding Link.linkable
+    apart e =
+        let t = tokenOf d x in
+        let u = tokenOf d y in
+        let h : not (eqb (t .number) (u .number)) ≡ true = search (and-l, and-r) in
+        not-e (eqb (t .number) (u .number)) h (eq-eqb (t .number) (u .number) (i .number ∙ e ∙ sym (j .number)))
+
+    marked : Marked d d1
+    unfolding has d1
+    marked = mark d s tcb f in8 refl
+
+    same-elevation : (n : ℕ) → Is d n → tokenOf d1 n .elevation ≡ tokenOf d n .elevation
+    unfolding d1 usedOn withPrivileges
+    same-elevation n k =
+        carried-token (λ t u. u .elevation ≡ t .elevation) d d1 n f (marks-carry (λ t u. u .elevation ≡ t .elevation) (λ t. refl) d s tcb f in8 (λ t. refl)) k (marked .is n k)
+
+    is2 : (n : ℕ) → Is d n → Is d2 n
+    unfolding d2
+    is2 n k = changed-is d1 x n (withElevation full) (marked .is n k)
+
+    is3 : (n : ℕ) → Is d n → Is d3 n
+    unfolding d3
+    is3 n k = changed-is d2 y n (withElevation limited) (is2 n k)
+
+    raised : Advance d1 d2
+    unfolding d2 Link.linkable
+    raised =
+        let k = marked .is x i in
+        let t = tokenOf d x in
+        let h : not (eqb (t .elevation) limited) ≡ true = search (and-l, and-r) in
+        let a =
+        full-after (tokenOf d1 x) (λ q. not-e (eqb (t .elevation) limited) h (eq-eqb (t .elevation) limited (sym (same-elevation x i) ∙ q)))
+        (token-ok d1 x (marked .step .facts) k) in
+        change d1 x (withElevation full) (marked .step .facts) k (a .facts) (a .follows)
+
+    -- token y is as it was marked
+    untouched : tokenOf d2 y ≡ tokenOf d1 y
+    unfolding d2 withElevation
+    untouched = others d1 x y (withElevation full) (marked .step .facts) (marked .is x i) refl (λ q. apart (sym q)) (marked .is y j)
+
+    lowered : Advance d2 d3
+    unfolding d3 Link.linkable
+    lowered =
+        let k = is2 y j in
+        let u = tokenOf d y in
+        let h : not (eqb (u .elevation) full) ≡ true = search (and-l, and-r) in
+        let was = ap (λ (t : Token). t .elevation) untouched ∙ same-elevation y j in
+        let a = limited-after (tokenOf d2 y) (λ q. not-e (eqb (u .elevation) full) h (eq-eqb (u .elevation) full (sym was ∙ q))) (token-ok d2 y (raised .facts) k) in
+        change d2 y (withElevation limited) (raised .facts) k (a .facts) (a .follows)
+
+    -- one of the pair, after both changes
+    in-pair : (n e : ℕ) (k : Is d n) → tokenOf d3 n .elevation ≡ e → Link.isOfSession session (tokenOf d n) ≡ true → (z : InPair d3 n e session) × (z .token .identity ≡ tokenOf d n .identity)
+    unfolding Link.isOfSession Live
+    in-pair n e k q h =
+        let t = tokenOf d n in
+        let at = is3 n k in
+        let same = same-identity d d3 n f (marked .step then raised then lowered) k at in (
+          record {
+            token = tokenOf d3 n;
+            live = at .was;
+            number = at .number;
+            elevation = q;
+            type = ap (λ (z : Identity). z .type) same ∙ eqb-true (t .identity .type) primary (and-l _ (eqb (t .identity .session) session) h);
+            session = ap (λ (z : Identity). z .session) same ∙ eqb-true (t .identity .session) session (and-r (eqb (t .identity .type) primary) _ h);
+          },
+          same,
+        )
+
+    linked : Linked d3 pair
+    unfolding pair d2 d3 Link.linkable withElevation
+    linked =
+        let t = tokenOf d x in
+        let u = tokenOf d y in
+        let up = others d2 y x (withElevation limited) (raised .facts) (is2 y j) refl apart (is2 x i) ∙ changed-token d1 x (withElevation full) (marked .is x i) refl (raised .facts) in
+        let down = changed-token d2 y (withElevation limited) (is2 y j) refl (lowered .facts) in
+        let a = in-pair x full i (ap (λ (z : Token). z .elevation) up) (search (and-l, and-r)) in
+        let b = in-pair y limited j (ap (λ (z : Token). z .elevation) down) (search (and-l, and-r)) in
+        let user : eqb (t .identity .user) (u .identity .user) ≡ true = search (and-l, and-r) in
+        record {
+          elevated = a .0;
+          filtered = b .0;
+          user = ap (λ (z : Identity). z .user) (a .1) ∙ eqb-true (t .identity .user) (u .identity .user) user ∙ sym (ap (λ (z : Identity). z .user) (b .1));
+        }
+
+    link-step : Advance d (released (Link.linked pair d1))
+    unfolding pair d2 d3 Link.linked
+    link-step = marked .step then raised then lowered then pair-step d3 pair (lowered .facts) linked
+
+    pub link-stages : LinkStages d s session x y
+    unfolding pair d1 d2 d3
+    link-stages = record { marked = marked .step .facts; raised = raised .facts; lowered = lowered .facts; linked = linked }
+
+  links : (n m session : ℕ) → Keeps d (Link.link d s n m session)
+  unfolding Link.link Ends pair d1
+  links n m session = after-both (Advance d) d s n m _ _ f λ a b may ok room. link-step session _ _ (a .token) (b .token) ok
+
+  gets-linked : (n : ℕ) → Keeps d (Link.getLinked d s n)
+  unfolding Link.getLinked issued Ends has validMask within
+  gets-linked n =
+      on-handle d s n _ _ f λ k paired.
+      let h = handleOf d s n in
+      let r = Link.partnerOf d (h .token) in
+      let i = partner-live d (h .token) f paired in
+      let m : Marked d (used tcb s d) = mark d s tcb f in8 refl in
+      on-if (Keeps d) (held d s tcb) _ _
+      (λ t room. m .step then open-step (used tcb s d) s r allRights (m .step .facts) in8 refl (marked-handles d s tcb room) (is-number (used tcb s d) r (m .is r i)))
+      (λ t room.
+      let u = clone-made (tokenOf d r) (d .tokens .next) (older d r f i) (next-64 d room) (token-ok d r f i) in
+      issue-step d s Mask.query (Link.clone (d .tokens .next) (tokenOf d r)) f in8 refl room (u .number) (u .facts))
+
   by-rule : (r : Request) → Fits r → Keeps d (rule d s r)
   unfolding rule Fits
   by-rule (Request.openOwn mask) w = opens mask
@@ -269,6 +432,8 @@ module _ (d : State) (f : StateFacts d) (s : ℕ) (in8 : s < stationCount) where
   by-rule (Request.install n) w = installs n
   by-rule (Request.impersonate n) w = impersonates n
   by-rule Request.revert w = reverts
+  by-rule (Request.link n m session) w = links n m session
+  by-rule (Request.linked n) w = gets-linked n
 
   by-read : (r : Read Request) → Got Fits r → Keeps d (decided d s r)
   unfolding decided Ends Got

@@ -3,15 +3,16 @@
 use Prim.Native.Nat.{ℕ, suc, _≤_}
 use native.Mathlib.Omega.{arith}
 use mathlib.Core.Path.{_≡_, refl, sym, ap}
-use mathlib.Core.Bool.{Bool, true, false, _&&_}
+use mathlib.Core.Bool.{Bool, true, false, not, _&&_}
 use mathlib.Core.Logic.{⊎-elim}
 use mathlib.Core.List.{List, [], _∷_}
 use lib.Dec.{eqb, leb}
 use borrow.Author.Tests.{eqb-true, eq-eqb, leb-true}
-use Rattle.rules.specs.Basic.{if_then_else_, member}
+use Rattle.rules.specs.Basic.{if_then_else_, filter, member}
 use Rattle.rules.specs.Number.{Read, got, bad}
 use Rattle.rules.specs.Refusal.{refusal, capacityBelow, ranks}
-use Rattle.rules.specs.State.{State}
+use Rattle.rules.specs.Privileges.{tcb}
+use Rattle.rules.specs.State.{State, held}
 use Rattle.rules.specs.Decision.{Decision, need_else_then_, success, carriedOut, withHandle, issued}
 use Rattle.rules.specs.Request.{Request, parse}
 use Rattle.rules.specs.OpenClose as OpenClose
@@ -25,6 +26,7 @@ use Rattle.rules.specs.Duplicate as Duplicate
 use Rattle.rules.specs.Restrict as Restrict
 use Rattle.rules.specs.Install as Install
 use Rattle.rules.specs.Impersonate as Impersonate
+use Rattle.rules.specs.Link as Link
 use Rattle.rules.specs.Serve.{rule, decided, decision, serve}
 use Rattle.rules.specs.Ladder.{failing, firstOf, status, Ladder}
 use Rattle.rules.specs.Growth.{Mem, here, there}
@@ -39,6 +41,11 @@ place (r ∷ rs) n = if eqb r n then 0 else suc (place rs n)
 rank : ℕ → ℕ
 rank n = place ranks n
 
+-- the order of the ranks is that of the numbers, but for 14
+pub but-for-14 : filter (λ n. not (eqb n 14)) ranks ≡ 1 ∷ 2 ∷ 3 ∷ 4 ∷ 5 ∷ 6 ∷ 7 ∷ 8 ∷ 9 ∷ []
+unfolding filter
+but-for-14 = refl
+
 -- the checks have ranks, which rise from k on
 rises : ℕ → Decision → Bool
 rises k (need_else_then_ b r rest) = member (r .number) ranks && leb k (rank (r .number)) && rises (rank (r .number)) rest
@@ -47,7 +54,7 @@ rises k (success after bytes) = true
 -- ---- of every request
 
 in-order : (σ : State) (s : ℕ) (r : Request) → rises 0 (rule σ s r) ≡ true
-unfolding rises rank place member rule refusal capacityBelow withHandle issued OpenClose.openOwn OpenClose.close Create.create Query.query AdjustPrivileges.adjust AdjustGroups.adjust AdjustScope.scope AdjustDefaults.adjust Duplicate.duplicate Restrict.restrict Install.install Impersonate.impersonate Impersonate.revert
+unfolding rises rank place member rule refusal capacityBelow withHandle issued OpenClose.openOwn OpenClose.close Create.create Query.query AdjustPrivileges.adjust AdjustGroups.adjust AdjustScope.scope AdjustDefaults.adjust Duplicate.duplicate Restrict.restrict Install.install Impersonate.impersonate Impersonate.revert Link.withBoth Link.link Link.getLinked
 in-order σ s (Request.openOwn mask) = refl
 in-order σ s (Request.close n) = refl
 in-order σ s (Request.create user session integrity present byDefault gs) = refl
@@ -61,6 +68,8 @@ in-order σ s (Request.restrict n mark removed deny sids) = refl
 in-order σ s (Request.install n) = refl
 in-order σ s (Request.impersonate n) = refl
 in-order σ s Request.revert = refl
+in-order σ s (Request.link n m session) = refl
+in-order σ s (Request.linked n) = on-if (λ x. rises (rank 14) x ≡ true) (held σ s tcb) _ _ (λ t. refl) (λ t. refl)
 
 of-body : (σ : State) (s : ℕ) (r : Read Request) → rises 0 (decided σ s r) ≡ true
 unfolding decided rises rank place member refusal

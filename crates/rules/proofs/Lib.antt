@@ -13,8 +13,10 @@ pub mod Restricting
 pub mod TokensKept
 pub mod Steps
 pub mod Kept
+pub mod Carrying
 pub mod Ladder
 pub mod Acting
+pub mod Linking
 pub mod Frames
 pub mod Answers
 pub mod Runs

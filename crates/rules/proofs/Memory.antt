@@ -1,25 +1,28 @@
 -- Valid memory is exactly what a valid state is written as: a valid state is read back from its memory, which is valid, and valid memory is
 -- what the valid state that it stands for is written as. The start is such a state. Assumes nothing.
 use Prim.Native.Nat.{ℕ, _*_}
-use mathlib.Core.Path.{_≡_, ap, _∙_}
+use mathlib.Core.Path.{_≡_, refl, sym, ap, ap₂, _∙_}
 use mathlib.Core.Bool.{true, _&&_}
-use mathlib.Core.List.{List}
+use mathlib.Core.List.{List, [], _∷_}
 use lib.ListN.{length-map}
 use borrow.Author.Tests.{eq-eqb}
 use Rattle.table.specs.Lists.{map-undo}
 use Rattle.table.specs.Table.{flat, length-flat}
 use Rattle.table.specs.Rows.{readRows, rows-written}
 use Rattle.rules.specs.Token.{maxDacl}
-use Rattle.rules.specs.State.{State, start, tokenSlots, stationCount, numberOf, handleNumber}
+use Rattle.rules.specs.State.{State, start, tokenSlots, stationCount, pairSlots, numberOf, handleNumber, elevatedToken}
+use Rattle.rules.specs.Pair.{Pair}
+use Rattle.rules.specs.Table.{Slot}
 use Rattle.rules.specs.Valid as Valid
 use Rattle.rules.specs.Valid.{streamValid}
-use Rattle.rules.specs.Memory.{Memory, tokenWords, stationWords, pendingBytes, slotRow, slotDacl, slotHandle, stationRow, pendingRow, sections, control, encode, slotAt, handleAt, stationAt, decode, sized, isImage, valid}
+use Rattle.rules.specs.Memory.{Memory, tokenWords, stationWords, pairWords, pendingBytes, slotRow, slotDacl, slotHandle, stationRow, slotPair, pendingRow, sections, control, encode, slotAt, handleAt, stationAt, pairAt, decode, sized, isImage, valid}
 use Rattle.rules.proofs.Logic.{and-l, and-r, and-i, map-mem}
 use Rattle.rules.proofs.Facts.{facts-token, valid-facts}
+use Rattle.rules.proofs.Changes.{by-elevated}
 use Rattle.rules.proofs.Always.{start-valid}
 use Rattle.rules.proofs.Same.{memory-eq, memory-refl}
-use Rattle.rules.proofs.Control.{control-long, stations-read}
-use Rattle.rules.proofs.Rows.{length-slotRow, length-slotDacl, length-stationRow, length-pendingRow, each, each-slot, TokenSlot, slot-back, HandleSlot, handle-back, station-back}
+use Rattle.rules.proofs.Control.{control-long, stations-read, pairs-read}
+use Rattle.rules.proofs.Rows.{length-slotRow, length-slotDacl, length-stationRow, length-slotPair, length-pendingRow, each, each-slot, TokenSlot, slot-back, HandleSlot, handle-back, PairSlot, pair-back, station-back}
 
 module _ (m : Memory) (v : valid m ≡ true) where
   pub valid-written : encode (decode m) ≡ m
@@ -30,9 +33,15 @@ module _ (m : Memory) (v : valid m ≡ true) where
   unfolding valid
   valid-state = and-r (sized m && isImage m) _ v
 
+-- rows of no words
+flat-none : (ps : List (Slot Pair)) → flat {A = ℕ} (λ (p : Slot Pair). []) ps ≡ []
+unfolding flat
+flat-none [] = refl
+flat-none (p ∷ ps) = flat-none ps
+
 module _ (σ : State) (v : Valid.valid σ ≡ true) where
   pub read-back : decode (encode σ) ≡ σ
-  unfolding decode encode control sections flat TokenSlot HandleSlot
+  unfolding decode encode control sections flat TokenSlot HandleSlot PairSlot elevatedToken
   read-back =
       let f = valid-facts σ v .loose in
       let ts = σ .tokens .slots in
@@ -52,6 +61,10 @@ module _ (σ : State) (v : Valid.valid σ ≡ true) where
             (ap (λ (ws : List ℕ). readRows stationAt stationWords pendingBytes stationCount ws (flat pendingRow (σ .stations))) (stations-read σ v)
             ∙ rows-written stationAt stationWords pendingBytes stationRow pendingRow length-stationRow length-pendingRow (λ x. streamValid x ≡ true) station-back
             stationCount (σ .stations) (f .stations) (each _ (σ .stations) (f .eachStation))) i;
+        pairs =
+            (ap₂ (readRows pairAt pairWords 0 pairSlots) (pairs-read σ v) (sym (flat-none (σ .pairs)))
+            ∙ rows-written pairAt pairWords 0 slotPair (λ p. []) length-slotPair (λ p. refl) PairSlot pair-back
+            pairSlots (σ .pairs) (f .pairsSized) (each-slot _ (σ .pairs) (λ p m. f .tokens .given (p .elevated) (f .live (p .elevated) (by-elevated σ (map-mem elevatedToken m))) .0))) i;
       }
 
   written-sized : sized (encode σ) ≡ true

@@ -17,11 +17,12 @@ use Rattle.rules.specs.Decision.{withHandle}
 use Rattle.rules.specs.Duplicate as Duplicate
 use Rattle.rules.specs.Duplicate.{isAnonymous}
 use Rattle.rules.specs.Group.{Group}
-use Rattle.rules.specs.Growth.{Creating, Live, Mem, here, there, Source, sourceAt, sourceOf, Copying, makesRoot, Rooted, none, old, created}
-use Rattle.rules.specs.Handle.{Handle}
+use Rattle.rules.specs.Growth.{Creating, Live, Mem, here, there, Source, sourceAt, partnerAt, sourceOf, Copying, makesRoot, Rooted, none, old, created}
+use Rattle.rules.specs.Handle.{noHandle, Handle}
 use Rattle.rules.specs.Impersonate as Impersonate
 use Rattle.rules.specs.Install as Install
 use Rattle.rules.specs.Ladder.{status}
+use Rattle.rules.specs.Link as Link
 use Rattle.rules.specs.Number.{Read, got, bad}
 use Rattle.rules.specs.OpenClose as OpenClose
 use Rattle.rules.specs.Privileges.{createToken}
@@ -31,16 +32,15 @@ use Rattle.rules.specs.Request.{parse, Request}
 use Rattle.rules.specs.Restrict as Restrict
 use Rattle.rules.specs.Run.{Call, Outcome, Serving, serves, breaks, servedBy, after, ofBytes, events, outcomes, OneByOne}
 use Rattle.rules.specs.Serve.{rule, decided, decision, serve}
-use Rattle.rules.specs.State.{State, withTokens, withHandles, withStations, changeStation, setToken, setClient, numberOf, putToken, changeToken, used, findHandle, addHandle, dropHandle, released}
-use Rattle.rules.specs.Table.{Slot, free, live, isLive, withSlots}
+use Rattle.rules.specs.State.{State, withTokens, withHandles, withStations, changeStation, setToken, setClient, numberOf, putToken, changeToken, used, findHandle, handleOf, addHandle, dropHandle, withPairs, pairOf, setPair, released}
+use Rattle.rules.specs.Table.{Slot, free, live, isLive, orElse, withSlots}
 use Rattle.rules.specs.Token.{Token, newToken, primaryOf}
 use Rattle.rules.proofs.Logic.{not-both, either, map-mem}
 use Rattle.rules.proofs.Facts.{StateFacts}
-use Rattle.rules.proofs.Changes.{put-numbers}
-use Rattle.rules.proofs.Steps.{Ends, ended, install-marked, client-marked}
+use Rattle.rules.proofs.Steps.{partner-live, Ends, ended, install-marked, client-marked}
 use Rattle.rules.proofs.Ladder.{ladder}
 use Rattle.rules.proofs.Always.{Onward, run-serves}
-use Rattle.rules.proofs.Sources.{Fresh, none-fresh, made, issues, of-serving}
+use Rattle.rules.proofs.Sources.{Fresh, none-fresh, marked-fresh, made, issues, of-serving}
 use Rattle.rules.proofs.Bound.{found-here, token-here}
 
 -- ---- one request: it makes no token, or copies one that is there, or makes a root
@@ -68,14 +68,22 @@ module _ (d : State) (f : StateFacts d) (s : ℕ) where
       go free k = nothing z (refused (λ h. not-both h (ap isLive k)))
       go (live h) k = copy z _ (e ∙ ap (sourceAt d b) k) (token-here d h f (found-here d s n h k .was) .was)
 
-  -- used marks make no token
-  marked-fresh : Fresh d (IsRoot d) (used createToken s d)
-  unfolding Fresh used changeToken numberOf
-  marked-fresh u m h = absurd (let k = f .loose .tokens .given (u .number) (rw (put-numbers d _) at (map-mem numberOf m)) .1 in omega arith)
+  -- the clone of a partner, if there is one
+  of-partner : (n : ℕ) (r : Read Request) → makesRoot r ≡ false → sourceOf d s r ≡ partnerAt d (findHandle d s n)
+      → ((isLive (findHandle d s n) ≡ true → isLive (pairOf d (handleOf d s n .token)) ≡ true → ⊥) → Ends (SameNext d) (decided d s r)) → Gives d s r
+  unfolding partnerAt Live isLive handleOf orElse
+  of-partner n r z e refused = go (findHandle d s n) refl
+    where
+      go : (p : Slot Handle) → findHandle d s n ≡ p → Gives d s r
+      go free k = nothing z (refused (λ h. absurd (not-both h (ap isLive k))))
+      go (live h) k =
+          ⊎-elim (λ y. copy z _ (e ∙ ap (partnerAt d) k) (partner-live d (h .token) f y .was))
+          (λ y. nothing z (refused (λ known paired. not-both paired (ap (λ p. isLive (pairOf d (orElse noHandle p .token))) k ∙ y))))
+          (either (isLive (pairOf d (h .token))))
 
   creates : (user session integrity present byDefault : ℕ) (gs : List Group) → Ends (Fresh d (IsRoot d)) (Create.create d s user session integrity present byDefault gs)
   unfolding Create.create Ends IsRoot newToken primaryOf
-  creates user session integrity present byDefault gs may ok room = issues d (used createToken s d) (IsRoot d) s _ _ marked-fresh (refl, refl)
+  creates user session integrity present byDefault gs may ok room = issues d (used createToken s d) (IsRoot d) s _ _ (marked-fresh d f (IsRoot d) createToken s) (refl, refl)
 
   install-marks : (t : Token) → SameNext d (Install.marked s t d)
   unfolding SameNext used changeToken putToken withTokens withSlots
@@ -86,7 +94,7 @@ module _ (d : State) (f : StateFacts d) (s : ℕ) where
   client-marks t = client-marked (SameNext d) d s t refl refl
 
   gives : (r : Read Request) → Gives d s r
-  unfolding decided rule sourceOf makesRoot Ends SameNext withHandle OpenClose.openOwn OpenClose.close Query.query AdjustPrivileges.adjust AdjustGroups.adjust AdjustScope.scope AdjustDefaults.adjust Duplicate.duplicate Restrict.restrict Install.install Impersonate.impersonate Impersonate.revert released addHandle dropHandle setToken setClient changeStation withStations withHandles withTokens withSlots used changeToken putToken
+  unfolding decided rule sourceOf makesRoot Ends SameNext withHandle OpenClose.openOwn OpenClose.close Query.query AdjustPrivileges.adjust AdjustGroups.adjust AdjustScope.scope AdjustDefaults.adjust Duplicate.duplicate Restrict.restrict Install.install Impersonate.impersonate Impersonate.revert Link.withBoth Link.link Link.linked Link.getLinked setPair withPairs released addHandle dropHandle setToken setClient changeStation withStations withHandles withTokens withSlots used changeToken putToken
   gives bad = nothing refl (λ h. absurd (not-both h refl))
   gives (got (Request.openOwn mask) bytes) = nothing refl (λ ok room. refl)
   gives (got (Request.close n) bytes) = nothing refl (λ known. refl)
@@ -101,6 +109,8 @@ module _ (d : State) (f : StateFacts d) (s : ℕ) where
   gives (got (Request.install n) bytes) = nothing refl (λ known may held ok match. install-marks _)
   gives (got (Request.impersonate n) bytes) = nothing refl (λ known may ok gate. client-marks _)
   gives (got Request.revert bytes) = nothing refl refl
+  gives (got (Request.link n m session) bytes) = nothing refl (λ known may held ok room. refl)
+  gives (got (Request.linked n) bytes) = of-partner n _ refl refl (λ no known may paired. absurd (no known paired))
 
 -- ---- one body
 

@@ -1,5 +1,5 @@
--- One record of the lent memory: how long its rows are, and that a valid token, a handle with a number and a valid station are read back
--- from what they are written as. Assumes nothing.
+-- One record of the lent memory: how long its rows are, and that a valid token, a handle with a number, a valid station and a linked pair are
+-- read back from what they are written as. Assumes nothing.
 use Prim.Native.Nat.{ℕ, zero, suc, _+_, _-_, _*_, _/_, _%_, _^_, _≤_, _<_}
 use native.Mathlib.Nat.{mod-eq-of-lt, add-comm}
 use native.Mathlib.Omega.{arith}
@@ -19,12 +19,13 @@ use Rattle.rules.specs.Token.{Token, maxGroups, maxRestricting, maxDacl}
 use Rattle.rules.specs.Table.{Slot, free, live, lives}
 use Rattle.rules.specs.Handle.{Handle, noHandle}
 use Rattle.rules.specs.Station.{Station}
+use Rattle.rules.specs.Pair.{Pair}
 use Rattle.rules.specs.State.{numberOf, handleNumber}
 use Rattle.rules.specs.Create.{validIntegrity}
 use Rattle.rules.specs.AdjustDefaults.{validOwner, validGroup}
 use Rattle.rules.specs.Frame.{maxBody, Length, unread, invalid, size, secondOf, lengthOf, part, whole, framedBy, framed}
 use Rattle.rules.specs.Valid.{is32, between, identityValid, groupValid, groupsValid, limitsValid, defaultsValid, tokenValid, isPart, streamValid}
-use Rattle.rules.specs.Memory.{tokenWords, stationWords, pendingBytes, word32, low32, mark, pack, unpack, head, tokenRow, daclRow, slotRow, slotDacl, slotHandle, stationRow, pendingRow, identityAt, privilegesAt, groupsAt, limitsAt, defaultsAt, tokenAt, slotAt, handleAt, stationAt}
+use Rattle.rules.specs.Memory.{tokenWords, stationWords, pairWords, pendingBytes, word32, low32, mark, pack, unpack, head, tokenRow, daclRow, slotRow, slotDacl, slotHandle, stationRow, pairRow, slotPair, pendingRow, identityAt, privilegesAt, groupsAt, limitsAt, defaultsAt, tokenAt, slotAt, handleAt, stationAt, pairAt}
 use Rattle.rules.proofs.Logic.{and-l, and-r, or-no, not-both, all-mem, member-mem}
 use Rattle.rules.proofs.Tables.{on-if}
 use Rattle.rules.proofs.Facts.{token-facts, few-groups}
@@ -52,6 +53,11 @@ length-slotDacl (live t) = length-daclRow t
 pub length-stationRow : (x : Station) → length (stationRow x) ≡ stationWords
 unfolding stationRow
 length-stationRow x = refl
+
+pub length-slotPair : (p : Slot Pair) → length (slotPair p) ≡ pairWords
+unfolding slotPair pairRow
+length-slotPair free = refl
+length-slotPair (live p) = refl
 
 pub length-pendingRow : (x : Station) → length (pendingRow x) ≡ pendingBytes
 unfolding pendingRow
@@ -200,6 +206,15 @@ pub handle-back : (p : Slot Handle) → HandleSlot p → handleAt (slotHandle p)
 unfolding HandleSlot handleAt slotHandle handleNumber noHandle
 handle-back free h = refl
 handle-back (live a) h = live-back h refl
+
+-- a pair's elevated token is live
+unfoldable pub PairSlot : Slot Pair → Type 0
+PairSlot = Holds (λ p. 1 ≤ p .elevated)
+
+pub pair-back : (p : Slot Pair) → PairSlot p → pairAt (slotPair p) [] ≡ p
+unfolding PairSlot pairAt slotPair pairRow
+pair-back free h = refl
+pair-back (live p) h = live-back h refl
 
 -- ---- stations: a part of a frame is shorter than the longest frame
 

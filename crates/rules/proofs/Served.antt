@@ -41,13 +41,13 @@ answers-served n (e ∷ es) p =
 -- ---- one by one
 
 pub rights-refl : (p : State) → SameRights p p
-rights-refl p = record { tokens = refl; handles = refl; primary = refl; clients = refl }
+rights-refl p = record { tokens = refl; handles = refl; primary = refl; clients = refl; pairs = refl }
 
 pub rights-trans : {p q r : State} → SameRights p q → SameRights q r → SameRights p r
-rights-trans a b = record { tokens = a .tokens ∙ b .tokens; handles = a .handles ∙ b .handles; primary = a .primary ∙ b .primary; clients = a .clients ∙ b .clients }
+rights-trans a b = record { tokens = a .tokens ∙ b .tokens; handles = a .handles ∙ b .handles; primary = a .primary ∙ b .primary; clients = a .clients ∙ b .clients; pairs = a .pairs ∙ b .pairs }
 
 pub rights-sym : {p q : State} → SameRights p q → SameRights q p
-rights-sym a = record { tokens = sym (a .tokens); handles = sym (a .handles); primary = sym (a .primary); clients = sym (a .clients) }
+rights-sym a = record { tokens = sym (a .tokens); handles = sym (a .handles); primary = sym (a .primary); clients = sym (a .clients); pairs = sym (a .pairs) }
 
 -- another stream at a station
 stream-rights : (p : State) (s : ℕ) (f : Station → Station) → OnlyStream f → SameRights p (changeStation s f p)
@@ -58,6 +58,7 @@ stream-rights p s f only =
       handles = refl;
       primary = sym (same-map stationToken f (only .token) s (p .stations));
       clients = sym (same-map stationClient f (only .client) s (p .stations));
+      pairs = refl;
     }
 
 pub cleared-rights : (p : State) (s : ℕ) → SameRights p (changeStation s cleared p)

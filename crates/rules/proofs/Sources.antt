@@ -10,24 +10,27 @@ use Rattle.rules.specs.Basic.{implies, all, isEmpty}
 use Rattle.rules.specs.Decision.{carriedOut, withHandle, issued, Decision}
 use Rattle.rules.specs.Duplicate as Duplicate
 use Rattle.rules.specs.Duplicate.{isAnonymous}
-use Rattle.rules.specs.Growth.{Source, sourceAt, sourceOf, FromSource, Copying, Mem}
+use Rattle.rules.specs.Growth.{Source, sourceAt, partnerAt, sourceOf, FromSource, Copying, Mem}
 use Rattle.rules.specs.Handle.{noHandle, Handle}
+use Rattle.rules.specs.Link.{partnerOf, clone, getLinked}
+use Rattle.rules.specs.Mask as Mask
 use Rattle.rules.specs.Number.{Read, got, bad}
-use Rattle.rules.specs.Privileges.{remove, onlyUsed}
+use Rattle.rules.specs.Privileges.{tcb, remove, onlyUsed}
 use Rattle.rules.specs.Request as Request
 use Rattle.rules.specs.Request.{parse, Request}
 use Rattle.rules.specs.Restrict as Restrict
 use Rattle.rules.specs.Restrict.{restrictingTo}
 use Rattle.rules.specs.Run.{ofBytes, events, outcomes, Call, Serving, serves}
 use Rattle.rules.specs.Serve.{rule, decided, decision, serve}
-use Rattle.rules.specs.State.{withTokens, withHandles, numberOf, tokenOf, addToken, findHandle, handleOf, addHandle, State}
+use Rattle.rules.specs.State.{withTokens, withHandles, numberOf, tokenOf, held, changeToken, used, addToken, findHandle, handleOf, addHandle, State}
 use Rattle.rules.specs.Table.{orElse, lives, added, Slot, free, live}
-use Rattle.rules.specs.Token.{primary, newToken, Token, isRestricted}
+use Rattle.rules.specs.Token.{primary, newToken, withElevation, Token, isRestricted}
 use Rattle.rules.proofs.Logic.{not-both, and-l, and-r, implies-e, map-mem}
 use Rattle.rules.proofs.Bits.{within-refl, without-within, none-within}
 use Rattle.rules.proofs.Restricting.{narrower}
 use Rattle.rules.proofs.Tables.{on-if, in-placed}
 use Rattle.rules.proofs.Facts.{StateFacts}
+use Rattle.rules.proofs.Changes.{put-numbers}
 use Rattle.rules.proofs.Steps.{Ends, ended}
 use Rattle.rules.proofs.Always.{run-serves}
 
@@ -47,6 +50,11 @@ none-fresh d f P u m h = absurd (let k = f .loose .tokens .given (u .number) (ma
 
 pub made : (d : State) → StateFacts d → (P : Token → Type 0) (y : Decision) → Ends (Fresh d P) y → Fresh d P (carriedOut d y .state)
 made d f P y = ended (Fresh d P) d y (none-fresh d f P)
+
+-- used marks make no token
+pub marked-fresh : (d : State) → StateFacts d → (P : Token → Type 0) (n s : ℕ) → Fresh d P (used n s d)
+unfolding Fresh used changeToken numberOf
+marked-fresh d f P n s u m h = absurd (let k = f .loose .tokens .given (u .number) (rw (put-numbers d _) at (map-mem numberOf m)) .1 in omega arith)
 
 -- u is made in e, where no other is new to d
 pub issues : (d e : State) (P : Token → Type 0) (s mask : ℕ) (u : Token) → Fresh d P e → P u → Ends (Fresh d P) (issued s mask u e)
@@ -110,6 +118,23 @@ module _ (d : State) (f : StateFacts d) (x : Source) where
     root = rw a refl;
   }
 
+  -- the partner's clone, or a handle on the partner itself
+  at-partner : (p : Slot Handle) → partnerAt d p ≡ live x → (t ≡ tokenOf d (partnerOf d (orElse noHandle p .token))) × (x .isAnonymous ≡ false)
+  unfolding partnerAt orElse t
+  at-partner free e = absurd (let z : _≡_ {A = ℕ} 0 1 = cc in omega arith)
+  at-partner (live h) e = (cc, cc)
+
+  cloned : (n : ℕ) → x .isAnonymous ≡ false → FromSource x (clone n t)
+  unfolding clone withElevation Duplicate.copied Duplicate.retyped t
+  cloned n a = as-source _ a refl refl refl
+
+  linked : (s n : ℕ) → partnerAt d (findHandle d s n) ≡ live x → Makes (getLinked d s n)
+  unfolding getLinked withHandle Ends handleOf addHandle withHandles Fresh
+  linked s n e known permitted paired =
+      let a = at-partner (findHandle d s n) e in
+      on-if Makes (held d s tcb) _ _ (λ h room. marked-fresh d f (FromSource x) tcb s)
+      (λ h room. rw (← a .0) (copies s Mask.query _ (cloned (d .tokens .next) (a .1))))
+
   none : {A : Type 0} → _≡_ {A = Slot Source} free (live x) → A
   none e = absurd (let z : _≡_ {A = ℕ} 0 1 = cc in omega arith)
 
@@ -131,6 +156,8 @@ module _ (d : State) (f : StateFacts d) (x : Source) where
   of-request s (got (Request.install n) bytes) e = none e
   of-request s (got (Request.impersonate n) bytes) e = none e
   of-request s (got Request.revert bytes) e = none e
+  of-request s (got (Request.link n m session) bytes) e = none e
+  of-request s (got (Request.linked n) bytes) e = linked s n e
 
 -- ---- every body that is served in a run
 

@@ -11,9 +11,12 @@ use Rattle.rules.specs.Growth.{Mem, Follows, Later, HandlesLater, here}
 use Rattle.rules.specs.Handle.{noHandle, isHandle, Handle}
 use Rattle.rules.specs.Impersonate as Impersonate
 use Rattle.rules.specs.Install as Install
+use Rattle.rules.specs.Link.{withBoth, partnerOf}
+use Rattle.rules.specs.Linking.{Linked}
 use Rattle.rules.specs.Mask.{validMask}
+use Rattle.rules.specs.Pair.{noPair, has, partner, Pair}
 use Rattle.rules.specs.Privileges.{assignPrimaryToken, tcb, impersonate}
-use Rattle.rules.specs.State.{stationCount, withHandles, withStations, stationAt, changeStation, setToken, setClient, numberOf, isNumbered, tokenOf, callerNumber, caller, held, putToken, withTokens, changeToken, used, canAddToken, addToken, findHandle, handleOf, canAddHandle, addHandle, dropHandle, handleToken, stationToken, references, released, State}
+use Rattle.rules.specs.State.{stationCount, withHandles, withStations, stationAt, changeStation, setToken, setClient, numberOf, isNumbered, tokenOf, callerNumber, caller, held, putToken, withTokens, changeToken, used, canAddToken, addToken, findHandle, handleOf, canAddHandle, addHandle, dropHandle, handleToken, stationToken, elevatedToken, filteredToken, references, withPairs, pairOf, setPair, released, State}
 use Rattle.rules.specs.Station.{startStation, Client}
 use Rattle.rules.specs.Table.{isLive, orElse, lives, found, live}
 use Rattle.rules.specs.Token.{primary, Token}
@@ -21,7 +24,7 @@ use Rattle.rules.specs.Valid.{handleValid}
 use Rattle.rules.proofs.Logic.{and-l, and-r, and-i, getD-mem, map-mem}
 use Rattle.rules.proofs.Tables.{on-if, live-slot, found-in, found-some}
 use Rattle.rules.proofs.Facts.{TokenFacts, Loose, StateFacts}
-use Rattle.rules.proofs.Changes.{later-refl, later-trans, handles-refl, handles-trans, handle-later, drop-later, numbersOf, by-handle, by-station, put-loose, put-later, put-reached, add-loose, add-later, handle-loose, handle-reached, drop-loose, token-loose, MayAct, client-loose, release-facts, release-later, add-reached, add-there, add-room}
+use Rattle.rules.proofs.Changes.{later-refl, later-trans, handles-refl, handles-trans, handle-later, drop-later, numbersOf, by-handle, by-station, by-elevated, by-filtered, put-loose, put-later, put-reached, add-loose, add-later, handle-loose, handle-reached, drop-loose, pair-loose, token-loose, MayAct, client-loose, release-facts, release-later, add-reached, add-there, add-room}
 
 pub record Advance (d e : State) : Type 0 where
   pub facts : StateFacts e
@@ -50,6 +53,16 @@ is-live d n m = go (found-some numberOf n (d .tokens .slots) m)
   where
     go : (t : Token) × (found (λ (c : Token). eqb (numberOf c) n) (d .tokens .slots) ≡ live t) → Is d n
     go (t, e) = let r = found-in (isNumbered n) (d .tokens .slots) e in record { was = rw e (r .0); number = rw e (eqb-true (t .number) n (r .1)) }
+
+-- a token's partner
+pub partner-live : (d : State) (n : ℕ) → StateFacts d → isLive (pairOf d n) ≡ true → Is d (partnerOf d n)
+unfolding pairOf partnerOf partner orElse elevatedToken filteredToken
+partner-live d n f h =
+    let p = orElse noPair (found (has n) (d .pairs)) in
+    let m = found-in (has n) (d .pairs) (live-slot noPair (found (has n) (d .pairs)) h) .0 in
+    on-if (Is d) (eqb (p .elevated) n) _ _
+    (λ e. is-live d (p .filtered) (f .loose .live (p .filtered) (by-filtered d (map-mem filteredToken m))))
+    (λ e. is-live d (p .elevated) (f .loose .live (p .elevated) (by-elevated d (map-mem elevatedToken m))))
 
 pub is-caller : (d : State) (s : ℕ) → StateFacts d → s < stationCount → Mem (callerNumber d s) (map numberOf (lives (d .tokens .slots)))
 unfolding callerNumber stationAt stationToken
@@ -117,6 +130,15 @@ client-step d s c f may =
       handles = handles-refl (d .handles);
     }
 
+pub pair-step : (d : State) (p : Pair) → StateFacts d → Linked d p → Advance d (released (setPair p d))
+unfolding setPair withPairs released withTokens
+pair-step d p f l =
+    record {
+      facts = release-facts (setPair p d) (pair-loose d p l (f .loose));
+      later = release-later (setPair p d);
+      handles = handles-refl (d .handles);
+    }
+
 -- ---- how a request is decided
 
 -- the state that the effect leads to, where the checks pass, has the property
@@ -144,10 +166,23 @@ found-handle d s n f known =
     let here = found-in (isHandle s n) (d .handles .slots) (live-slot noHandle (found (isHandle s n) (d .handles .slots)) known) .0 in
     record { was = here; token = is-live d (handleOf d s n .token) (f .loose .live (handleOf d s n .token) (by-handle d (map-mem handleToken here))) }
 
+-- what begins with it
+pub after-handle : (P : State → Type 0) (d : State) (s n right : ℕ) (go : Handle → Token → Decision) → StateFacts d
+    → (Found d (handleOf d s n) → Ends P (go (handleOf d s n) (tokenOf d (handleOf d s n .token)))) → Ends P (withHandle d s n right go)
+unfolding withHandle Ends
+after-handle P d s n right go f k known permitted = k (found-handle d s n f known)
+
+pub after-both : (P : State → Type 0) (d : State) (s n m right : ℕ) (go : Handle → Handle → Decision) → StateFacts d
+    → (Found d (handleOf d s n) → Found d (handleOf d s m) → Ends P (go (handleOf d s n) (handleOf d s m))) → Ends P (withBoth d s n m right go)
+unfolding withBoth Ends
+after-both P d s n m right go f k known permitted =
+    let n-live = isLive (findHandle d s n) in
+    let m-live = isLive (findHandle d s m) in
+    k (found-handle d s n f (and-l n-live m-live known)) (found-handle d s m f (and-r n-live m-live known))
+
 pub on-handle : (d : State) (s n right : ℕ) (go : Handle → Token → Decision) → StateFacts d
     → (Found d (handleOf d s n) → Keeps d (go (handleOf d s n) (tokenOf d (handleOf d s n .token)))) → Keeps d (withHandle d s n right go)
-unfolding withHandle Ends
-on-handle d s n right go f k known permitted = k (found-handle d s n f known)
+on-handle d = after-handle (Advance d) d
 
 -- ---- the used marks of requests 11 and 12: what holds in each case holds with them
 

@@ -92,6 +92,13 @@ module _ {A : Type 0} where
         go false (here e) ih = inr (here e)
         go false (there m) ih = ⊎-elim (λ e. inl e) (λ k. inr (there k)) (ih m)
 
+    pub exchanged-new : (a : A) (ps : List (Slot A)) {b : A} → Mem b (lives ps) → f b ≡ true → Mem a (lives (exchanged f (live a) ps))
+    unfolding exchanged lives
+    exchanged-new a (free ∷ ps) m h = exchanged-new a ps m h
+    exchanged-new a (live c ∷ ps) (here e) h = rw (sym (ap f e) ∙ h) (here refl)
+    exchanged-new a (live c ∷ ps) (there m) h =
+        on-if (λ qs. Mem a (lives qs)) (f c) (live a ∷ ps) (live c ∷ exchanged f (live a) ps) (λ t. here refl) (λ t. there (exchanged-new a ps m h))
+
     pub length-exchanged : (p : Slot A) (ps : List (Slot A)) → length (exchanged f p ps) ≡ length ps
     unfolding exchanged
     length-exchanged p [] = refl

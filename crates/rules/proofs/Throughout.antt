@@ -13,10 +13,11 @@ use Rattle.rules.specs.Valid.{valid}
 use Rattle.rules.specs.Throughout.{Throughout}
 use Rattle.rules.proofs.Runs.{run-end, run-answers, run-timed, cutting, used-up, cut}
 use Rattle.rules.proofs.Facts.{valid-facts, facts-valid}
-use Rattle.rules.proofs.Always.{run-step, lasts, handle-kept, handle-numbers, token-numbers, enabled-present, default-present, all-fit}
+use Rattle.rules.proofs.Always.{run-serves, run-step, lasts, handle-kept, handle-numbers, token-numbers, enabled-present, default-present, all-fit}
 use Rattle.rules.proofs.Bound.{bound, closed}
 use Rattle.rules.proofs.Ladder.{ladder}
 use Rattle.rules.proofs.Acting.{acting, client-kept}
+use Rattle.rules.proofs.Linking.{pairs-kept, elevation-kept}
 use Rattle.rules.proofs.Sources.{no-more}
 use Rattle.rules.proofs.Served.{answers-served, one-by-one}
 use Rattle.rules.proofs.Roots.{creations, roots}
@@ -54,6 +55,9 @@ throughout σ v cs w =
       tokenNumbers = token-numbers τ g;
       acting = acting τ (g .loose);
       clients = λ x m s. client-kept x s;
+      linked = g .loose .pairs;
+      pairs = λ x m. pairs-kept x;
+      elevations = λ x m. elevation-kept x (run-serves cs σ w f x m);
       enabled = enabled-present τ g;
       byDefault = default-present τ g;
       copies = no-more cs σ w f;

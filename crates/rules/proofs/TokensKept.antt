@@ -4,11 +4,11 @@ use native.Mathlib.Nat.{mod-lt}
 use native.Mathlib.Omega.{arith}
 use mathlib.Core.Path.{_≡_, refl, _∙_}
 use mathlib.Core.Bool.{Bool, true, _&&_, _||_}
-use mathlib.Core.Logic.{⊎-elim}
+use mathlib.Core.Logic.{inl, inr, ⊎-elim}
 use mathlib.Core.List.{List, []}
 use lib.Dec.{eqb, leb}
 use lib.ListN.{length}
-use borrow.Author.Tests.{eqb-true, lt-ltb, le-leb, leb-true}
+use borrow.Author.Tests.{eqb-true, eqb-false, lt-ltb, le-leb, leb-true}
 use Rattle.rules.specs.AdjustDefaults as AdjustDefaults
 use Rattle.rules.specs.AdjustDefaults.{noChange, validOwner, validGroup, validDacl, validDefaults, orKept}
 use Rattle.rules.specs.AdjustGroups as AdjustGroups
@@ -21,16 +21,19 @@ use Rattle.rules.specs.Duplicate.{retyped, copied, nobody, anonymousCopy
 use Rattle.rules.specs.Entry.{Entry, validEntries}
 use Rattle.rules.specs.Group.{Group}
 use Rattle.rules.specs.Growth.{Follows}
+use Rattle.rules.specs.Link.{clone}
 use Rattle.rules.specs.Privileges.{existing, markUsed, onlyUsed, Privileges}
-use Rattle.rules.specs.Restrict.{restrictingTo, limited, restricted}
+use Rattle.rules.specs.Restrict as Restrict
+use Rattle.rules.specs.Restrict.{restrictingTo, restricted}
 use Rattle.rules.specs.State.{usedOn}
-use Rattle.rules.specs.Token.{maxRestricting, maxDacl, primary, impersonation, noLimits, noDefaults, newToken, withPrivileges, withGroups, withDefaults, withScope, nextModified, Identity, Limits, Defaults, Token}
+use Rattle.rules.specs.Token.{maxRestricting, maxDacl, primary, impersonation, identification, defaultElevation, full, limited, withElevation, noLimits, noDefaults, newToken, withPrivileges, withGroups, withDefaults, withScope, nextModified, Identity, Limits, Defaults, Token}
 use Rattle.rules.specs.Valid.{isByte, is32, is64, between, identityValid, privilegesValid, groupsValid, limitsValid, defaultsValid}
-use Rattle.rules.proofs.Logic.{and-l, and-r, and-i, or-e, all-mem, mem-all}
+use Rattle.rules.proofs.Logic.{and-l, and-r, and-i, or-e, either, all-mem, mem-all}
 use Rattle.rules.proofs.Restricting.{from-either}
 use Rattle.rules.proofs.Bits.{within-refl, power-within}
 use Rattle.rules.proofs.Tables.{on-if}
-use Rattle.rules.proofs.Facts.{TokenFacts, each-group}
+use Rattle.rules.proofs.Facts.{TokenFacts, between-low, between-high, each-group}
+use Rattle.rules.proofs.Changes.{ElevationStays}
 use Rattle.rules.proofs.PrivilegesKept as P
 use Rattle.rules.proofs.PrivilegesKept.{sound, order, Fewer}
 use Rattle.rules.proofs.GroupsKept as G
@@ -45,22 +48,45 @@ pub record After (t u : Token) : Type 0 where
 
 with-privileges : (t : Token) (q : Privileges) → TokenFacts t → Fewer (t .privileges) q → After t (withPrivileges q t)
 unfolding withPrivileges
-with-privileges t q f k = let new = order q (k .sound) in record { facts = search; follows = search }
+with-privileges t q f k = let new = order q (k .sound) in let elevation : ElevationStays t (withPrivileges q t) = inl refl in record { facts = search; follows = search }
 
 with-groups : (t : Token) (gs : List Group) → TokenFacts t → Groups (t .groups) gs → After t (withGroups gs t)
 unfolding withGroups
 with-groups t gs f k =
     let new = groups-in-order k (f .groups) in
     let named = groups-defaults k (t .defaults) ∙ f .defaults in
+    let elevation : ElevationStays t (withGroups gs t) = inl refl in
     record { facts = search; follows = search (within-refl, groups-sids, groups-denied) }
 
 with-defaults : (t : Token) (x : Defaults) → TokenFacts t → defaultsValid (t .groups) x ≡ true → After t (withDefaults x t)
 unfolding withDefaults
-with-defaults t x f k = record { facts = search; follows = search within-refl }
+with-defaults t x f k = let elevation : ElevationStays t (withDefaults x t) = inl refl in record { facts = search; follows = search within-refl }
 
 with-scope : (t : Token) (v : ℕ) → TokenFacts t → is32 v ≡ true → After t (withScope v t)
 unfolding withScope
-with-scope t v f k = record { facts = search; follows = search within-refl }
+with-scope t v f k = let elevation : ElevationStays t (withScope v t) = inl refl in record { facts = search; follows = search within-refl }
+
+elevated-facts : (t : Token) (k : ℕ) → between 1 3 k ≡ true → TokenFacts t → TokenFacts (withElevation k t)
+unfolding withElevation
+elevated-facts t k h f = search
+
+-- a token becomes Full or Limited that is not the other
+elevated-after : (t : Token) (k : ℕ) → between 1 3 k ≡ true → ((t .elevation ≡ defaultElevation → ⊥) → k ≡ t .elevation) → TokenFacts t → After t (withElevation k t)
+unfolding withElevation
+elevated-after t k h e f =
+    let elevation : ElevationStays t (withElevation k t) =
+    ⊎-elim (λ q. inr (eqb-true (t .elevation) defaultElevation q)) (λ q. inl (e (eqb-false (t .elevation) defaultElevation q))) (either (eqb (t .elevation) defaultElevation)) in
+    record { facts = elevated-facts t k h f; follows = search within-refl }
+
+pub full-after : (t : Token) → (t .elevation ≡ limited → ⊥) → TokenFacts t → After t (withElevation full t)
+unfolding between
+full-after t ne f =
+    elevated-after t full refl (λ nd. omega (arith, nd, ne, between-low 1 3 (t .elevation) (f .elevation), between-high 1 3 (t .elevation) (f .elevation))) f
+
+pub limited-after : (t : Token) → (t .elevation ≡ full → ⊥) → TokenFacts t → After t (withElevation limited t)
+unfolding between
+limited-after t ne f =
+    elevated-after t limited refl (λ nd. omega (arith, nd, ne, between-low 1 3 (t .elevation) (f .elevation), between-high 1 3 (t .elevation) (f .elevation))) f
 
 next-is64 : (n : ℕ) → is64 ((n + 1) % 2 ^ 64) ≡ true
 unfolding is64
@@ -156,6 +182,12 @@ copied-made t n type level o w b l m f =
     let root = root-ok t n o f in
     let new = retyped-ok (t .identity) type level b l m (f .identity) in record { number = refl; facts = search; present = within-refl _ }
 
+pub clone-made : (t : Token) (n : ℕ) → t .number ≤ n → is64 n ≡ true → TokenFacts t → Made n t (clone n t)
+unfolding clone withElevation between implies
+clone-made t n o w f =
+    let c = copied-made t n impersonation identification o w refl refl refl f in
+    record { number = c .number; facts = elevated-facts (copied n impersonation identification t) (t .elevation) (f .elevation) (c .facts); present = c .present }
+
 no-defaults : (gs : List Group) → defaultsValid gs noDefaults ≡ true
 unfolding defaultsValid noDefaults validOwner validGroup all
 no-defaults gs = and-i (and-i (and-i refl (le-leb 0 (length gs) (omega arith))) refl) refl
@@ -177,8 +209,8 @@ duplicated-made t n type level o w l f =
     (λ p. on-if (Made n t) (eqb level 0) _ _ (λ z. stripped-made t n w f) (λ z. copied-made t n impersonation level o w refl l refl f))
 
 limited-ok : (mark : ℕ) (sids : List ℕ) (x : Limits) → leb (length (restrictingTo sids (x .restricting))) maxRestricting ≡ true → all is32 sids ≡ true → limitsValid x ≡ true
-    → limitsValid (limited mark sids x) ≡ true
-unfolding limitsValid limited
+    → limitsValid (Restrict.limited mark sids x) ≡ true
+unfolding limitsValid Restrict.limited
 limited-ok mark sids x h w k =
     let own = and-r (leb (length (x .restricting)) maxRestricting) _ k in
     and-i h (mem-all is32 _ (λ n m. ⊎-elim (all-mem is32 sids w) (all-mem is32 (x .restricting) own) (from-either sids (x .restricting) m)))

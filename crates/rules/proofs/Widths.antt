@@ -11,7 +11,7 @@ use Rattle.rules.specs.Entry.{Entry}
 use Rattle.rules.specs.Group.{Group}
 use Rattle.rules.specs.Number.{max16, max32, max64, readNumber, Read, got, bad}
 use Rattle.rules.specs.Request as Request
-use Rattle.rules.specs.Request.{Reader, follow, _>>=_, give, end, byte, times, u16, u32, u64, group, entry, numberLayout, entriesLayout, createLayout, queryLayout, scopeLayout, defaultsLayout, duplicateLayout, restrictLayout, unknown, layouts, parse, Request}
+use Rattle.rules.specs.Request.{Reader, follow, _>>=_, give, end, byte, times, u16, u32, u64, group, entry, numberLayout, entriesLayout, createLayout, queryLayout, scopeLayout, defaultsLayout, duplicateLayout, restrictLayout, linkLayout, unknown, layouts, parse, Request}
 use Rattle.rules.specs.Valid.{isByte, is32, is64}
 use Rattle.rules.proofs.Logic.{and-l, and-r, and-i}
 use Rattle.rules.proofs.Numbers.{by-reading}
@@ -125,6 +125,8 @@ Fits (Request.restrict h mark removed deny sids) = all is32 sids ≡ true
 Fits (Request.install h) = Unit {0}
 Fits (Request.impersonate h) = Unit {0}
 Fits Request.revert = Unit {0}
+Fits (Request.link h k session) = Unit {0}
+Fits (Request.linked h) = Unit {0}
 
 in-number : (f : ℕ → Request) → ((n : ℕ) → Fits (f n)) → Reads Fits (numberLayout f)
 unfolding numberLayout
@@ -164,6 +166,10 @@ in-restrict =
     and-then u32 _ number32 λ a h. and-then u32 _ number32 λ m hm. and-then u64 _ number64 λ r hr. and-then u32 _ number32 λ n hn. and-then u32 _ number32 λ k hk.
     and-then _ _ (many is32 u32 number32 n) λ deny hd. and-then _ _ (many is32 u32 number32 k) λ sids hs. ends _ hs
 
+in-link : Reads Fits linkLayout
+unfolding linkLayout Fits
+in-link = and-then u32 _ number32 λ a h. and-then u32 _ number32 λ b i. and-then u64 _ number64 λ c j. ends _ tt
+
 in-none : Reads Fits unknown
 unfolding unknown Got
 in-none = record { gives = λ bytes b. tt }
@@ -184,7 +190,7 @@ unfolding layouts Each Fits
 all-fit =
     let one : (n : ℕ) → Unit {0} = λ n. tt in
     let two : (n : ℕ) (es : List Entry) → Unit {0} = λ n es. tt in
-    (in-none, (in-number _ one, (in-number _ one, (in-create, (in-query, (in-entries _ two, (in-entries _ two, (in-scope, (in-defaults, (in-duplicate, (in-restrict, (in-number _ one, (in-number _ one, (ends _ tt, tt))))))))))))))
+    (in-none, (in-number _ one, (in-number _ one, (in-create, (in-query, (in-entries _ two, (in-entries _ two, (in-scope, (in-defaults, (in-duplicate, (in-restrict, (in-number _ one, (in-number _ one, (ends _ tt, (in-none, (in-none, (in-link, (in-number _ one, tt))))))))))))))))))
 
 pub parsed : (body : List ℕ) → all isByte body ≡ true → Got Fits (parse body)
 unfolding parse

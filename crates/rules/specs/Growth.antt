@@ -2,18 +2,20 @@
 use Prim.Native.Nat.{ℕ, _≤_, _<_}
 use mathlib.Core.Path.{_≡_}
 use mathlib.Core.Bool.{Bool, true, false}
+use mathlib.Core.Logic.{_⊎_}
 use mathlib.Core.List.{List, _∷_, map}
 use lib.ListN.{getD}
 use Rattle.rules.specs.Basic.{if_then_else_}
 use Rattle.rules.specs.Number.{Read, got, bad}
 use Rattle.rules.specs.Bits.{within}
 use Rattle.rules.specs.Group.{Group, noGroup, isDenyOnly}
-use Rattle.rules.specs.Token.{Token, noRoot, isRestricted}
+use Rattle.rules.specs.Token.{Token, noRoot, defaultElevation, isRestricted}
 use Rattle.rules.specs.Table.{Slot, free, live, Table, lives}
 use Rattle.rules.specs.Handle.{Handle}
 use Rattle.rules.specs.State.{State, tokenOf, findHandle}
 use Rattle.rules.specs.Request.{Request, parse}
 use Rattle.rules.specs.Duplicate as Duplicate
+use Rattle.rules.specs.Link.{partnerOf}
 use Rattle.rules.specs.Serve.{serve}
 use Rattle.rules.specs.Ladder.{status}
 use Rattle.rules.specs.Run.{Serving, Outcome, serves, servedBy}
@@ -47,6 +49,8 @@ pub record Follows (t u : Token) : Type 0 where
   pub denied : (i : ℕ) → isDenyOnly (getD (t .groups) i noGroup) ≡ true → isDenyOnly (getD (u .groups) i noGroup) ≡ true
   -- restricting SIDs, the write-restricted mark and the user's deny-only mark stay
   pub limits : u .limits ≡ t .limits
+  -- the elevation stays, but that of a token that is neither Full nor Limited
+  pub elevation : (u .elevation ≡ t .elevation) ⊎ (t .elevation ≡ defaultElevation)
 
 -- the token u was there before, in the table x
 pub record Before (x : Table Token) (u : Token) : Type 0 where
@@ -70,7 +74,7 @@ pub record StillHandle (σ τ : State) (s n : ℕ) (h : Handle) : Type 0 where
   pub found : findHandle τ s n ≡ live h
   pub token : Follows (tokenOf σ (h .token)) (tokenOf τ (h .token))
 
--- ---- a token made from another: its source is the one that request 9 or 10 copies
+-- ---- a token made from another: its source is the one that request 9 or 10 copies, or the partner that request 17 clones
 
 pub record Source : Type 0 where
   pub token : Token
@@ -81,6 +85,11 @@ pub record Source : Type 0 where
 unfoldable pub sourceAt : State → Bool → Slot Handle → Slot Source
 sourceAt σ b free = free
 sourceAt σ b (live h) = live (record { token = tokenOf σ h.token; isAnonymous = b })
+
+-- the partner of a handle's token
+unfoldable pub partnerAt : State → Slot Handle → Slot Source
+partnerAt σ free = free
+partnerAt σ (live h) = live (record { token = tokenOf σ (partnerOf σ h.token); isAnonymous = false })
 
 unfoldable pub sourceOf : State → ℕ → Read Request → Slot Source
 sourceOf σ s bad = free
@@ -97,6 +106,8 @@ sourceOf σ s (got (Request.restrict n mark removed deny sids) bytes) = sourceAt
 sourceOf σ s (got (Request.install n) bytes) = free
 sourceOf σ s (got (Request.impersonate n) bytes) = free
 sourceOf σ s (got Request.revert bytes) = free
+sourceOf σ s (got (Request.link n m session) bytes) = free
+sourceOf σ s (got (Request.linked n) bytes) = partnerAt σ (findHandle σ s n)
 
 -- u, just made, and its source: it has no more, and the source's root
 pub record FromSource (x : Source) (u : Token) : Type 0 where
@@ -135,6 +146,8 @@ makesRoot (got (Request.restrict n mark removed deny sids) bytes) = false
 makesRoot (got (Request.install n) bytes) = false
 makesRoot (got (Request.impersonate n) bytes) = false
 makesRoot (got Request.revert bytes) = false
+makesRoot (got (Request.link n m session) bytes) = false
+makesRoot (got (Request.linked n) bytes) = false
 
 -- of a body that is served: a token that it makes of none is its own root
 unfoldable pub Creating : Serving → Type 0

@@ -8,6 +8,7 @@ pub mod Token
 pub mod Table
 pub mod Handle
 pub mod Station
+pub mod Pair
 pub mod State
 pub mod Index
 pub mod Entry
@@ -25,6 +26,7 @@ pub mod Duplicate
 pub mod Restrict
 pub mod Install
 pub mod Impersonate
+pub mod Link
 pub mod Serve
 pub mod Frame
 pub mod Model
@@ -33,6 +35,7 @@ pub mod Ladder
 pub mod Run
 pub mod Growth
 pub mod Acting
+pub mod Linking
 pub mod Head
 pub mod Memory
 pub mod Throughout

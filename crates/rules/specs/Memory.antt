@@ -16,7 +16,8 @@ use Rattle.rules.specs.Token.{Token, Identity, Limits, Defaults, maxGrou
 use Rattle.rules.specs.Table.{Slot, free, live}
 use Rattle.rules.specs.Handle.{Handle, noHandle}
 use Rattle.rules.specs.Station.{Station}
-use Rattle.rules.specs.State.{State, tokenSlots, handleSlots, stationCount}
+use Rattle.rules.specs.Pair.{Pair}
+use Rattle.rules.specs.State.{State, tokenSlots, handleSlots, stationCount, pairSlots}
 use Rattle.rules.specs.Frame.{maxBody}
 use Rattle.rules.specs.Valid as Valid
 use Rattle.rules.specs.Head as Head
@@ -75,6 +76,19 @@ levelWord = 4
 abbrev pub stationWords : ℕ
 stationWords = 5
 
+-- a linked pair's row: its session, its elevated token and its filtered one
+abbrev pub sessionWord : ℕ
+sessionWord = 0
+
+abbrev pub elevatedWord : ℕ
+elevatedWord = 1
+
+abbrev pub filteredWord : ℕ
+filteredWord = 2
+
+abbrev pub pairWords : ℕ
+pairWords = 3
+
 -- the sections
 abbrev pub counterSection : ℕ
 counterSection = 0
@@ -82,8 +96,11 @@ counterSection = 0
 abbrev pub stationSection : ℕ
 stationSection = 1
 
+abbrev pub pairSection : ℕ
+pairSection = 2
+
 abbrev pub controlSizes : List ℕ
-controlSizes = counterWords ∷ stationCount * stationWords ∷ []
+controlSizes = counterWords ∷ stationCount * stationWords ∷ pairSlots * pairWords ∷ []
 
 abbrev pub controlWords : ℕ
 controlWords = total controlSizes
@@ -97,9 +114,16 @@ nextHandle ws = getD ws handleCounter 0
 abbrev pub stationsIn : List ℕ → List ℕ
 stationsIn ws = section controlSizes stationSection ws
 
+abbrev pub pairsIn : List ℕ → List ℕ
+pairsIn ws = section controlSizes pairSection ws
+
 -- where word k of station s stands
 abbrev pub stationWordAt : ℕ → ℕ → ℕ
 stationWordAt s k = placeOf controlSizes stationSection + (s * stationWords + k)
+
+-- where word k of pair i stands
+abbrev pub pairWordAt : ℕ → ℕ → ℕ
+pairWordAt i k = placeOf controlSizes pairSection + (i * pairWords + k)
 
 -- ---- every part has its size
 
@@ -165,11 +189,18 @@ slotHandle (live h) = h
 unfoldable pub stationRow : Station → List ℕ
 stationRow x = x.token ∷ length x.pending ∷ mark x.isBroken ∷ x .client .token ∷ x .client .level ∷ []
 
+unfoldable pub pairRow : Pair → List ℕ
+pairRow p = p.session ∷ p.elevated ∷ p.filtered ∷ []
+
+unfoldable pub slotPair : Slot Pair → List ℕ
+slotPair free = replicate pairWords 0
+slotPair (live p) = pairRow p
+
 abbrev pub counters : State → List ℕ
 counters σ = σ .tokens .next ∷ σ .handles .next ∷ []
 
 unfoldable pub sections : State → List (List ℕ)
-sections σ = counters σ ∷ flat stationRow σ.stations ∷ []
+sections σ = counters σ ∷ flat stationRow σ.stations ∷ flat slotPair σ.pairs ∷ []
 
 unfoldable pub control : State → List ℕ
 control σ = joined (sections σ)
@@ -231,7 +262,7 @@ tokenAt ws bs =
       scope = low32 (getD ws Head.scope 0);
     }
 
--- number 0 is given to no token and to no handle: the slot is free
+-- number 0 is given to no token and to no handle: the slot is free, and so is a pair's
 unfoldable pub slotAt : List ℕ → List ℕ → Slot Token
 slotAt ws bs = if eqb (getD ws Head.number 0) 0 then free else live (tokenAt ws bs)
 
@@ -247,12 +278,18 @@ stationAt ws bs =
       isBroken = eqb (getD ws brokenWord 0) 1;
     }
 
+unfoldable pub pairAt : List ℕ → List ℕ → Slot Pair
+pairAt ws none =
+    if eqb (getD ws elevatedWord 0) 0 then free else
+    live (record { session = getD ws sessionWord 0; elevated = getD ws elevatedWord 0; filtered = getD ws filteredWord 0 })
+
 unfoldable pub decode : Memory → State
 decode m =
     record {
       tokens = record { slots = readRows slotAt tokenWords maxDacl tokenSlots m.tokens m.dacls; next = nextToken m.control };
       handles = record { slots = map handleAt m.handles; next = nextHandle m.control };
       stations = readRows stationAt stationWords pendingBytes stationCount (stationsIn m.control) m.pending;
+      pairs = readRows pairAt pairWords 0 pairSlots (pairsIn m.control) [];
     }
 
 -- ---- valid memory: its sizes are right, it is what the state that it stands for is written as, and that state is valid

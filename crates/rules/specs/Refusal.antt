@@ -25,7 +25,7 @@ rightMissing = refusal 3
 abbrev pub privilegeNotHeld : Refusal
 privilegeNotHeld = refusal 4
 
--- a field or entry bad, unknown class, installing a token that is not primary, or acting for one that is
+-- a field or entry bad, unknown class, installing a token that is not primary, acting for one that is, or linking two that make no pair
 abbrev pub badField : Refusal
 badField = refusal 5
 
@@ -40,7 +40,7 @@ installMismatch = refusal 7
 abbrev pub restrictedServer : Refusal
 restrictedServer = refusal 7
 
--- a needed slot is not free, a needed next number is unusable, or over 16 restricting SIDs
+-- a needed slot is not free, a needed next number is unusable, over 16 restricting SIDs, or a fifth session would have a linked pair
 abbrev pub tableFull : Refusal
 tableFull = refusal 8
 
@@ -48,9 +48,13 @@ tableFull = refusal 8
 unfoldable pub capacityBelow : ℕ → Refusal
 capacityBelow size = record { number = 9; report = encode size }
 
--- by rank: of the refusals that apply to a request it gets the first here ('lowest of 1 to 9')
+-- the token is in no linked pair
+abbrev pub notLinked : Refusal
+notLinked = refusal 14
+
+-- by rank: of the refusals that apply to a request it gets the first here ('lowest of 1 to 9', and 14, which is 'checked before 8')
 abbrev pub ranks : List ℕ
-ranks = 1 ∷ 2 ∷ 3 ∷ 4 ∷ 5 ∷ 6 ∷ 7 ∷ 8 ∷ 9 ∷ []
+ranks = 1 ∷ 2 ∷ 3 ∷ 4 ∷ 5 ∷ 6 ∷ 7 ∷ 14 ∷ 8 ∷ 9 ∷ []
 
 -- ---- the stream: answered once, at the byte that breaks it
 

@@ -1,4 +1,4 @@
--- The thirteen requests and their layouts: the request number, then the fields; nothing may be left. Assumes nothing.
+-- The fifteen requests and their layouts: the request number, then the fields; nothing may be left. Assumes nothing.
 use Prim.Native.Nat.{ℕ, zero, suc}
 use mathlib.Core.List.{List, [], _∷_}
 use lib.ListN.{getD}
@@ -20,6 +20,8 @@ pub data Request : Type 0 where
   install : ℕ → Request
   impersonate : ℕ → Request
   revert : Request
+  link : ℕ → ℕ → ℕ → Request
+  linked : ℕ → Request
 
 -- ---- reading one thing after the other
 
@@ -72,7 +74,7 @@ entry = do
 
 -- ---- the layouts
 
--- one number: a mask or a handle (1, 2, 11, 12)
+-- one number: a mask or a handle (1, 2, 11, 12, 17)
 unfoldable pub numberLayout : (ℕ → Request) → Reader Request
 numberLayout request = do
   n ← u32
@@ -139,6 +141,13 @@ restrictLayout = do
   sids ← times sidCount u32
   end (restrict h mark removed deny sids)
 
+unfoldable pub linkLayout : Reader Request
+linkLayout = do
+  elevated ← u32
+  filtered ← u32
+  session ← u64
+  end (link elevated filtered session)
+
 -- a request number that is none
 unfoldable pub unknown : Reader Request
 unknown bytes = bad
@@ -159,6 +168,10 @@ layouts =
     ∷ numberLayout install
     ∷ numberLayout impersonate
     ∷ end revert
+    ∷ unknown
+    ∷ unknown
+    ∷ linkLayout
+    ∷ numberLayout linked
     ∷ []
 
 -- the request that a body is

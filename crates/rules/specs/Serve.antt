@@ -18,6 +18,7 @@ use Rattle.rules.specs.Duplicate as Duplicate
 use Rattle.rules.specs.Restrict as Restrict
 use Rattle.rules.specs.Install as Install
 use Rattle.rules.specs.Impersonate as Impersonate
+use Rattle.rules.specs.Link as Link
 
 unfoldable pub rule : State → ℕ → Request → Decision
 rule σ s (Request.openOwn mask) = OpenClose.openOwn σ s mask
@@ -33,6 +34,8 @@ rule σ s (Request.restrict n mark removed deny sids) = Restrict.restrict σ s n
 rule σ s (Request.install n) = Install.install σ s n
 rule σ s (Request.impersonate n) = Impersonate.impersonate σ s n
 rule σ s Request.revert = Impersonate.revert σ s
+rule σ s (Request.link n m session) = Link.link σ s n m session
+rule σ s (Request.linked n) = Link.getLinked σ s n
 
 -- a body that is not in a layout fails the first check
 unfoldable pub decided : State → ℕ → Read Request → Decision

@@ -1,21 +1,24 @@
 -- What the broker keeps (document 01: 'What the desk keeps'). Assumes nothing.
 use Prim.Native.Nat.{ℕ, _^_}
-use mathlib.Core.Bool.{Bool}
+use mathlib.Core.Bool.{Bool, _||_}
 use mathlib.Core.List.{List, [], _++_, map}
 use lib.ListN.{getD, replicate}
 use lib.Dec.{eqb}
-use Rattle.rules.specs.Basic.{member, nonZero, changeAt}
+use Rattle.rules.specs.Basic.{if_then_else_, member, nonZero, changeAt}
 use Rattle.rules.specs.Number.{max32, max64}
 use Rattle.rules.specs.Privileges.{isEnabled, markUsed, granted}
 use Rattle.rules.specs.Token.{Token, withPrivileges, startToken, newToken, primaryOf}
-use Rattle.rules.specs.Table.{Slot, free, live, Table, orElse, lives, canAdd, placed, added, found, exchanged, retained, withSlots}
+use Rattle.rules.specs.Table.{Slot, free, live, Table, isLive, orElse, lives, someFree, canAdd, placed, added, found, exchanged, retained, withSlots}
 use Rattle.rules.specs.Handle.{Handle, noHandle, isHandle}
 use Rattle.rules.specs.Station.{Station, Client, startStation, withToken, withClient}
+use Rattle.rules.specs.Pair as Pair
+use Rattle.rules.specs.Pair.{Pair}
 
 pub record State : Type 0 where
   pub tokens : Table Token
   pub handles : Table Handle
   pub stations : List Station
+  pub pairs : List (Slot Pair)
 
 abbrev pub tokenSlots : ℕ
 tokenSlots = 16
@@ -26,22 +29,30 @@ handleSlots = 32
 abbrev pub stationCount : ℕ
 stationCount = 8
 
+-- up to four sessions have a linked pair
+abbrev pub pairSlots : ℕ
+pairSlots = 4
+
 unfoldable pub start : State
 start =
     record {
       tokens = record { slots = placed startToken (replicate tokenSlots free); next = 2 };
       handles = record { slots = replicate handleSlots free; next = 1 };
       stations = replicate stationCount startStation;
+      pairs = replicate pairSlots free;
     }
 
 unfoldable pub withTokens : Table Token → State → State
-withTokens x σ = record { tokens = x; handles = σ.handles; stations = σ.stations }
+withTokens x σ = record { tokens = x; handles = σ.handles; stations = σ.stations; pairs = σ.pairs }
 
 unfoldable pub withHandles : Table Handle → State → State
-withHandles x σ = record { tokens = σ.tokens; handles = x; stations = σ.stations }
+withHandles x σ = record { tokens = σ.tokens; handles = x; stations = σ.stations; pairs = σ.pairs }
 
 unfoldable pub withStations : List Station → State → State
-withStations xs σ = record { tokens = σ.tokens; handles = σ.handles; stations = xs }
+withStations xs σ = record { tokens = σ.tokens; handles = σ.handles; stations = xs; pairs = σ.pairs }
+
+unfoldable pub withPairs : List (Slot Pair) → State → State
+withPairs ps σ = record { tokens = σ.tokens; handles = σ.handles; stations = σ.stations; pairs = ps }
 
 -- ---- stations
 
@@ -132,7 +143,26 @@ addHandle s n mask σ = withHandles (added (record { station = s; number = σ .h
 unfoldable pub dropHandle : ℕ → ℕ → State → State
 dropHandle s n σ = withHandles (withSlots (exchanged (isHandle s n) free (σ .handles .slots)) σ.handles) σ
 
--- ---- references: a token lives while a handle or a station refers to it, a station by its primary token or by the one that it acts for
+-- ---- linked pairs
+
+-- the pair that token n is in
+unfoldable pub pairOf : State → ℕ → Slot Pair
+pairOf σ n = found (Pair.has n) σ.pairs
+
+unfoldable pub hasPair : State → ℕ → Bool
+hasPair σ session = isLive (found (Pair.isOf session) σ.pairs)
+
+-- the session has a pair, which is then replaced, or there is a free place
+unfoldable pub canLink : State → ℕ → Bool
+canLink σ session = hasPair σ session || someFree σ.pairs
+
+-- a new pair of a session takes the place of its old one
+unfoldable pub setPair : Pair → State → State
+setPair p σ =
+    withPairs (if hasPair σ p.session then exchanged (Pair.isOf p.session) (live p) σ.pairs else placed p σ.pairs) σ
+
+-- ---- references: a token lives while a handle, a station or a linked pair refers to it, a station by its primary token or by the one that
+-- it acts for
 
 unfoldable pub handleToken : Handle → ℕ
 handleToken h = h.token
@@ -146,11 +176,19 @@ stationClient x = x.client
 unfoldable pub clientToken : Station → ℕ
 clientToken x = x .client .token
 
+unfoldable pub elevatedToken : Pair → ℕ
+elevatedToken p = p.elevated
+
+unfoldable pub filteredToken : Pair → ℕ
+filteredToken p = p.filtered
+
 unfoldable pub references : State → List ℕ
 references σ =
     map handleToken (lives (σ .handles .slots))
     ++ map stationToken σ.stations
     ++ nonZero (map clientToken σ.stations)
+    ++ map elevatedToken (lives σ.pairs)
+    ++ map filteredToken (lives σ.pairs)
 
 unfoldable pub isReferred : State → Token → Bool
 isReferred σ t = member t.number (references σ)

@@ -11,7 +11,8 @@ use Rattle.rules.specs.Number.{max32, max64}
 use Rattle.rules.specs.Token.{Token}
 use Rattle.rules.specs.Handle.{Handle}
 use Rattle.rules.specs.Station.{noClient}
-use Rattle.rules.specs.Table.{free, live}
+use Rattle.rules.specs.Pair.{Pair}
+use Rattle.rules.specs.Table.{free, live, lives}
 use Rattle.rules.specs.State.{State, stationCount, clientAt, findHandle}
 use Rattle.rules.specs.Frame.{frame, framed, whole, maxAnswer}
 use Rattle.rules.specs.Valid.{valid}
@@ -19,6 +20,7 @@ use Rattle.rules.specs.Ladder.{Ladder}
 use Rattle.rules.specs.Run.{Call, byte, ofBytes, after, answered, events, afterEvents, answersTo, timed, timedTo, untilUsed, Serving, serves, outcomes, answeredFrom, OneByOne}
 use Rattle.rules.specs.Growth.{Mem, Live, LiveHandle, Follows, Later, HandlesLater, StillHandle, Copying, Creating, Rooted}
 use Rattle.rules.specs.Acting.{ActsFor, ClientKept}
+use Rattle.rules.specs.Linking.{Linked, PairsKept, ElevationKept}
 
 -- an answer: one valid frame that fits the buffer
 pub record IsAnswer (bytes : List ℕ) : Type 0 where
@@ -80,10 +82,15 @@ pub record Throughout (σ : State) (cs : List Call) : Type 0 where
   pub acting : (s : ℕ) → let c = clientAt (after cs σ) s in (c ≡ noClient) ⊎ ActsFor (after cs σ) c
   -- what a station acts for changes only by its own requests 12 and 13 (between the bodies it stays: `oneByOne`)
   pub clients : (x : Serving) → Mem (serves x) (outcomes (events cs σ) σ) → (s : ℕ) → ClientKept x s
+  -- a linked pair's tokens are live, Full and Limited, primary, of its session and of one user
+  pub linked : (p : Pair) → Mem p (lives (after cs σ .pairs)) → Linked (after cs σ) p
+  -- pairs and elevations change only by request 16, and a Full or Limited token stays so (`lasting`)
+  pub pairs : (x : Serving) → Mem (serves x) (outcomes (events cs σ) σ) → PairsKept x
+  pub elevations : (x : Serving) → Mem (serves x) (outcomes (events cs σ) σ) → ElevationKept x
   -- 'enabled ones stay among the present', and default ones
   pub enabled : (t : Token) → Live t (after cs σ) → within (t .privileges .enabled) (t .privileges .present) ≡ true
   pub byDefault : (t : Token) → Live t (after cs σ) → within (t .privileges .byDefault) (t .privileges .present) ≡ true
-  -- 'a token made from another begins with no present privilege that its source lacked', and 'a token made from a restricted one by request 10,
+  -- 'a token made from another begins with no present privilege that its source lacked' (of a clone, the source is the partner), and 'a token made from a restricted one by request 10,
   -- or by 9 unless stripped, is restricted, and its list has nothing that the source's lacked'; it has the source's root, or 0 if stripped
   pub copies : (x : Serving) → Mem (serves x) (outcomes (events cs σ) σ) → Copying x
   -- 'every token carries its root': its own number if it is created; its source's, or 0 where it is anonymous (`copies`); it never changes

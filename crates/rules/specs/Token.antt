@@ -59,6 +59,16 @@ impersonation = 2
 abbrev pub identification : ℕ
 identification = 1
 
+-- the elevations: request 16 makes a pair's tokens Full and Limited
+abbrev pub defaultElevation : ℕ
+defaultElevation = 1
+
+abbrev pub full : ℕ
+full = 2
+
+abbrev pub limited : ℕ
+limited = 3
+
 -- a token of no root
 abbrev pub noRoot : ℕ
 noRoot = 0
@@ -111,6 +121,10 @@ withGroups gs t =
 unfoldable pub withDefaults : Defaults → Token → Token
 withDefaults x t =
     record { number = t.number; modified = t.modified; elevation = t.elevation; identity = t.identity; privileges = t.privileges; groups = t.groups; limits = t.limits; defaults = x; scope = t.scope }
+
+unfoldable pub withElevation : ℕ → Token → Token
+withElevation x t =
+    record { number = t.number; modified = t.modified; elevation = x; identity = t.identity; privileges = t.privileges; groups = t.groups; limits = t.limits; defaults = t.defaults; scope = t.scope }
 
 unfoldable pub withScope : ℕ → Token → Token
 withScope v t =

@@ -10,13 +10,15 @@ use Rattle.rules.specs.Bits.{has, within}
 use Rattle.rules.specs.Mask.{validMask}
 use Rattle.rules.specs.Privileges.{Privileges, existing}
 use Rattle.rules.specs.Group.{Group, isEnabled, isDenyOnly}
-use Rattle.rules.specs.Token.{Token, Identity, Limits, Defaults, maxGroups, maxRestricting, maxDacl, primary, impersonation}
+use Rattle.rules.specs.Token.{Token, Identity, Limits, Defaults, maxGroups, maxRestricting, maxDacl, primary, impersonation, full, limited}
 use Rattle.rules.specs.Table.{Table, lives}
 use Rattle.rules.specs.Handle.{Handle}
 use Rattle.rules.specs.Station.{Station}
-use Rattle.rules.specs.State.{State, tokenSlots, handleSlots, stationCount, numberOf, handleNumber, stationToken, clientToken, references, isReferred}
+use Rattle.rules.specs.Pair.{Pair}
+use Rattle.rules.specs.State.{State, tokenSlots, handleSlots, stationCount, pairSlots, numberOf, tokenOf, handleNumber, stationToken, clientToken, references, isReferred}
 use Rattle.rules.specs.Create.{validIntegrity}
 use Rattle.rules.specs.AdjustDefaults.{validOwner, validGroup}
+use Rattle.rules.specs.Link.{isOfSession}
 use Rattle.rules.specs.Frame.{Framed, part, broken, whole, framed}
 
 -- ---- ranges
@@ -114,6 +116,27 @@ clientAtStations σ t = all (clientFits t) σ.stations
 unfoldable pub levelValid : Station → Bool
 levelValid x = implies (eqb (clientToken x) 0) (eqb (x .client .level) 0)
 
+-- ---- a linked pair
+
+unfoldable pub sessionOf : Pair → ℕ
+sessionOf p = p.session
+
+-- its tokens are Full and Limited, primary, of its session and of one user; no token is both
+unfoldable pub pairFits : ℕ → Token → Token → Bool
+pairFits session elevated filtered =
+    eqb elevated.elevation full && isOfSession session elevated
+    && eqb filtered.elevation limited && isOfSession session filtered
+    && eqb (elevated .identity .user) (filtered .identity .user)
+
+unfoldable pub pairValid : State → Pair → Bool
+pairValid σ p = pairFits p.session (tokenOf σ p.elevated) (tokenOf σ p.filtered)
+
+-- pairs are of different sessions
+unfoldable pub pairsValid : State → Bool
+pairsValid σ = eqb (length σ.pairs) pairSlots && distinct (map sessionOf (lives σ.pairs)) && all (pairValid σ) (lives σ.pairs)
+
+-- ---- all of it
+
 -- references are live, every token is referred to, station tokens are primary in type, and those acted for fit their stations
 unfoldable pub valid : State → Bool
 valid σ =
@@ -128,3 +151,4 @@ valid σ =
     && all (primaryAtStation σ) (lives (σ .tokens .slots))
     && all (clientAtStations σ) (lives (σ .tokens .slots))
     && all levelValid σ.stations
+    && pairsValid σ

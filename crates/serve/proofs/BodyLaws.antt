@@ -1,12 +1,16 @@
 -- A whole body: its request number chooses the layout. Assumes nothing.
-use Prim.Native.Nat.{ℕ, zero, suc}
+use Prim.Native.Nat.{ℕ, zero, suc, _≤_}
 use native.Mathlib.Omega.{arith}
 use mathlib.Core.Path.{_≡_, refl, sym, ap, _∙_}
+use mathlib.Core.Logic.{⊎-elim}
 use mathlib.Core.List.{List}
+use lib.Dec.{eqb}
 use lib.ListN.{getD, List·getD-eq-default}
+use borrow.Author.Tests.{eqb-true, eqb-false}
 use Rattle.rules.specs.Number.{bad}
 use Rattle.rules.specs.Request.{Request, Reader, layouts, unknown, parse}
 use Rattle.rules.specs.Serve.{decision, serve}
+use Rattle.rules.proofs.Logic.{either}
 use Rattle.number.specs.Rest.{Rest, rest, lost, readFrom}
 use Rattle.number.specs.Meaning.{restOf}
 use Rattle.number.specs.declared.cursor.Field.{Field}
@@ -27,10 +31,15 @@ no-layout (rest bytes) = refl
 no-layout lost = refl
 
 -- no request has this number
-none-of : (n : ℕ) → Apart 13 n → getD layouts n unknown ≡ unknown
+none-of : (n : ℕ) → Apart 13 n → (n ≡ 16 → ⊥) → (n ≡ 17 → ⊥) → getD layouts n unknown ≡ unknown
 unfolding layouts
-none-of zero u = refl
-none-of (suc n) u = List·getD-eq-default layouts unknown {n = suc n} (above 13 (suc n) u (omega arith))
+none-of zero u x y = refl
+none-of (suc n) u x y =
+    let k = suc n in
+    let l = above 13 k u (omega arith) in
+    ⊎-elim (λ e. ap (λ (m : ℕ). getD layouts m unknown) (eqb-true k 14 e))
+    (λ a. ⊎-elim (λ e. ap (λ (m : ℕ). getD layouts m unknown) (eqb-true k 15 e))
+    (λ b. let past : 18 ≤ k = omega (arith, eqb-false k 14 a, eqb-false k 15 b) in List·getD-eq-default layouts unknown {n = k} past) (either (eqb k 15))) (either (eqb k 14))
 
 module _ {body : List ℕ} {first : Field} (b : Begun body first) where
   -- the rest of the body is read by the layout of its number
@@ -43,10 +52,10 @@ module _ {body : List ℕ} {first : Field} (b : Begun body first) where
     unfolding decision
     by-number n e x = record { carried = read-alike station r (same-layout (getD layouts n unknown) (ap (λ (m : ℕ). getD layouts m unknown) e)) (x .carried) }
 
-    pub by-none : Apart 13 (first .value) → Ends (answers.Refused 1) r → BodyCarried station body ts ds hs cs ts ds cs r
+    pub by-none : Apart 13 (first .value) → (first .value ≡ 16 → ⊥) → (first .value ≡ 17 → ⊥) → Ends (answers.Refused 1) r → BodyCarried station body ts ds hs cs ts ds cs r
     unfolding decision
-    by-none u i = record {
-      carried = malformed station r (parse body) (sym (same-layout unknown (none-of (first .value) u)) ∙ no-layout (restOf body (first .next))) i;
+    by-none u x y i = record {
+      carried = malformed station r (parse body) (sym (same-layout unknown (none-of (first .value) u x y)) ∙ no-layout (restOf body (first .next))) i;
     }
 
 -- ---- the answer is written

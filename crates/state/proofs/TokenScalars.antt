@@ -1,4 +1,5 @@
--- Who a token is and whether it is restricted, read in its row; its privileges, read and marked there. Assumes nothing.
+-- Who a token is and whether it is restricted, read in its row; its elevation, read and stored there; its privileges, read and marked there.
+-- Assumes nothing.
 use Prim.Native.Nat.{ℕ, suc, _+_, _*_, _%_, _^_, _≤_, _<_}
 use native.Mathlib.Omega.{arith}
 use mathlib.Core.Path.{_≡_, refl, sym, ap, subst, _∙_}
@@ -11,7 +12,7 @@ use Rattle.table.specs.Table.{record-element}
 use Rattle.rules.specs.Basic.{isEmpty}
 use Rattle.rules.specs.Privileges as Rules
 use Rattle.rules.specs.Privileges.{isEnabled, markUsed, granted}
-use Rattle.rules.specs.Token.{Token, withPrivileges, isRestricted, newToken, noLimits, primaryOf}
+use Rattle.rules.specs.Token.{Token, defaultElevation, withPrivileges, withElevation, isRestricted, newToken, noLimits, primaryOf}
 use Rattle.rules.specs.State as State
 use Rattle.rules.specs.State.{State, tokenSlots, noToken, held, usedOn, used, caller, changeToken}
 use Rattle.rules.specs.Head as Head
@@ -25,7 +26,7 @@ use Rattle.token.specs.Row.{identityIn, privilegesIn, Becomes}
 use Rattle.token.specs.declared.Identity.{Identity}
 use Rattle.control.specs.Stations.{CallerNumber}
 use Rattle.state.specs.Parts.{TokensIn}
-use Rattle.state.specs.TokenCalls.{FoundAt, IdentityGiven, IdentityAt, RestrictedGiven, RestrictedAt, PrivilegesAt, Held, Marked, WordsChanged, Used}
+use Rattle.state.specs.TokenCalls.{FoundAt, IdentityGiven, IdentityAt, RestrictedGiven, RestrictedAt, ElevationGiven, ElevationAt, PrivilegesAt, Held, Marked, WordsChanged, Used}
 use Rattle.state.proofs.InPlace.{lent, back, in-slot, lent-row, no-token, words-changed, words-unchanged}
 
 -- ---- reading
@@ -71,6 +72,31 @@ module _ {i : ℕ} {ts : List ℕ} where
 
   pub restricted-of : {n : ℕ} {r : Bool} → FoundAt n ts i → RestrictedAt i ts r → RestrictedGiven n ts r
   restricted-of {n} at g = g .given n at
+
+module _ {i : ℕ} {ts : List ℕ} where
+  pub elevation-at : i < tokenSlots → ElevationAt i ts (getD ts (i * tokenWords + Head.elevation) 0)
+  unfolding tokenRow head
+  elevation-at l = record {
+    given = λ n at. record {
+      elevation = λ σ v h. record-element tokenWords i Head.elevation ts 0 (omega arith) ∙ ap (λ (ws : List ℕ). getD ws Head.elevation 0) (in-slot n at v h l .words);
+    };
+  }
+
+  pub no-elevation : tokenSlots ≤ i → ElevationAt i ts defaultElevation
+  unfolding noToken newToken
+  no-elevation l = record { given = λ n at. record { elevation = λ σ v h. sym (ap (λ (t : Token). t .elevation) (no-token n at v h l)) } }
+
+  pub elevation-of : {n r : ℕ} → FoundAt n ts i → ElevationAt i ts r → ElevationGiven n ts r
+  elevation-of {n} at g = g .given n at
+
+  -- another elevation
+  pub elevated-in-place : {n : ℕ} {ws : List ℕ} (e : ℕ) → FoundAt n ts i → i < tokenSlots → Becomes (withElevation e) (lent i ts) ws → WordsChanged n (withElevation e) ts (back i ws ts)
+  unfolding withElevation
+  elevated-in-place e at l b = words-changed at (withElevation e) (λ t. refl) (λ t. refl) l (λ t v q. b .row t q)
+
+  pub elevated-nowhere : {n : ℕ} (e : ℕ) → FoundAt n ts i → tokenSlots ≤ i → WordsChanged n (withElevation e) ts ts
+  unfolding withElevation
+  elevated-nowhere e at l = words-unchanged at (withElevation e) (λ t. refl) l
 
 pub privileges-in-row : (ws : List ℕ) (t : Token) → ws ≡ tokenRow t → privilegesOf (privilegesIn ws) ≡ t .privileges
 unfolding tokenRow head

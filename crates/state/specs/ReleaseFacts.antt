@@ -10,10 +10,12 @@ use Rattle.rules.specs.Table.{isLive, lives}
 use Rattle.rules.specs.Valid.{valid}
 use Rattle.rules.specs.Station.{Client, noClient}
 use Rattle.rules.specs.Acting.{ActsFor}
+use Rattle.rules.specs.Linking.{Linked}
 use Rattle.rules.specs.Index.{freedOne}
-use Rattle.rules.specs.State.{State, findHandle, dropHandle, setToken, setClient, released}
+use Rattle.rules.specs.State.{State, findHandle, dropHandle, setToken, setClient, setPair, released}
 use Rattle.handle.specs.declared.Handle.{Handle}
 use Rattle.control.specs.Control.{ControlIn}
+use Rattle.control.specs.Pairs.{pairOf, placeFor}
 use Rattle.state.specs.Parts.{TokensIn, HandlesIn}
 use Rattle.state.specs.Formed.{Formed}
 use Rattle.state.specs.HandleFacts.{changed}
@@ -45,3 +47,8 @@ client token level = record { token = token; level = level }
 pub record ActsFrom (station token level : ℕ) (ts ds : List ℕ) (hs : List Handle) (cs ts′ ds′ cs′ : List ℕ) : Type 0 where
   pub parts : (σ : State) → valid σ ≡ true → PartsIn σ ts ds hs cs → (client token level ≡ noClient) ⊎ ActsFor σ (client token level)
       → PartsIn (released (setClient station (client token level) σ)) ts′ ds′ hs cs′
+
+-- where the tokens are such that they make a pair, and the place is the session's or the lowest free one
+pub record PairLinked (place session elevated filtered : ℕ) (ts ds : List ℕ) (hs : List Handle) (cs ts′ ds′ cs′ : List ℕ) : Type 0 where
+  pub parts : (σ : State) → valid σ ≡ true → PartsIn σ ts ds hs cs → Linked σ (pairOf session elevated filtered) → place ≡ placeFor session (σ .pairs)
+      → PartsIn (released (setPair (pairOf session elevated filtered) σ)) ts′ ds′ hs cs′

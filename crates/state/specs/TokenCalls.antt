@@ -40,6 +40,12 @@ pub record RestrictedGiven (n : ℕ) (ts : List ℕ) (r : Bool) : Type 0 where
 pub record RestrictedAt (slot : ℕ) (ts : List ℕ) (r : Bool) : Type 0 where
   pub given : (n : ℕ) → FoundAt n ts slot → RestrictedGiven n ts r
 
+pub record ElevationGiven (n : ℕ) (ts : List ℕ) (r : ℕ) : Type 0 where
+  pub elevation : (σ : State) → valid σ ≡ true → {ds : List ℕ} → TokensIn σ ts ds → r ≡ State.tokenOf σ n .elevation
+
+pub record ElevationAt (slot : ℕ) (ts : List ℕ) (r : ℕ) : Type 0 where
+  pub given : (n : ℕ) → FoundAt n ts slot → ElevationGiven n ts r
+
 pub record PrivilegesAt (slot : ℕ) (ts : List ℕ) (r : Privileges) : Type 0 where
   pub given : (n : ℕ) → FoundAt n ts slot → (σ : State) → valid σ ≡ true → {ds : List ℕ} → TokensIn σ ts ds → privilegesOf r ≡ State.tokenOf σ n .privileges
 

@@ -3,11 +3,11 @@ ghost use mathlib.Core.Path.{_≡_};
 ghost use Prim.Native.Nat.{_*_, _<_};
 ghost use lib.ListN.{length};
 ghost use Rattle.rules.specs.Number.{max64};
-ghost use Rattle.rules.specs.Token.{maxDacl};
+ghost use Rattle.rules.specs.Token.{maxDacl, withElevation};
 ghost use Rattle.rules.specs.State.{tokenSlots, stationCount};
 ghost use Rattle.rules.specs.Memory.{tokenWords, controlWords, nextToken};
 ghost use Rattle.state.specs.Parts.{Lent};
-ghost use Rattle.state.specs.TokenCalls.{IdentityGiven, IdentityAt, RestrictedGiven, RestrictedAt, PrivilegesAt, Held, Marked, CanAdd, RowsPut, RowAdded, Used};
+ghost use Rattle.state.specs.TokenCalls.{IdentityGiven, IdentityAt, RestrictedGiven, RestrictedAt, ElevationGiven, ElevationAt, PrivilegesAt, Held, Marked, CanAdd, WordsChanged, RowsPut, RowAdded, Used};
 use control::counters;
 use control::layout::MAX_TOKEN;
 use control::layout::NEXT_TOKEN;
@@ -15,6 +15,7 @@ use control::stations::caller_number;
 use privilege::privileges::Privileges;
 use privilege::words;
 use token::Identity;
+use token::layout::ELEVATION;
 use token::layout::RESTRICTING_COUNT;
 use token::layout::TOKEN_SLOTS;
 use token::layout::TOKEN_WORDS;
@@ -71,6 +72,27 @@ pub fn is_restricted(number: u64, tokens: &[u64]) -> bool
 {
     let slot = slots::find(tokens, number);
     restricted_at(slot, tokens)
+}
+
+// The elevation of the token in a slot; past the last slot, that of the empty token.
+fn elevation_at(slot: usize, tokens: &[u64]) -> u64
+    requires { ⌜ length (now tokens) ≡ tokenSlots * tokenWords ⌝ }
+    ensures { λ r. ⌜ ElevationAt slot (now (tokens .entry)) r ⌝ }
+{
+    if slot < TOKEN_SLOTS {
+        let at = slot * TOKEN_WORDS + ELEVATION;
+        return tokens[at];
+    }
+    1
+}
+
+// The same of the live token of a number.
+pub fn elevation_of(number: u64, tokens: &[u64]) -> u64
+    requires { ⌜ length (now tokens) ≡ tokenSlots * tokenWords ⌝ }
+    ensures { λ r. ⌜ ElevationGiven number (now (tokens .entry)) r ⌝ }
+{
+    let slot = slots::find(tokens, number);
+    elevation_at(slot, tokens)
 }
 
 // The privileges of the token in a slot; none past the last slot.
@@ -137,6 +159,19 @@ pub fn add_row(
     let slot = slots::free_slot(tokens);
     put_rows(words, bytes, tokens, dacls, slot);
     counters::step(NEXT_TOKEN, control);
+}
+
+// The token of that number gets another elevation.
+pub fn elevate(number: u64, elevation: u64, tokens: &mut [u64])
+    requires { ⌜ length (now tokens) ≡ tokenSlots * tokenWords ⌝ }
+    ensures { λ r. ⌜ WordsChanged number (withElevation elevation) (now (tokens .entry)) (now (tokens .exit)) ⌝ }
+{
+    let slot = slots::find(tokens, number);
+    if slot < TOKEN_SLOTS {
+        let at = slot * TOKEN_WORDS;
+        let end = at + TOKEN_WORDS;
+        row::set_elevation(&mut tokens[at..end], elevation);
+    }
 }
 
 fn mark_used(bits: u64, words: &mut [u64])

@@ -10,7 +10,7 @@ use borrow.Author.Tests.{leb-true}
 use Rattle.table.specs.Lists.{pad, pad-fits}
 use Rattle.rules.specs.Basic.{all}
 use Rattle.rules.specs.Group.{Group}
-use Rattle.rules.specs.Token.{Token, maxGroups, maxRestricting, nextModified, withPrivileges, withGroups, withScope}
+use Rattle.rules.specs.Token.{Token, maxGroups, maxRestricting, nextModified, withPrivileges, withGroups, withScope, withElevation}
 use Rattle.rules.specs.Valid.{groupValid, groupsValid, tokenValid}
 use Rattle.rules.specs.Head as Head
 use Rattle.rules.specs.Memory.{headWords, pack, unpack, head, tokenRow, groupsAt, tokenAt}
@@ -33,6 +33,10 @@ module _ {ws : List ℕ} where
   pub scope-set : (v : ℕ) → Becomes (withScope v) ws (set ws Head.scope v)
   unfolding tokenRow head withScope
   scope-set v = record { row = λ t e. ap (λ (l : List ℕ). set l Head.scope v) e }
+
+  pub elevation-set : (v : ℕ) → Becomes (withElevation v) ws (set ws Head.elevation v)
+  unfolding tokenRow head withElevation
+  elevation-set v = record { row = λ t e. ap (λ (l : List ℕ). set l Head.elevation v) e }
 
 -- ---- the words of a token's groups
 

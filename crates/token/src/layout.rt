@@ -56,3 +56,8 @@ pub const RESTRICTING_COUNT: usize = 18;
 pub const DACL_COUNT: usize = 19;
 
 pub const ROOT: usize = 20;
+
+// The elevations of a linked pair's tokens.
+pub const FULL: u64 = 2;
+
+pub const LIMITED: u64 = 3;

@@ -2,7 +2,7 @@
 ghost use mathlib.Core.Path.{_≡_};
 ghost use Prim.Native.Nat.{_<_, min};
 ghost use lib.ListN.{length, getD};
-ghost use Rattle.rules.specs.Token.{maxDacl, nextModified, withPrivileges, withScope};
+ghost use Rattle.rules.specs.Token.{maxDacl, nextModified, withElevation, withPrivileges, withScope};
 ghost use Rattle.rules.specs.Memory.{tokenWords, slotRow, slotDacl};
 ghost use Rattle.rules.specs.Table.{free};
 ghost use Rattle.token.specs.Meaning.{identityOf};
@@ -135,6 +135,13 @@ pub fn set_scope(words: &mut [u64], scope: u32)
     ensures { λ _. ⌜ Becomes (withScope scope) (now (words .entry)) (now (words .exit)) ⌝ }
 {
     words[SCOPE] = scope as u64;
+}
+
+pub fn set_elevation(words: &mut [u64], elevation: u64)
+    requires { ⌜ length (now words) ≡ tokenWords ⌝ }
+    ensures { λ _. ⌜ Becomes (withElevation elevation) (now (words .entry)) (now (words .exit)) ⌝ }
+{
+    words[ELEVATION] = elevation;
 }
 
 // A free slot.

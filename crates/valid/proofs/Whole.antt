@@ -7,10 +7,11 @@ use native.Mathlib.Omega.{arith}
 use borrow.Author.Tests.{eq-eqb, le-leb}
 use lib.Dec.{eqb, leb}
 use lib.ListN.{length, take, drop, length-drop, length-map}
-use lib.Seq.{length-take-le}
+use lib.Seq.{length-take-le, drop-drop}
 use Rattle.table.specs.Lists.{named-take}
 use Rattle.table.specs.Table.{flat, length-flat}
 use Rattle.table.specs.Rows.{readRows, testRows, length-rows}
+use Rattle.table.specs.Sections.{placeOf}
 use Rattle.handle.specs.declared.Handle as code
 use Rattle.handle.specs.Meaning.{handleOf}
 use Rattle.rules.specs.Basic.{all, member, distinct, nonZero}
@@ -19,40 +20,42 @@ use Rattle.rules.specs.Token.{Token, maxDacl}
 use Rattle.rules.specs.Table.{Slot, lives}
 use Rattle.rules.specs.Handle.{Handle}
 use Rattle.rules.specs.Station.{Station}
+use Rattle.rules.specs.Pair.{Pair}
 use Rattle.rules.specs.State as State
-use Rattle.rules.specs.State.{tokenSlots, handleSlots, stationCount, numberOf, handleNumber, handleToken, stationToken, clientToken, references}
+use Rattle.rules.specs.State.{tokenSlots, handleSlots, stationCount, pairSlots, numberOf, handleNumber, handleToken, stationToken, clientToken, elevatedToken, filteredToken, references}
 use Rattle.rules.specs.Valid as Valid
-use Rattle.rules.specs.Valid.{between, tableValid, tokenValid, handleValid, streamValid, levelValid, isToken, primaryAtStation, clientFits, clientAtStations}
-use Rattle.rules.specs.Memory.{Memory, same, sameHandles, sameMemory, sized, isImage, valid, encode, decode, slotAt, slotRow, slotDacl, slotHandle, handleAt, stationAt, stationRow, counters, sections, control, pendingRow, tokenWords, counterWords, stationWords, controlWords, nextToken, nextHandle, stationsIn, pendingBytes}
+use Rattle.rules.specs.Valid.{between, tableValid, tokenValid, handleValid, streamValid, levelValid, isToken, primaryAtStation, clientFits, clientAtStations, sessionOf, pairValid, pairsValid}
+use Rattle.rules.specs.Memory.{Memory, same, sameHandles, sameMemory, sized, isImage, valid, encode, decode, slotAt, slotRow, slotDacl, slotHandle, handleAt, stationAt, stationRow, pairAt, slotPair, counters, sections, control, pendingRow, tokenWords, counterWords, stationWords, pairWords, elevatedWord, filteredWord, pairSection, controlSizes, controlWords, nextToken, nextHandle, stationsIn, pairsIn, pendingBytes}
 use Rattle.rules.proofs.Same.{same-refl}
-use Rattle.rules.proofs.Rows.{length-slotRow, length-slotDacl, length-stationRow, length-pendingRow}
+use Rattle.rules.proofs.Rows.{length-slotRow, length-slotDacl, length-stationRow, length-slotPair, length-pendingRow}
 use Rattle.token_rows.specs.Tests.{slotTest, tokenTest}
 use Rattle.lists.specs.Tests.{tally, isGiven, isApart, isReferred, refsTest}
-use Rattle.references.specs.Tests.{columnBy, firstWord, otherWord, tokenIn, clientIn, kept, nonzero, numbersTest, linksTest}
+use Rattle.references.specs.Tests.{columnBy, firstWord, otherWord, tokenIn, clientIn, pairColumn, kept, nonzero, numbersTest, linksTest}
 use Rattle.valid.specs.Tests.{stationTest, partsTest}
 use Rattle.valid.specs.Meaning.{memoryOf, Lent}
 use Rattle.lists.proofs.Truth.{same-tests, all-cong, all-and, all-map}
 use Rattle.lists.proofs.Counts.{listed, referred}
 use Rattle.token_rows.proofs.Same.{allSame, same-joined, same-rows}
 use Rattle.references.proofs.Acting.{all-references, member-references, clients}
+use Rattle.references.proofs.PairRows.{fitsWith, elevated-tokens, filtered-tokens, pairs-tested}
 use Rattle.references.proofs.Lists.{given, kept-lives, token-numbers, primaryIn, other-numbers, station-tokens, all-lives, fields}
 
 -- ---- the tests, as they stand in the code and as they stand in the rules
 
 -- L′ is L where A₁ holds
-shuffle : (T D H S P a A₁ A₂ b B₁ B₂ c E F G L R Q C I : Bool) {L′ : Bool} → (A₁ ≡ true → L′ ≡ L)
-    → ((T && D && E) && (S && P && (G && I)) && ((H && F) && ((a && (A₁ && A₂)) && (b && (B₁ && B₂)) && c && (R && L′) && Q) && C))
-    ≡ ((T && D && H && S && P) && ((a && A₁ && A₂) && (b && c && B₁ && B₂) && E && F && G && L && R && Q && C && I))
+shuffle : (T D H S₁ S₂ P a A₁ A₂ b B₁ B₂ c E F G L R Q C I X Y : Bool) {S L′ : Bool} → S ≡ (S₁ && S₂) → (A₁ ≡ true → L′ ≡ L)
+    → ((T && D && E) && (S₁ && P && (G && I)) && ((H && F) && ((a && (A₁ && A₂)) && (b && (B₁ && B₂)) && c && (R && L′) && Q) && C && (S₂ && (X && Y))))
+    ≡ ((T && D && H && S && P) && ((a && A₁ && A₂) && (b && c && B₁ && B₂) && E && F && G && L && R && Q && C && I && (X && Y)))
 unfolding all member
-shuffle T D H S P a false A₂ b B₁ B₂ c E F G L R Q C I l = simp (and-false)
-shuffle T D H S P a true A₂ b B₁ B₂ c E F G L R Q C I l =
-    rw (l refl)
+shuffle T D H S₁ S₂ P a false A₂ b B₁ B₂ c E F G L R Q C I X Y s l = simp (and-false)
+shuffle T D H S₁ S₂ P a true A₂ b B₁ B₂ c E F G L R Q C I X Y s l =
+    rw (s, l refl)
     (simp and-assoc
     (simp and-true at
     (same-tests
-    (T ∷ D ∷ E ∷ S ∷ P ∷ G ∷ I ∷ H ∷ F ∷ a ∷ A₂ ∷ b ∷ B₁ ∷ B₂ ∷ c ∷ R ∷ L ∷ Q ∷ C ∷ [])
-    (0 ∷ 1 ∷ 2 ∷ 3 ∷ 4 ∷ 5 ∷ 6 ∷ 7 ∷ 8 ∷ 9 ∷ 10 ∷ 11 ∷ 12 ∷ 13 ∷ 14 ∷ 15 ∷ 16 ∷ 17 ∷ 18 ∷ [])
-    (0 ∷ 1 ∷ 7 ∷ 3 ∷ 4 ∷ 9 ∷ 10 ∷ 11 ∷ 14 ∷ 12 ∷ 13 ∷ 2 ∷ 8 ∷ 5 ∷ 16 ∷ 15 ∷ 17 ∷ 18 ∷ 6 ∷ [])
+    (T ∷ D ∷ E ∷ S₁ ∷ P ∷ G ∷ I ∷ H ∷ F ∷ a ∷ A₂ ∷ b ∷ B₁ ∷ B₂ ∷ c ∷ R ∷ L ∷ Q ∷ C ∷ S₂ ∷ X ∷ Y ∷ [])
+    (0 ∷ 1 ∷ 2 ∷ 3 ∷ 4 ∷ 5 ∷ 6 ∷ 7 ∷ 8 ∷ 9 ∷ 10 ∷ 11 ∷ 12 ∷ 13 ∷ 14 ∷ 15 ∷ 16 ∷ 17 ∷ 18 ∷ 19 ∷ 20 ∷ 21 ∷ [])
+    (0 ∷ 1 ∷ 7 ∷ 3 ∷ 19 ∷ 4 ∷ 9 ∷ 10 ∷ 11 ∷ 14 ∷ 12 ∷ 13 ∷ 2 ∷ 8 ∷ 5 ∷ 16 ∷ 15 ∷ 17 ∷ 18 ∷ 6 ∷ 20 ∷ 21 ∷ [])
     refl refl)))
 
 module _ (m : Memory)
@@ -70,30 +73,36 @@ module _ (m : Memory)
 
   -- the counters are what they are read as, whatever they are
   control-tested : let xs : List Station = readRows stationAt stationWords pendingBytes stationCount (stationsIn (m .control)) (m .pending) in
-      same (control (decode m)) (m .control) ≡ same (flat stationRow xs) (stationsIn (m .control))
+      let ps : List (Slot Pair) = readRows pairAt pairWords 0 pairSlots (pairsIn (m .control)) [] in
+      same (control (decode m)) (m .control) ≡ (same (flat stationRow xs) (stationsIn (m .control)) && same (flat slotPair ps) (pairsIn (m .control)))
   unfolding decode control sections allSame
   control-tested =
       let xs : List Station = readRows stationAt stationWords pendingBytes stationCount (stationsIn (m .control)) (m .pending) in
-      let rows : List ℕ = flat stationRow xs in
+      let ps : List (Slot Pair) = readRows pairAt pairWords 0 pairSlots (pairsIn (m .control)) [] in
       let count : length xs ≡ stationCount = length-rows stationAt stationWords pendingBytes stationCount (stationsIn (m .control)) (m .pending) in
-      let long : length rows ≡ stationCount * stationWords = length-flat stationRow stationWords length-stationRow xs ∙ ap (λ (n : ℕ). n * stationWords) count in
+      let long : length (flat stationRow xs) ≡ stationCount * stationWords = length-flat stationRow stationWords length-stationRow xs ∙ ap (λ (n : ℕ). n * stationWords) count in
+      let places : length ps ≡ pairSlots = length-rows pairAt pairWords 0 pairSlots (pairsIn (m .control)) [] in
+      let wide : length (flat slotPair ps) ≡ pairSlots * pairWords = length-flat slotPair pairWords length-slotPair ps ∙ ap (λ (n : ℕ). n * pairWords) places in
       let counted : same (counters (decode m)) (take counterWords (m .control)) ≡ true =
       ap (same (counters (decode m))) (sym (named-take counterWords 0 (m .control) (omega arith))) ∙ same-refl (counters (decode m)) in
       same-joined (sections (decode m)) (m .control) (omega arith)
-      ∙ rw (counted, long, and-true)
+      ∙ rw (counted, long, wide, drop-drop (stationCount * stationWords) counterWords (m .control), and-true)
 
   stations-tested : let xs : List Station = readRows stationAt stationWords pendingBytes stationCount (stationsIn (m .control)) (m .pending) in
-      (same (control (decode m)) (m .control) && same (flat pendingRow xs) (m .pending) && (all streamValid xs && all levelValid xs))
+      (same (flat stationRow xs) (stationsIn (m .control)) && same (flat pendingRow xs) (m .pending) && (all streamValid xs && all levelValid xs))
       ≡ testRows stationTest stationWords pendingBytes stationCount (stationsIn (m .control)) (m .pending)
   unfolding stationTest
   stations-tested =
       let xs : List Station = readRows stationAt stationWords pendingBytes stationCount (stationsIn (m .control)) (m .pending) in
-      ap₂ (λ b v. b && same (flat pendingRow xs) (m .pending) && v) control-tested (all-and streamValid levelValid xs)
+      ap (λ v. same (flat stationRow xs) (stationsIn (m .control)) && same (flat pendingRow xs) (m .pending) && v) (all-and streamValid levelValid xs)
       ∙ same-rows stationAt stationWords pendingBytes (λ x. streamValid x && levelValid x) stationRow pendingRow length-stationRow length-pendingRow stationCount
       (stationsIn (m .control)) (m .pending) (length-take-le (stationCount * stationWords) (drop counterWords (m .control)) (simp length-drop (omega arith))) lp
 
+  pairs-long : length (pairsIn (m .control)) ≡ pairSlots * pairWords
+  pairs-long = length-take-le (pairSlots * pairWords) (drop (placeOf controlSizes pairSection) (m .control)) (simp length-drop (omega arith))
+
   pub parts : partsTest m ≡ (isImage m && Valid.valid (decode m))
-  unfolding partsTest linksTest numbersTest refsTest isImage sameMemory encode decode Valid.valid tableValid between references isToken State.isReferred primaryAtStation primaryIn clientAtStations numberOf
+  unfolding partsTest linksTest numbersTest refsTest isImage sameMemory encode decode Valid.valid tableValid between references isToken State.isReferred primaryAtStation primaryIn clientAtStations pairsValid pairValid State.tokenOf numberOf
   parts =
       let rows : List (Slot Token) = readRows slotAt tokenWords maxDacl tokenSlots (m .tokens) (m .dacls) in
       let xs : List Station = readRows stationAt stationWords pendingBytes stationCount (stationsIn (m .control)) (m .pending) in
@@ -105,7 +114,13 @@ module _ (m : Memory)
       let nz : List ℕ = nonZero (map clientToken xs) in
       let hn : List ℕ = kept handleNumber handleNumber hs in
       let ht : List ℕ = kept handleNumber handleToken hs in
-      let rs : List ℕ = ht ++ ss ++ columnBy clientIn stationWords stationCount (stationsIn (m .control)) in
+      let pw : List ℕ = pairsIn (m .control) in
+      let ps : List (Slot Pair) = readRows pairAt pairWords 0 pairSlots pw [] in
+      let pl : List Pair = lives ps in
+      let pe : List ℕ = pairColumn elevatedWord pw in
+      let pf : List ℕ = pairColumn filteredWord pw in
+      let rs : List ℕ = ht ++ pe ++ pf ++ ss ++ columnBy clientIn stationWords stationCount (stationsIn (m .control)) in
+      let refs : List ℕ = map handleToken hl ++ map stationToken xs ++ nz ++ map elevatedToken pl ++ map filteredToken pl in
       let tn : List ℕ = map numberOf (lives rows) in
       let nt : ℕ = nextToken (m .control) in
       let nh : ℕ = nextHandle (m .control) in
@@ -113,34 +128,38 @@ module _ (m : Memory)
       let es : map stationToken xs ≡ ss = station-tokens stationCount (stationsIn (m .control)) (m .pending) in
       let eh : map handleNumber hl ≡ hn = kept-lives handleNumber hs in
       let et : map handleToken hl ≡ ht = kept-lives handleToken hs in
+      let ee : map elevatedToken pl ≡ pe = elevated-tokens pw in
+      let ef : map filteredToken pl ≡ pf = filtered-tokens pw in
       let g₁ : (leb 1 nt && all (isGiven nt ns) ns) ≡ (leb 1 nt && (distinct tn && all (between 1 (nt - 1)) tn)) = sym (rw en (given (λ x. x) nt col)) in
       let g₂ : (leb 1 nh && all (isGiven nh hn) hn) ≡ (leb 1 nh && (distinct (map handleNumber hl) && all (between 1 (nh - 1)) (map handleNumber hl))) = sym (rw eh (given handleNumber nh hs)) in
-      let l : distinct tn ≡ true → eqb (tally ns rs) (length rs) ≡ all (λ n. member n tn) (map handleToken hl ++ map stationToken xs ++ nz) =
-      λ d. sym (rw (en, et, es) (sym (listed ns (sym (ap distinct en) ∙ d) rs ∙ all-references (λ n. member n ns) ht stationCount (stationsIn (m .control)) (m .pending)))) in
-      let r : all (isReferred rs) ns ≡ all (λ t. member (t .number) (map handleToken hl ++ map stationToken xs ++ nz)) (lives rows) =
+      let l : distinct tn ≡ true → eqb (tally ns rs) (length rs) ≡ all (λ n. member n tn) refs =
+      λ d. sym (rw (en, et, es, ee, ef) (sym (listed ns (sym (ap distinct en) ∙ d) rs ∙ all-references (λ n. member n ns) ht pe pf stationCount (stationsIn (m .control)) (m .pending)))) in
+      let r : all (isReferred rs) ns ≡ all (λ t. member (t .number) refs) (lives rows) =
       sym
-      (sym (all-map numberOf (λ n. member n (map handleToken hl ++ map stationToken xs ++ nz)) (lives rows))
-      ∙ rw (en, es, et) (all-cong _ _ (λ x. sym (referred rs x ∙ member-references x ht stationCount (stationsIn (m .control)) (m .pending))) ns)) in
+      (sym (all-map numberOf (λ n. member n refs) (lives rows))
+      ∙ rw (en, es, et, ee, ef) (all-cong _ _ (λ x. sym (referred rs x ∙ member-references x ht pe pf stationCount (stationsIn (m .control)) (m .pending))) ns)) in
       let q : all (isApart ss) (nonzero (columnBy otherWord tokenWords tokenSlots (m .tokens))) ≡ all (primaryIn (map stationToken xs)) (lives rows) =
       sym (ap (λ zs. all (primaryIn zs) (lives rows)) es ∙ other-numbers ss tokenSlots (m .tokens) (m .dacls)) in
       let c₁ : eqb (length rows) tokenSlots ≡ true = eq-eqb (length rows) tokenSlots (length-rows slotAt tokenWords maxDacl tokenSlots (m .tokens) (m .dacls)) in
       let c₂ : eqb (length (map handleAt hs)) handleSlots ≡ true = eq-eqb (length (map handleAt hs)) handleSlots (length-map hs handleAt ∙ lh) in
       let c₃ : eqb (length xs) stationCount ≡ true = eq-eqb (length xs) stationCount (length-rows stationAt stationWords pendingBytes stationCount (stationsIn (m .control)) (m .pending)) in
+      let c₅ : eqb (length ps) pairSlots ≡ true = eq-eqb (length ps) pairSlots (length-rows pairAt pairWords 0 pairSlots pw []) in
       let c₄ : leb nt max64 ≡ true = le-leb nt max64 (omega arith) in
       ap₂ _&&_ (ap₂ _&&_ (sym tokens-tested) (sym stations-tested))
-      (ap₂ _&&_ (ap₂ _&&_ (sym (fields hs)) (ap₂ _&&_ (ap₂ _&&_ (ap (λ b. b && leb nh max32) (ap₂ _&&_ g₁ g₂)) (ap (λ b. b && eqb (tally ns rs) (length rs)) r)) q))
-      (sym (clients (m .tokens) (m .dacls) stationCount (stationsIn (m .control)) (m .pending))))
+      (ap₂ _&&_ (ap₂ _&&_ (ap₂ _&&_ (sym (fields hs)) (ap₂ _&&_ (ap₂ _&&_ (ap (λ b. b && leb nh max32) (ap₂ _&&_ g₁ g₂)) (ap (λ b. b && eqb (tally ns rs) (length rs)) r)) q))
+      (sym (clients (m .tokens) (m .dacls) stationCount (stationsIn (m .control)) (m .pending)))) (sym (pairs-tested (m .tokens) (m .dacls) pw pairs-long)))
       ∙ shuffle
       (same (flat slotRow rows) (m .tokens)) (same (flat slotDacl rows) (m .dacls)) (sameHandles (map slotHandle (map handleAt hs)) hs)
-      (same (control (decode m)) (m .control)) (same (flat pendingRow xs) (m .pending))
+      (same (flat stationRow xs) (stationsIn (m .control))) (same (flat slotPair ps) pw) (same (flat pendingRow xs) (m .pending))
       (leb 1 nt) (distinct tn) (all (between 1 (nt - 1)) tn)
       (leb 1 nh) (distinct (map handleNumber hl)) (all (between 1 (nh - 1)) (map handleNumber hl)) (leb nh max32)
       (all tokenValid (lives rows)) (all handleValid hl) (all streamValid xs)
-      (all (λ n. member n tn) (map handleToken hl ++ map stationToken xs ++ nz))
-      (all (λ t. member (t .number) (map handleToken hl ++ map stationToken xs ++ nz)) (lives rows)) (all (primaryIn (map stationToken xs)) (lives rows))
+      (all (λ n. member n tn) refs)
+      (all (λ t. member (t .number) refs) (lives rows)) (all (primaryIn (map stationToken xs)) (lives rows))
       (all (λ t. all (clientFits t) xs) (lives rows)) (all levelValid xs)
-      l
-      ∙ sym (rw (c₁, c₂, c₃, c₄, and-true, and-true))
+      (distinct (map sessionOf pl)) (all (fitsWith (m .tokens) (m .dacls)) pl)
+      control-tested l
+      ∙ sym (rw (c₁, c₂, c₃, c₄, c₅, and-true, and-true))
 
 -- ---- with what the code has at each return
 

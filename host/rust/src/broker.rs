@@ -6,6 +6,7 @@ use crate::answer::Answer;
 use crate::ffi;
 use crate::layout::{control_word, MAX_ANSWER, STATIONS};
 use crate::memory::Memory;
+use crate::pair::Pair;
 use crate::refusal::Refusal;
 use crate::view::{Handle, Station, Token};
 
@@ -113,6 +114,22 @@ impl Broker {
         Station::all(&self.memory)
     }
 
+    /// The linked pairs, by slot.
+    ///
+    /// ```
+    /// # let mut broker = obriska::Broker::start();
+    /// broker.feed(0, &[0x07, 0x03, 0x12, 0x07, 0x00, 0x00, 0x00, 0x00])?; // token 2 of session 7
+    /// broker.feed(0, &[0x06, 0x0A, 0x01, 0x00, 0x00, 0x00, 0x00])?; // a copy of it, token 3
+    /// let answers = broker.feed(0, &[0x04, 0x10, 0x01, 0x02, 0x07])?; // they are linked
+    /// assert_eq!(answers[0].bytes(), [0x01, 0x00]);
+    /// let pair = obriska::Pair { session: 7, elevated: 2, filtered: 3 };
+    /// assert!(broker.pairs().eq([pair]));
+    /// # Ok::<(), obriska::Refusal>(())
+    /// ```
+    pub fn pairs(&self) -> impl Iterator<Item = Pair> + '_ {
+        Pair::all(&self.memory)
+    }
+
     /// The number that the next token gets; the largest u64 is never given.
     pub fn next_token(&self) -> u64 {
         self.memory.control[control_word::NEXT_TOKEN]
@@ -161,6 +178,7 @@ impl fmt::Debug for Broker {
             .field("tokens", &self.tokens().collect::<Vec<_>>())
             .field("handles", &self.handles().collect::<Vec<_>>())
             .field("stations", &self.stations())
+            .field("pairs", &self.pairs().collect::<Vec<_>>())
             .finish()
     }
 }

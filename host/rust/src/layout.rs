@@ -6,6 +6,8 @@ pub const STATIONS: usize = 8;
 pub const TOKENS: usize = 16;
 /// How many handles live at most, of all stations together.
 pub const HANDLES: usize = 32;
+/// How many linked pairs there are at most, each of another session.
+pub const PAIRS: usize = 4;
 
 /// How many groups a token has at most.
 pub const MAX_GROUPS: usize = 64;
@@ -59,6 +61,8 @@ pub(crate) mod control_word {
     pub const NEXT_HANDLE: usize = 1;
     /// The row of station 0; the others follow.
     pub const FIRST_STATION: usize = NEXT_HANDLE + 1;
+    /// The first pair slot, behind the stations' rows; the others follow.
+    pub const FIRST_PAIR: usize = FIRST_STATION + super::STATIONS * super::STATION_WORDS;
 }
 
 /// Words of a station's row.
@@ -70,6 +74,13 @@ pub(crate) mod station_word {
     pub const CLIENT_LEVEL: usize = 4;
 }
 
+/// Words of a pair slot.
+pub(crate) mod pair_word {
+    pub const SESSION: usize = 0;
+    pub const ELEVATED: usize = 1;
+    pub const FILTERED: usize = 2;
+}
+
 /// Words of a token slot.
 pub(crate) const TOKEN_WORDS: usize = token_word::RESTRICTING + MAX_RESTRICTING;
 /// Bytes of a DACL slot.
@@ -78,13 +89,15 @@ pub(crate) const DACL_BYTES: usize = MAX_DACL;
 pub(crate) const HANDLE_BYTES: usize = 16;
 /// Words of a station's row.
 pub(crate) const STATION_WORDS: usize = station_word::CLIENT_LEVEL + 1;
+/// Words of a pair slot.
+pub(crate) const PAIR_WORDS: usize = pair_word::FILTERED + 1;
 /// Bytes of a station's pending part.
 pub(crate) const PENDING_BYTES: usize = LENGTH_BYTES + MAX_BODY;
 
 /// Elements of the arrays.
 pub(crate) const TOKENS_LEN: usize = TOKENS * TOKEN_WORDS;
 pub(crate) const DACLS_LEN: usize = TOKENS * DACL_BYTES;
-pub(crate) const CONTROL_LEN: usize = control_word::FIRST_STATION + STATIONS * STATION_WORDS;
+pub(crate) const CONTROL_LEN: usize = control_word::FIRST_PAIR + PAIRS * PAIR_WORDS;
 pub(crate) const PENDING_LEN: usize = STATIONS * PENDING_BYTES;
 
 /// How many bytes [`Broker::to_bytes`](crate::Broker::to_bytes) gives.

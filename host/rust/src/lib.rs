@@ -1,9 +1,9 @@
 //! The proved rights broker, for hosts in Rust.
 //!
 //! Eight stations send bytes to one [`Broker`], which keeps access tokens and answers requests to
-//! open, close, create, query, adjust, duplicate, restrict and install them. The code behind it is
-//! proved to do for every input what its rules say; this crate owns the memory that it works on
-//! and makes its calls safe. It has no dependencies.
+//! open, close, create, query, adjust, duplicate, restrict, install and link them, to act for one and
+//! to revert. The code behind it is proved to do for every input what its rules say; this crate owns
+//! the memory that it works on and makes its calls safe. It has no dependencies.
 //!
 //! ```
 //! use obriska::Broker;
@@ -35,6 +35,7 @@ mod layout;
 mod memory;
 pub mod names;
 pub mod number;
+mod pair;
 mod previous;
 mod refusal;
 mod view;
@@ -43,8 +44,9 @@ pub use answer::Answer;
 pub use broker::Broker;
 pub use layout::{
     HANDLES, LENGTH_BYTES, MAX_ANSWER, MAX_BODY, MAX_DACL, MAX_GROUPS, MAX_RESTRICTING,
-    MEMORY_BYTES, STATIONS, TOKENS,
+    MEMORY_BYTES, PAIRS, STATIONS, TOKENS,
 };
+pub use pair::Pair;
 pub use previous::{PreviousPrivileges, PrivilegeState};
 pub use refusal::Refusal;
 pub use view::{

@@ -4,9 +4,10 @@ use std::fmt;
 
 /// Why the broker said no.
 ///
-/// 1 to 10 are the status of an [`Answer`](crate::Answer): 1 to 9 use up their request and change
-/// no token, no handle and no number; 10 answers the byte that breaks a stream. 11 to 13 refuse a
-/// whole call, which then changes nothing at all.
+/// 1 to 10 and 14 are the status of an [`Answer`](crate::Answer): 1 to 9 and 14 use up their request
+/// and change no token, no handle, no pair and no number, the first of 1 to 7, 14, 8, 9 where several
+/// apply; 10 answers the byte that breaks a stream. 11 to 13 refuse a whole call, which then changes
+/// nothing at all.
 ///
 /// ```
 /// use obriska::Refusal;
@@ -26,15 +27,16 @@ pub enum Refusal {
     /// A privilege is not enabled on the station's own token.
     Privilege = 4,
     /// A bad field or entry, an unknown class, installing a token that is not primary, acting for one
-    /// that is, or restricting a restricted one to none of its SIDs, or to write-restricted where it
-    /// is not.
+    /// that is, restricting a restricted one to none of its SIDs, or to write-restricted where it is
+    /// not, or linking two that can be no pair.
     Field = 5,
     /// An entry names a mandatory, deny-only or logon group, or disables one with the user's SID.
     Protected = 6,
     /// Installing a token of another user or session; or acting for an unrestricted one while
     /// restricted, unless Impersonate is held.
     Mismatch = 7,
-    /// No free slot, no number left, or too many restricting SIDs for an unrestricted token.
+    /// No free slot, no number left, or too many restricting SIDs for an unrestricted token; linking
+    /// for a fifth session.
     Full = 8,
     /// The report is larger than the capacity.
     Capacity = 9,
@@ -46,11 +48,13 @@ pub enum Refusal {
     Buffer = 12,
     /// The memory is not valid.
     Memory = 13,
+    /// The token is in no linked pair.
+    NotLinked = 14,
 }
 
 impl Refusal {
     /// All of them, in the order of their numbers.
-    pub const ALL: [Refusal; 13] = [
+    pub const ALL: [Refusal; 14] = [
         Refusal::Layout,
         Refusal::Handle,
         Refusal::Right,
@@ -64,9 +68,10 @@ impl Refusal {
         Refusal::Station,
         Refusal::Buffer,
         Refusal::Memory,
+        Refusal::NotLinked,
     ];
 
-    /// Its number, 1 to 13.
+    /// Its number, 1 to 14.
     pub fn number(self) -> u32 {
         self as u32
     }
@@ -96,6 +101,7 @@ impl Refusal {
             Refusal::Station => "there is no such station",
             Refusal::Buffer => "the answer buffer is too short",
             Refusal::Memory => "the memory is not valid",
+            Refusal::NotLinked => "the token is in no linked pair",
         }
     }
 }

@@ -1,15 +1,17 @@
 //! What the broker keeps, as values and as bytes.
 
+mod common;
+
+use common::ask;
 use obriska::{
-    number, Broker, Client, Elevation, Group, Level, Refusal, Station, TokenType, MEMORY_BYTES,
-    NO_ROOT,
+    Broker, Client, Elevation, Group, Level, Refusal, Station, TokenType, MEMORY_BYTES, NO_ROOT,
 };
 
 /// Where the arrays begin, one after the other: docs/MEMORY.md has their sizes.
 const DACLS: usize = 12_928;
 const HANDLES: usize = DACLS + 4_096;
 const CONTROL: usize = HANDLES + 512;
-const PENDING: usize = CONTROL + 336;
+const PENDING: usize = CONTROL + 432;
 const END: usize = PENDING + 16_400;
 /// Bytes of a word and of a handle.
 const WORD: usize = 8;
@@ -17,18 +19,6 @@ const HANDLE: usize = 16;
 /// Where the first token's root stands, and what station 0 acts for.
 const ROOT: usize = 20 * WORD;
 const CLIENT: usize = CONTROL + 5 * WORD;
-
-/// Feeds a body of these numbers at station 0, and gives the numbers after status 0.
-fn ask(broker: &mut Broker, numbers: &[u64]) -> Vec<u64> {
-    let mut body = Vec::new();
-    numbers.iter().for_each(|&n| number::write(n, &mut body));
-    let mut frame = Vec::new();
-    number::write(body.len() as u64, &mut frame);
-    frame.extend(body);
-    let answers = broker.feed(0, &frame).unwrap();
-    assert_eq!(answers[0].refusal(), None);
-    number::read_all(answers[0].fields()).unwrap()
-}
 
 #[test]
 fn the_start_is_document_01s() {
@@ -48,6 +38,7 @@ fn the_start_is_document_01s() {
     assert_eq!(broker.handles().count(), 0);
     let station = Station { token: 1, client: None, pending: vec![], broken: false };
     assert!(broker.stations().iter().all(|other| *other == station));
+    assert_eq!(broker.pairs().count(), 0);
     assert_eq!((broker.next_token(), broker.next_handle()), (2, 1));
 }
 
@@ -159,7 +150,7 @@ fn bytes_are_laid_out_as_docs_memory_says() {
     broker.feed(6, &[0x03, 0x01, 0xEF, 0x03]).unwrap();
     broker.feed(0, &[0x02]).unwrap();
     let bytes = broker.to_bytes();
-    assert_eq!((bytes.len(), MEMORY_BYTES), (END, 34_272));
+    assert_eq!((bytes.len(), MEMORY_BYTES), (END, 34_368));
     assert!(words(&bytes, 0).take(4).eq([1, 1, 999, 18]));
     let (handles, free) = bytes[HANDLES..CONTROL].split_at(2 * HANDLE);
     let first = [5, 0, 0x28, 0, 1, 0, 0, 0, 1, 0, 0, 0, 0, 0, 0, 0];

@@ -36,7 +36,7 @@ pub fn words(request: &[u8], answer: &Answer) -> Vec<String> {
 fn success(request: &[u8], fields: &[u8]) -> Option<Vec<String>> {
     let (request, rest) = number::read(request)?;
     match request {
-        1 | 3 | 9 | 10 => Some(vec![format!("handle {}", number::read(fields)?.0)]),
+        1 | 3 | 9 | 10 | 17 => Some(vec![format!("handle {}", number::read(fields)?.0)]),
         4 => {
             let (_handle, rest) = number::read(rest)?;
             report(number::read(rest)?.0, fields)
@@ -193,7 +193,9 @@ mod tests {
         assert_eq!(said(&[13], &[0x80, 1, 1]), ["acted for token 128 at level identification"]);
         assert_eq!(said(&[13], &[3, 0]), ["acted for token 3 at level anonymous"]);
         assert_eq!(said(&[13], &[0, 0]), ["acted for none"]);
+        assert_eq!(said(&[17, 3], &[0xAC, 2]), ["handle 300"]);
         assert_eq!(success(&[2, 1], &[]), None);
+        assert_eq!(success(&[16, 1, 2, 5], &[]), None);
     }
 
     #[test]

@@ -131,6 +131,9 @@ mod tests {
         assert_eq!(sent("0: install 2"), "02 0B 02");
         assert_eq!(sent("0: impersonate 300"), "03 0C AC 02");
         assert_eq!(sent("0: revert"), "01 0D");
+        assert_eq!(sent("0: link 3 300 session=7"), "05 10 03 AC 02 07");
+        assert_eq!(sent("0: link 1 2 session=0xFFFFFFFFFFFFFFFF"), "0D 10 01 02 FF*9 01");
+        assert_eq!(sent("0: linked 300"), "03 11 AC 02");
     }
 
     #[test]
@@ -156,6 +159,12 @@ mod tests {
         assert_eq!(mistake("0: close 1 2"), (12, "'2' is one word too many".into()));
         assert_eq!(mistake("0: impersonate"), (15, "missing: handle".into()));
         assert_eq!(mistake("0: revert 3"), (11, "'3' is one word too many".into()));
+        assert_eq!(mistake("0: link"), (8, "missing: the elevated token's handle".into()));
+        assert_eq!(mistake("0: link 3"), (10, "missing: the filtered token's handle".into()));
+        assert_eq!(mistake("0: link 3 4"), (12, "missing: session=..".into()));
+        assert_eq!(mistake("0: link 3 4 7"), (13, "'7' is none of session=..".into()));
+        assert_eq!(mistake("0: linked"), (10, "missing: handle".into()));
+        assert_eq!(mistake("0: linked 3 4"), (13, "'4' is one word too many".into()));
         assert_eq!(mistake("0: close 4294967296"), (10, "4294967296 is over 4294967295".into()));
         assert_eq!(mistake("0: privileges 1 tcbb=enable").0, 17);
         assert_eq!(mistake("0: privileges 1 tcb=on").0, 21);

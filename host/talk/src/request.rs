@@ -30,6 +30,8 @@ pub fn frame(name: Word, mut arguments: Arguments) -> Option<Result<Vec<u8>, Mis
         "install" => install,
         "impersonate" => impersonate,
         "revert" => revert,
+        "link" => link,
+        "linked" => linked,
         _ => return None,
     };
     Some(layout(&mut arguments).and_then(|body| arguments.finish().map(|()| framed(&body))))
@@ -209,4 +211,16 @@ fn impersonate(arguments: &mut Arguments) -> Parsed {
 
 fn revert(_: &mut Arguments) -> Parsed {
     Ok(Body::new(&[13]))
+}
+
+fn link(arguments: &mut Arguments) -> Parsed {
+    let elevated = arguments.u32("the elevated token's handle")?;
+    let filtered = arguments.u32("the filtered token's handle")?;
+    let options = arguments.options(&["session"], &[])?;
+    let session = options.get("session").ok_or_else(|| arguments.missing("session=.."))?;
+    Ok(Body::new(&[16, elevated, filtered, session.number("session", u64::MAX)?]))
+}
+
+fn linked(arguments: &mut Arguments) -> Parsed {
+    Ok(Body::new(&[17, handle(arguments)?]))
 }

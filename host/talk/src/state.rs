@@ -1,6 +1,6 @@
 //! What the broker keeps, as tables.
 
-use obriska::{Broker, Client, Handle, Station, Token};
+use obriska::{Broker, Client, Handle, Pair, Station, Token};
 
 use crate::vocabulary::{self, ELEVATIONS, LEVELS, TYPES};
 
@@ -21,20 +21,22 @@ const TOKEN_COLUMNS: [&str; 14] = [
     "DACL",
 ];
 
-/// Tokens, handles and stations.
+/// Tokens, handles, stations and linked pairs.
 pub fn lines(broker: &Broker) -> Vec<String> {
     let tokens = broker.tokens().map(|token| token_row(&token)).collect();
     let handles = broker.handles().map(handle_row).collect();
     let stations = broker.stations();
     let stations = stations.iter().enumerate().map(station_row).collect();
-    let mut lines = table(&TOKEN_COLUMNS, tokens);
-    lines.push(String::new());
-    lines.extend(table(&["handle", "station", "token", "rights"], handles));
-    lines.push(String::new());
-    lines.extend(table(&["station", "token", "acts for", "stream"], stations));
-    lines.push(String::new());
-    lines.push(format!("next token {}, next handle {}", broker.next_token(), broker.next_handle()));
-    lines
+    let pairs = broker.pairs().map(pair_row).collect();
+    let next = format!("next token {}, next handle {}", broker.next_token(), broker.next_handle());
+    let tables = [
+        table(&TOKEN_COLUMNS, tokens),
+        table(&["handle", "station", "token", "rights"], handles),
+        table(&["station", "token", "acts for", "stream"], stations),
+        table(&["pair of session", "elevated token", "filtered token"], pairs),
+        vec![next],
+    ];
+    tables.join(&String::new())
 }
 
 fn token_row(token: &Token) -> Vec<String> {
@@ -97,6 +99,10 @@ fn station_row((index, station): (usize, &Station)) -> Vec<String> {
     vec![index.to_string(), station.token.to_string(), client(station), stream(station)]
 }
 
+fn pair_row(pair: Pair) -> Vec<String> {
+    [pair.session, pair.elevated, pair.filtered].map(|number| number.to_string()).to_vec()
+}
+
 /// The token that a station acts for, and the level in force.
 fn client(station: &Station) -> String {
     match station.client {
@@ -151,6 +157,25 @@ mod tests {
         assert!(lines.contains(&"station  token  acts for           stream".to_string()));
         assert!(lines.contains(&"2        1      none               between requests".to_string()));
         assert!(lines.contains(&"3        1      2, identification  between requests".to_string()));
+    }
+
+    #[test]
+    fn a_pair_shows_its_session_and_its_tokens() {
+        let mut broker = Broker::start();
+        let create = [7, 3, 18, 5, 0, 0, 0, 0];
+        for frame in [&create[..], &create, &[4, 16, 2, 1, 5]] {
+            assert_eq!(broker.feed(3, frame).unwrap()[0].refusal(), None);
+        }
+        let lines = lines(&broker);
+        let pairs = lines.iter().skip_while(|line| !line.starts_with("pair"));
+        let expected = [
+            "pair of session  elevated token  filtered token",
+            "5                3               2",
+            "",
+            "next token 4, next handle 3",
+        ];
+        assert!(pairs.eq(expected));
+        assert!(lines[2].contains("primary  limited") && lines[3].contains("primary  full"));
     }
 
     #[test]

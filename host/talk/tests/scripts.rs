@@ -53,6 +53,12 @@ fn acting_for_another_is_document_02s() {
 }
 
 #[test]
+fn linked_pairs_are_document_02s() {
+    let examples = "../../examples/linked-pairs";
+    writes(&["--hex"], &format!("{examples}.talk"), &format!("{examples}.expected"));
+}
+
+#[test]
 fn all_requests_are_answered_in_words() {
     writes(&[], "tests/requests.talk", "tests/requests.expected");
 }
@@ -81,7 +87,7 @@ fn help_has_an_example_of_each_request_that_is_no_mistake() {
     let help = talk(&[], "help\n");
     let examples: Vec<_> =
         text(&help.stdout).lines().filter(|line| line.starts_with("  0: ")).collect();
-    assert_eq!(examples.len(), 15); // thirteen requests, reconnect, bytes
+    assert_eq!(examples.len(), 17); // fifteen requests, reconnect, bytes
     let script: String = examples
         .iter()
         .map(|line| line.trim().split("  ").next().expect("an example").to_string() + "\n")

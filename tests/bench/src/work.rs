@@ -2,9 +2,9 @@
 
 use gen::{fields, flat, Rng, NEEDED};
 use model::{
-    framed, Group, Handle, Level, Mask, Memory, Model, Request, Token, TokenType, ALL_PRIVILEGES,
-    HANDLES, LAST_CLASS, MAX_BODY, MAX_DACL, MAX_GROUPS, MAX_RESTRICTING, MIN_BUFFER, NO_CHANGE,
-    STATIONS, TOKENS,
+    framed, Elevation, Group, Handle, Level, Mask, Memory, Model, Pair, Request, Token, TokenType,
+    ALL_PRIVILEGES, HANDLES, LAST_CLASS, MAX_BODY, MAX_DACL, MAX_GROUPS, MAX_RESTRICTING,
+    MIN_BUFFER, NO_CHANGE, PAIRS, STATIONS, TOKENS,
 };
 
 /// A list of feeds.
@@ -160,6 +160,7 @@ pub fn full() -> Model {
             ..Token { number, ..Token::first() }
         });
     }
+    link_last(&mut model);
     for (slot, number) in (0..HANDLES).zip(1..) {
         let (station, token) = (number % STATIONS as u32, u64::from(number % TOKENS as u32) + 1);
         model.handles[slot] = Some(Handle { station, number, token, mask: Mask::ALL.0 });
@@ -171,6 +172,20 @@ pub fn full() -> Model {
     }
     (model.next_token, model.next_handle) = (TOKENS as u64 + 1, HANDLES as u32 + 1);
     model
+}
+
+/// Takes all places for pairs, by the last tokens.
+fn link_last(model: &mut Model) {
+    let (_, last) = model.tokens.split_at_mut(TOKENS - 2 * PAIRS);
+    for ((tokens, place), session) in last.chunks_mut(2).zip(&mut model.pairs).zip(1..) {
+        let mut link = |at: usize, elevation| {
+            let token = tokens[at].as_mut().expect("every slot is taken");
+            (token.session, token.elevation) = (session, elevation);
+            token.number
+        };
+        let (elevated, filtered) = (link(0, Elevation::Full), link(1, Elevation::Limited));
+        *place = Some(Pair { session, elevated, filtered });
+    }
 }
 
 /// The longest DACL.

@@ -8,7 +8,7 @@ use model::Model;
 #[test]
 fn lists_of_calls() {
     let mut counts = Counts::default();
-    lists::compare::<Rival>(0..640, &mut counts);
+    lists::compare::<Rival>(0..720, &mut counts);
     if one_seed().is_none() {
         counts.check_statuses(5);
         counts.check_groups(5);
@@ -29,11 +29,23 @@ fn gates() {
 }
 
 #[test]
+fn links() {
+    let mut counts = Counts::default();
+    lists::compare_pairs::<Rival>(0..4000, &mut counts);
+    if one_seed().is_none() {
+        counts.check_links(3);
+        counts.check_partners(3);
+    }
+}
+
+#[test]
 fn damaged_memory() {
     each_damage(250, |damage, _, memory| damages::is_refused::<Rival>(&memory, damage.what));
     damages::compare_poked::<Rival>(0..5000);
     damages::compare_roots::<Rival>(0..50);
     damages::compare_clients::<Rival>(0..50);
+    let valid = damages::compare_pairs::<Rival>(0..100);
+    assert!(valid > 10 || one_seed().is_some(), "too few to show anything: {valid}");
     for (place, memory) in damages::of_other_sizes(&Model::start().memory()) {
         damages::is_refused::<Rival>(&memory, &place);
         damages::starts::<Rival>(&memory, &place);

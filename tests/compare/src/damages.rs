@@ -2,9 +2,9 @@
 
 use gen::{each_seed, poke, state, Broker, Call};
 use model::{
-    control_word, station_word, token_word, HandleRecord, Memory, TokenType, CONTROL_WORDS,
-    DACL_BYTES, HANDLE_ROWS, MIN_BUFFER, NO_ROOT, PARTS, PENDING_BYTES, STATIONS, STATION_ROW,
-    TOKEN_ROW, TOKEN_WORDS,
+    control_word, station_word, token_word, Elevation, HandleRecord, Memory, Model, TokenType,
+    CONTROL_WORDS, DACL_BYTES, HANDLE_ROWS, MIN_BUFFER, NO_ROOT, PAIRS, PAIR_ROW, PARTS,
+    PENDING_BYTES, STATIONS, STATION_ROW, TOKEN_ROW, TOKEN_WORDS,
 };
 
 use crate::lists::{on_memory, same_bytes};
@@ -127,6 +127,68 @@ pub fn compare_clients<B: Broker>(seeds: std::ops::Range<u64>) {
             }
         }
     });
+}
+
+/// Every two tokens, and numbers of none, in the first free place for a pair and in the last, for each
+/// token's session and for none: valid for a session without a pair, and for two primary tokens of it and
+/// of one user that are Full and Limited. Gives how many pairs were valid.
+pub fn compare_pairs<B: Broker>(seeds: std::ops::Range<u64>) -> usize {
+    let mut valid = 0;
+    each_seed(seeds, |_, rng| {
+        let model = less_a_pair(state(rng));
+        let free: Vec<usize> = (0..PAIRS).filter(|&at| model.pairs[at].is_none()).collect();
+        let (Some(&first), Some(&last)) = (free.first(), free.last()) else { return };
+        let numbers: Vec<u64> = model.tokens.iter().flatten().map(|token| token.number).collect();
+        let numbers = [numbers, vec![0, model.next_token]].concat();
+        for (elevated, filtered) in
+            numbers.iter().flat_map(|&first| numbers.iter().map(move |&second| (first, second)))
+        {
+            let session = model.token(elevated).map_or(0, |token| token.session);
+            for (place, session) in [(first, session), (first, session ^ 1), (last, session)] {
+                let row = [session, elevated, filtered];
+                let mut memory = model.memory();
+                let words = &mut memory.control[control_word::PAIRS + PAIR_ROW * place..];
+                words[..PAIR_ROW].copy_from_slice(&row);
+                let is_valid = may_be_placed(&model, row);
+                let fed = on_memory::<B>(&memory, &empty_feed());
+                assert_eq!(fed.refusal, if is_valid { 0 } else { 13 }, "place {place}: {row:?}");
+                valid += usize::from(is_valid && elevated != 0);
+            }
+        }
+    });
+    valid
+}
+
+/// The state without its last pair, where that is not all that refers to its tokens.
+fn less_a_pair(model: Model) -> Model {
+    let mut less = model.clone();
+    let last = less.pairs.iter_mut().rev().find_map(Option::take);
+    let are_kept = last.is_some_and(|pair| pair.tokens().iter().all(|&t| less.is_referred_to(t)));
+    if are_kept {
+        less
+    } else {
+        model
+    }
+}
+
+/// Whether the words may stand in a free place.
+fn may_be_placed(model: &Model, [session, elevated, filtered]: [u64; 3]) -> bool {
+    let pairs: Vec<_> = model.pairs.iter().flatten().collect();
+    if elevated == 0 {
+        return session == 0 && filtered == 0;
+    }
+    let (Some(elevated), Some(filtered)) = (model.token(elevated), model.token(filtered)) else {
+        return false;
+    };
+    let [full, limited] =
+        [(elevated, Elevation::Full), (filtered, Elevation::Limited)].map(|(token, elevation)| {
+            let is_of_session = token.session == session && token.kind == TokenType::Primary;
+            token.elevation == elevation && is_of_session
+        });
+    pairs.iter().all(|pair| pair.session != session)
+        && full
+        && limited
+        && elevated.user == filtered.user
 }
 
 /// Random memories with a value or two changed anywhere: the broker and the model agree. Gives how

@@ -5,19 +5,20 @@ use std::ops::Range;
 
 use gen::{
     each_seed, garbage, near_the_last_numbers, run, state, with_clients, with_copies, with_groups,
-    with_restrictions, Broker, Call, Calls, Counts, Rng, Step, DAMAGES,
+    with_pairs, with_restrictions, Broker, Call, Calls, Counts, Rng, Step, DAMAGES,
 };
 use model::{Bytes, Fed, Memory, Model, MIN_BUFFER, PARTS};
 
 /// How many calls each seed makes.
 pub const CALLS: usize = 300;
 /// How many each makes of the short lists, before the tokens are too much alike.
-const FEW_CALLS: usize = 60;
+pub const FEW_CALLS: usize = 60;
 /// How many starts there are to go on from, the broker's own twice.
-const STARTS: u64 = 8;
+const STARTS: u64 = 9;
 
 /// A list of calls for each seed: from the start, from a random state, near the last numbers, with
-/// groups of all kinds, with restricted tokens, with copies of copies, or with others to act for.
+/// groups of all kinds, with restricted tokens, with copies of copies, with others to act for, or with
+/// linked pairs.
 pub fn compare<B: Broker>(seeds: Range<u64>, counts: &mut Counts) {
     each_seed(seeds, |seed, rng| {
         let first = match seed % STARTS {
@@ -27,7 +28,8 @@ pub fn compare<B: Broker>(seeds: Range<u64>, counts: &mut Counts) {
             4 => with_groups(),
             5 => with_restrictions(),
             6 => with_copies(),
-            _ => with_clients(rng),
+            7 => with_clients(rng),
+            _ => with_pairs(rng),
         };
         let mut broker = B::lend(&first.memory());
         if seed % STARTS < 2 {
@@ -46,8 +48,17 @@ pub fn compare<B: Broker>(seeds: Range<u64>, counts: &mut Counts) {
 
 /// A short list for each seed, with others to act for.
 pub fn compare_clients<B: Broker>(seeds: Range<u64>, counts: &mut Counts) {
+    compare_short::<B>(seeds, with_clients, counts);
+}
+
+/// A short list for each seed, with linked pairs.
+pub fn compare_pairs<B: Broker>(seeds: Range<u64>, counts: &mut Counts) {
+    compare_short::<B>(seeds, with_pairs, counts);
+}
+
+fn compare_short<B: Broker>(seeds: Range<u64>, start: fn(&mut Rng) -> Model, counts: &mut Counts) {
     each_seed(seeds, |seed, rng| {
-        let first = with_clients(rng);
+        let first = start(rng);
         let mut broker = B::lend(&first.memory());
         run(seed, first, FEW_CALLS, |step| {
             both(&mut broker, step);

@@ -2,11 +2,11 @@
 //! stack before a call, the bytes after it are the model's, and none beside them is written.
 
 use compare::damages::{empty_feed, is_refused, refused_calls};
-use compare::lists::{both, on_memory, same_bytes, CALLS};
+use compare::lists::{both, on_memory, same_bytes, CALLS, FEW_CALLS};
 use compare::Lent;
 use gen::{
-    each_seed, filled, near_the_last_numbers, one_seed, run, state, with_clients, Broker, Calls,
-    Counts, Rng,
+    each_seed, filled, near_the_last_numbers, one_seed, run, state, with_clients, with_pairs,
+    Broker, Calls, Counts, Rng,
 };
 use model::{HandleRecord, Memory, Model, HANDLE_BYTES};
 
@@ -40,7 +40,16 @@ fn a_refused_call_writes_no_byte() {
     }
 }
 
-/// Lists of every request with every status, each call over every pattern.
+/// A list of calls, each over every pattern.
+fn over_any_stack(seed: u64, first: Model, calls: usize, counts: &mut Counts) {
+    let mut brokers = PATTERNS.map(|pattern| Lent::with_filler(&first.memory(), pattern));
+    run(seed, first, calls, |step| {
+        counts.step(step);
+        brokers.iter_mut().for_each(|broker| both(broker, step));
+    });
+}
+
+/// Lists of every request with every status.
 #[test]
 fn a_list_of_calls_leaves_the_models_bytes_over_any_stack() {
     let mut counts = Counts::default();
@@ -51,12 +60,9 @@ fn a_list_of_calls_leaves_the_models_bytes_over_any_stack() {
             2 => near_the_last_numbers(rng),
             _ => with_clients(rng),
         };
-        let mut brokers = PATTERNS.map(|pattern| Lent::with_filler(&first.memory(), pattern));
-        run(seed, first, CALLS, |step| {
-            counts.step(step);
-            brokers.iter_mut().for_each(|broker| both(broker, step));
-        });
+        over_any_stack(seed, first, CALLS, &mut counts);
     });
+    each_seed(200..700, |seed, rng| over_any_stack(seed, with_pairs(rng), FEW_CALLS, &mut counts));
     println!("statuses of the requests:\n{counts}");
     if one_seed().is_none() {
         counts.check_statuses(5);

@@ -16,7 +16,8 @@ fn print(text: &str) {
 #[test]
 fn lists_of_calls() {
     let mut counts = Counts::default();
-    lists::compare::<Lent>(0..800, &mut counts);
+    lists::compare::<Lent>(0..900, &mut counts);
+    lists::compare_pairs::<Lent>(10_000..11_000, &mut counts);
     print(&format!(
         "\nstatuses of the requests that the broker and the model served alike:\n{counts}"
     ));
@@ -37,6 +38,16 @@ fn every_row_of_the_gate_table() {
     if one_seed().is_none() {
         counts.check_gates(8);
         counts.check_uses(4);
+    }
+}
+
+#[test]
+fn every_case_of_linking() {
+    let mut counts = Counts::default();
+    lists::compare_pairs::<Lent>(0..5000, &mut counts);
+    if one_seed().is_none() {
+        counts.check_links(5);
+        counts.check_partners(5);
     }
 }
 

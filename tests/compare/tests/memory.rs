@@ -2,8 +2,8 @@
 //! of each part, and start on any memory.
 
 use compare::damages::{
-    compare_clients, compare_poked, compare_roots, empty_feed, is_refused, of_other_sizes,
-    refused_calls, starts,
+    compare_clients, compare_pairs, compare_poked, compare_roots, empty_feed, is_refused,
+    of_other_sizes, refused_calls, starts,
 };
 use compare::lists::on_memory;
 use compare::Lent;
@@ -50,6 +50,13 @@ fn a_root_is_at_most_the_tokens_number() {
 #[test]
 fn a_client_is_an_impersonation_token_at_its_own_level_at_most() {
     compare_clients::<Lent>(0..100);
+}
+
+#[test]
+fn a_pair_is_of_two_tokens_that_request_16_could_leave() {
+    let valid = compare_pairs::<Lent>(0..100);
+    println!("{valid} pairs more were valid");
+    assert!(valid > 10 || one_seed().is_some(), "too few to show anything: {valid}");
 }
 
 #[test]

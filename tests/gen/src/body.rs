@@ -1,6 +1,6 @@
 //! Bodies of requests: mostly as wished, sometimes damaged.
 
-use model::{Model, LAST_REQUEST, MAX_BODY, MAX_GROUPS, MORE};
+use model::{Model, LAST_REQUEST, MAX_BODY, MAX_GROUPS, MORE, UNUSED_REQUESTS};
 
 use crate::fields::{fields, flat, Field};
 use crate::rng::Rng;
@@ -45,7 +45,9 @@ fn damaged(rng: &mut Rng, mut fields: Vec<Field>) -> Vec<u8> {
         }
         5 => {
             let next = u64::from(LAST_REQUEST) + 1;
-            fields[0] = Field::Number(rng.pick(&[0, next, next + 1, 200, u64::MAX]));
+            let unused = UNUSED_REQUESTS.map(u64::from);
+            let unknown = [&[0, next, next + 1, 200, u64::MAX][..], &unused].concat();
+            fields[0] = Field::Number(rng.pick(&unknown));
             flat(&fields)
         }
         6 => {

@@ -1,6 +1,6 @@
 //! How often each refusal came, each status of each request, what request 6 did to each kind of
-//! group, request 10 to each kind of list, what was made from each kind of token, and how stations came
-//! to act for others.
+//! group, request 10 to each kind of list, what was made from each kind of token, how stations came to
+//! act for others, and how tokens were linked and their partners given.
 
 use std::collections::BTreeMap;
 use std::fmt;
@@ -10,6 +10,8 @@ use model::{Fed, Model, Reader, Refusal, LAST_REQUEST};
 use crate::broker::{status, Step};
 use crate::clients::ClientCounts;
 use crate::groups::GroupCounts;
+use crate::links::LinkCounts;
+use crate::partners::PartnerCounts;
 use crate::restrictions::RestrictionCounts;
 use crate::roots::RootCounts;
 
@@ -29,6 +31,10 @@ const POSSIBLE: [(u32, &[u8]); LAST_REQUEST as usize + 1] = [
     (11, &[0, 1, 2, 3, 4, 5, 7]),
     (12, &[0, 1, 2, 3, 5, 7]),
     (13, &[0, 1]),
+    (14, &[1]),
+    (15, &[1]),
+    (16, &[0, 1, 2, 3, 4, 5, 8]),
+    (17, &[0, 1, 2, 3, 8, 14]),
 ];
 
 /// The counts; printed as a table.
@@ -41,6 +47,8 @@ pub struct Counts {
     restrictions: RestrictionCounts,
     roots: RootCounts,
     clients: ClientCounts,
+    links: LinkCounts,
+    partners: PartnerCounts,
 }
 
 impl Counts {
@@ -51,6 +59,8 @@ impl Counts {
             self.status(step.before, station, &body, step.fed);
         }
         self.clients.step(step);
+        self.links.step(step);
+        self.partners.step(step);
     }
 
     /// Counts what a call returned.
@@ -117,6 +127,16 @@ impl Counts {
         self.clients.check_events(least);
     }
 
+    /// Each case of request 16 came so often at least, and got its status.
+    pub fn check_links(&self, least: usize) {
+        self.links.check(least);
+    }
+
+    /// The same of request 17.
+    pub fn check_partners(&self, least: usize) {
+        self.partners.check(least);
+    }
+
     /// Each refusal came so often at least.
     pub fn check_refusals(&self, least: usize) {
         for (refusal, count) in self.refusals() {
@@ -153,6 +173,8 @@ impl fmt::Display for Counts {
         writeln!(f, "{}", self.groups)?;
         writeln!(f, "{}", self.restrictions)?;
         writeln!(f, "{}", self.roots)?;
-        self.clients.fmt(f)
+        writeln!(f, "{}", self.clients)?;
+        writeln!(f, "{}", self.links)?;
+        self.partners.fmt(f)
     }
 }

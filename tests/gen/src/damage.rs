@@ -1,8 +1,8 @@
 //! Damaging a memory at one place, chosen with a view to the state that it holds.
 
 use model::{
-    control_word, station_word, token_word, Handle, Memory, Model, Token, DACL_ROW, PENDING_ROW,
-    STATION_ROW, TOKEN_ROW,
+    control_word, station_word, token_word, Handle, Memory, Model, Pair, Token, DACL_ROW, PAIR_ROW,
+    PENDING_ROW, STATION_ROW, TOKEN_ROW,
 };
 
 use crate::rng::Rng;
@@ -100,6 +100,19 @@ impl Target<'_> {
         *self.station(station, station_word::CLIENT_LEVEL) = level;
     }
 
+    /// The place of such a pair.
+    pub fn pair_place(&mut self, fits: impl Fn(Pair) -> bool) -> Option<usize> {
+        let pairs = self.model.pairs.iter().enumerate();
+        let places: Vec<usize> =
+            pairs.filter(|(_, pair)| pair.is_some_and(&fits)).map(|(place, _)| place).collect();
+        self.rng.pick_any(&places)
+    }
+
+    /// A word of a place for a pair.
+    pub fn pair(&mut self, place: usize, word: usize) -> &mut u64 {
+        &mut self.memory.control[control_word::PAIRS + place * PAIR_ROW + word]
+    }
+
     /// A number that no live token has.
     pub fn dead_number(&mut self) -> u64 {
         let numbers = [0, self.model.next_token, u64::MAX, self.model.next_token - 1, 1];
@@ -109,7 +122,7 @@ impl Target<'_> {
     }
 }
 
-/// How many handles and stations refer to the token; a station may twice.
+/// How many handles, stations and pairs refer to the token; a station may twice.
 pub(crate) fn references(model: &Model, token: u64) -> usize {
     model.references().filter(|&other| other == token).count()
 }
@@ -117,4 +130,9 @@ pub(crate) fn references(model: &Model, token: u64) -> usize {
 /// Whether a station acts for the token.
 pub(crate) fn is_client(model: &Model, token: u64) -> bool {
     model.stations.iter().filter_map(|station| station.client).any(|client| client.token == token)
+}
+
+/// Whether the token is in a pair.
+pub(crate) fn is_paired(model: &Model, token: u64) -> bool {
+    model.pairs.iter().flatten().any(|pair| pair.tokens().contains(&token))
 }

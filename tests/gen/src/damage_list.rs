@@ -7,7 +7,8 @@ use model::{
     PARTS, PENDING_ROW, STATIONS, TOKEN_ROW,
 };
 
-use crate::damage::{is_client, references, Target};
+use crate::damage::{is_client, is_paired, references, Target};
+use crate::pair_damages as pairs;
 use crate::rng::Rng;
 
 type Apply = fn(&mut Target) -> Option<()>;
@@ -92,7 +93,9 @@ pub const DAMAGES: &[Damage] = &[
     damage("referred to", "a token lost its handles", |t| {
         let model = t.model;
         let of_station = |number| model.stations.iter().any(|station| station.token == number);
-        let slot = t.slot(|token| !of_station(token.number) && !is_client(model, token.number))?;
+        let kept =
+            |number| of_station(number) || is_client(model, number) || is_paired(model, number);
+        let slot = t.slot(|token| !kept(token.number))?;
         let number = t.token(slot)?.number;
         for handle in t.memory.handles.iter_mut().filter(|handle| handle.token == number) {
             *handle = HandleRecord::default();
@@ -164,7 +167,11 @@ pub const DAMAGES: &[Damage] = &[
         *t.pending(at, byte) = 1;
         Some(())
     }),
-    damage("ranges", "user", |t| in_slot(t, any, token_word::USER, &[1 << 32, u64::MAX])),
+    damage("ranges", "user", |t| {
+        let slot = unpaired_slot(t)?;
+        *t.word(slot, token_word::USER) = t.rng.pick(&[1 << 32, u64::MAX]);
+        Some(())
+    }),
     damage("ranges", "type", |t| {
         let model = t.model;
         let slot = t.slot(|token| impersonation(token) && !is_client(model, token.number))?;
@@ -173,7 +180,9 @@ pub const DAMAGES: &[Damage] = &[
     }),
     damage("ranges", "level", |t| in_slot(t, impersonation, token_word::LEVEL, &[4, 1 << 32])),
     damage("ranges", "elevation", |t| {
-        in_slot(t, any, token_word::ELEVATION, &[0, 4, (1 << 32) + 1])
+        let slot = unpaired_slot(t)?;
+        *t.word(slot, token_word::ELEVATION) = t.rng.pick(&[0, 4, (1 << 32) + 1]);
+        Some(())
     }),
     damage("ranges", "write-restricted mark", |t| {
         in_slot(t, any, token_word::WRITE_RESTRICTED, &[2, 1 << 32])
@@ -333,6 +342,18 @@ pub const DAMAGES: &[Damage] = &[
         t.set_client(at, NO_CLIENT, level);
         Some(())
     }),
+    damage("references", "a pair's token is not live", pairs::dead_token),
+    damage("referred to", "a token lost its pair", pairs::no_pair),
+    damage("free", "a word of a free place for a pair", pairs::free_place),
+    damage("pair sessions", "two pairs of one session", pairs::one_session),
+    damage("pair sessions", "one pair twice", pairs::twice),
+    damage("paired types", "a pair's token is for impersonation", pairs::other_type),
+    damage("paired elevations", "a pair's token has another elevation", pairs::other_elevation),
+    damage("paired elevations", "elevated and filtered exchanged", pairs::exchanged),
+    damage("paired elevations", "a pair of one token", pairs::one_token),
+    damage("paired users", "a pair's token is of another user", pairs::other_user),
+    damage("paired sessions", "a pair's token is of another session", pairs::other_session),
+    damage("paired sessions", "a pair is of another session", pairs::session_of_none),
 ];
 
 /// The stations that act for this token.
@@ -362,6 +383,12 @@ fn free_slot_bytes() -> Vec<usize> {
     (0..HANDLE_BYTES).filter(|at| !handle_byte::NUMBER.contains(at)).collect()
 }
 
+/// A slot with a token in no pair.
+fn unpaired_slot(t: &mut Target) -> Option<usize> {
+    let model = t.model;
+    t.slot(|token| !is_paired(model, token.number))
+}
+
 fn any(_: &Token) -> bool {
     true
 }
@@ -383,12 +410,15 @@ fn resize(t: &mut Target, by: isize) -> Option<()> {
     Some(())
 }
 
-/// Both of one type, the references go to the number that is left, and neither a root nor a level in
-/// force is above what it may be.
+/// Both of one type and in no pair, the references go to the number that is left, and neither a root nor
+/// a level in force is above what it may be.
 fn two_tokens_with_one_number(t: &mut Target) -> Option<()> {
-    let first = t.slot(any)?;
+    let first = unpaired_slot(t)?;
     let (kept, kind) = (t.token(first)?.number, t.token(first)?.kind);
-    let second = t.slot(|token| token.number != kept && token.kind == kind)?;
+    let model = t.model;
+    let second = t.slot(|token| {
+        token.number != kept && token.kind == kind && !is_paired(model, token.number)
+    })?;
     let lost = t.token(second)?.number;
     *t.word(second, token_word::NUMBER) = kept;
     let root = t.word(second, token_word::ROOT);

@@ -1,8 +1,9 @@
 //! Memories damaged in every way, for tests to look at.
 
 use model::{
-    control_word, station_word, token_word, HandleRecord, Memory, Model, DACL_ROW, HANDLE_BYTES,
-    MAX_BODY, MAX_DACL, MAX_GROUPS, PENDING_ROW, STATIONS, STATION_ROW, TOKEN_ROW,
+    control_word, station_word, token_word, HandleRecord, Memory, Model, CONTROL_WORDS, DACL_ROW,
+    HANDLE_BYTES, MAX_BODY, MAX_DACL, MAX_GROUPS, PENDING_ROW, STATIONS, STATION_ROW, TOKENS,
+    TOKEN_ROW,
 };
 
 use crate::damage_list::{Damage, DAMAGES};
@@ -40,7 +41,7 @@ pub fn poke(rng: &mut Rng, memory: &mut Memory) {
     let few = [0, 1, 2, 3, 4, 8, PENDING_ROW as u64, 1 << 32, u64::MAX];
     let telling = [&few[..], &sizes, &past, &about].concat();
     let value = if rng.percent(10) { odd } else { rng.pick(&telling) };
-    match rng.below(10) {
+    match rng.below(11) {
         0 => *any(rng, &mut memory.tokens) = value,
         1 => memory.tokens[TOKEN_ROW * live + rng.below(TOKEN_ROW)] ^= rng.bit(u64::BITS),
         2 => memory.tokens[TOKEN_ROW * live + rng.below(token_word::GROUPS)] = value,
@@ -53,6 +54,12 @@ pub fn poke(rng: &mut Rng, memory: &mut Memory) {
             let row = control_word::STATIONS + STATION_ROW * rng.below(STATIONS);
             let word = rng.pick(&[station_word::CLIENT, station_word::CLIENT_LEVEL]);
             memory.control[row + word] = value;
+        }
+        9 => {
+            let at = control_word::PAIRS + rng.below(CONTROL_WORDS - control_word::PAIRS);
+            let row = TOKEN_ROW * rng.below(TOKENS);
+            let other = memory.tokens[row + rng.pick(&[token_word::NUMBER, token_word::SESSION])];
+            memory.control[at] = rng.pick(&[value, other, other]);
         }
         _ => memory.pending[PENDING_ROW * rng.below(STATIONS) + rng.below(4)] = value as u8,
     }

@@ -66,6 +66,10 @@ pub fn fields(request: &Request) -> Vec<Field> {
         Request::Install { handle } => numbers(&[11, (*handle).into()]),
         Request::Impersonate { handle } => numbers(&[12, (*handle).into()]),
         Request::Revert => numbers(&[13]),
+        Request::Link { elevated, filtered, session } => {
+            numbers(&[16, (*elevated).into(), (*filtered).into(), *session])
+        }
+        Request::GetLinked { handle } => numbers(&[17, (*handle).into()]),
     }
 }
 

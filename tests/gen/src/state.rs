@@ -8,6 +8,7 @@ use model::{
 
 use crate::broker::status;
 use crate::fields::{fields, flat};
+use crate::pairs::place_pairs;
 use crate::rng::Rng;
 use crate::wishes::NEEDED;
 
@@ -19,6 +20,7 @@ pub(crate) const LEVELS: [Level; 4] =
 pub fn state(rng: &mut Rng) -> Model {
     let mut model = Model::start();
     place_tokens(rng, &mut model);
+    place_pairs(rng, &mut model);
     let primaries: Vec<u64> = live(&model)
         .filter(|token| token.kind == TokenType::Primary)
         .map(|token| token.number)
@@ -238,7 +240,7 @@ fn distinct<T: Copy>(rng: &mut Rng, items: &[T], count: usize) -> Vec<T> {
     (0..count).map(|_| rest.swap_remove(rng.below(rest.len()))).collect()
 }
 
-/// A handle on each token that no station refers to, and some more.
+/// A handle on each token that no station and no pair refers to, and some more.
 fn place_handles(rng: &mut Rng, model: &mut Model) {
     let numbers: Vec<u32> = numbers(rng, HANDLES, 1 << 20, u32::MAX.into())
         .into_iter()

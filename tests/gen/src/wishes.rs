@@ -7,7 +7,7 @@ use model::{
     MAX_GROUPS, MAX_RESTRICTING, NO_CHANGE, REMOVE, RESET_GROUPS, RESET_PRIVILEGES, TCB, TOKENS,
 };
 
-use crate::damage::is_client;
+use crate::damage::{is_client, is_paired};
 use crate::fields::{fields, flat};
 use crate::groups::{kind, Kind};
 use crate::rng::Rng;
@@ -46,6 +46,10 @@ const RIGHTS: [Mask; LAST_REQUEST as usize + 1] = [
     Mask::ASSIGN_PRIMARY,
     Mask::IMPERSONATE,
     Mask(0),
+    Mask(0),
+    Mask(0),
+    Mask::DUPLICATE,
+    Mask::QUERY,
 ];
 
 impl Wish<'_> {
@@ -72,23 +76,28 @@ impl Wish<'_> {
             10 => self.restrict(wanted),
             11 => Request::Install { handle },
             12 => Request::Impersonate { handle: self.again().unwrap_or(handle) },
+            16 => self.link(),
+            17 => Request::GetLinked { handle },
             _ => Request::Revert,
         }
     }
 
     /// A request's number: open without handles, close when slots run out, groups if there are any,
-    /// restrict what is restricted, act for what may be acted for, give up what one acts for.
+    /// restrict what is restricted, act for what may be acted for, give up what one acts for, link what
+    /// can be linked, get what is linked.
     fn kind(&mut self) -> usize {
-        let mut weights: [_; RIGHTS.len()] = [0, 16, 6, 10, 14, 14, 14, 8, 12, 14, 14, 20, 5, 2];
+        let mut weights: [_; RIGHTS.len()] =
+            [0, 16, 6, 10, 14, 14, 14, 8, 12, 14, 14, 20, 5, 2, 0, 0, 4, 4];
         let own = self.own_handles();
         if own.len() < 2 {
             weights[1] = 60;
         }
-        for (kind, more) in [(2, 4), (6, 20), (10, 8), (12, 16)] {
+        for (kind, more) in [(2, 4), (6, 20), (10, 8), (12, 16), (17, 12)] {
             if own.iter().any(|&handle| self.suits(kind, handle)) {
                 weights[kind] += more;
             }
         }
+        weights[16] += if self.can_link() { 16 } else { 0 };
         if let Some(client) = self.model.stations[self.station].client {
             weights[13] += 8;
             let mut handles = self.model.handles.iter().flatten();
@@ -111,24 +120,25 @@ impl Wish<'_> {
     fn suits(&self, kind: usize, handle: Handle) -> bool {
         let Some(token) = self.token(handle) else { return false };
         match kind {
-            2 => is_client(self.model, token.number),
+            2 => is_client(self.model, token.number) || is_paired(self.model, token.number),
             6 | 8 => !token.groups.is_empty(),
             9 => token.root != token.number,
             10 => token.is_restricted() || token.write_restricted,
-            11 => token.kind == TokenType::Primary,
+            11 | 16 => token.kind == TokenType::Primary,
             12 => token.kind == TokenType::Impersonation,
+            17 => is_paired(self.model, token.number),
             _ => true,
         }
     }
 
-    fn own_handles(&self) -> Vec<Handle> {
+    pub(crate) fn own_handles(&self) -> Vec<Handle> {
         let live = self.model.handles.iter().flatten().copied();
         live.filter(|handle| handle.station as usize == self.station).collect()
     }
 
     /// Mostly an own handle that suits the request; now and then one without the right,
     /// another's, or none at all.
-    fn handle(&mut self, kind: usize) -> Handle {
+    pub(crate) fn handle(&mut self, kind: usize) -> Handle {
         let right = RIGHTS[kind];
         let own = self.own_handles();
         let (granting, lacking): (Vec<_>, Vec<_>) =
@@ -155,7 +165,7 @@ impl Wish<'_> {
         Handle { station: self.station as u32, number, token: 0, mask: Mask::ALL.0 }
     }
 
-    fn token(&self, handle: Handle) -> Option<&Token> {
+    pub(crate) fn token(&self, handle: Handle) -> Option<&Token> {
         self.model.token(handle.token)
     }
 
@@ -181,7 +191,7 @@ impl Wish<'_> {
 
     fn create(&mut self) -> Request {
         let user = self.rng.pick(&SIDS);
-        let session = self.rng.pick(&[999, 999, 9, 0, u64::MAX]);
+        let session = self.rng.pick(&[999, 999, 9, 0, 5, u64::MAX]);
         let mut integrity = self.rng.pick(&INTEGRITY_LEVELS);
         let mut present = (self.rng.bits() | NEEDED) & ALL_PRIVILEGES;
         let without_tcb = NEEDED & !(1 << TCB);

@@ -1,10 +1,10 @@
 //! Every request gets every status that it can get, request 6 meets every kind of group, request 10
 //! every kind of list, tokens of every kind of root are copied, request 12 meets every row of its gate
-//! table, and the memory always holds the state.
+//! table, requests 16 and 17 every case of theirs, and the memory always holds the state.
 
 use gen::{
     body, each_seed, fields, flat, near_the_last_numbers, one_seed, state, with_clients,
-    with_copies, with_groups, with_restrictions, Call, Calls, Counts, Rng, Step,
+    with_copies, with_groups, with_pairs, with_restrictions, Call, Calls, Counts, Rng, Step,
 };
 use model::{framed, Fed, Mask, Model, Request, HANDLES, IMPERSONATE, MIN_BUFFER, STATIONS};
 
@@ -64,6 +64,13 @@ fn restricted() -> Model {
     model
 }
 
+/// Short runs with pairs: a fifth session comes from there.
+fn run_pairs(seeds: std::ops::Range<u64>, counts: &mut Counts) {
+    for seed in seeds {
+        run(seed, with_pairs(&mut Rng::new(seed)), 50, counts);
+    }
+}
+
 #[test]
 fn every_status_from_the_start() {
     let mut counts = Counts::default();
@@ -75,6 +82,7 @@ fn every_status_from_the_start() {
         };
         run(seed, first, 500, &mut counts);
     }
+    run_pairs(40..640, &mut counts);
     println!("from the start:\n{counts}");
     counts.check_statuses(20);
 }
@@ -85,6 +93,7 @@ fn every_status_from_random_states() {
     for seed in 1000..1600 {
         run(seed, state(&mut Rng::new(seed)), 50, &mut counts);
     }
+    run_pairs(1600..2200, &mut counts);
     println!("from random states:\n{counts}");
     counts.check_statuses(20);
 }
@@ -141,6 +150,17 @@ fn everything_that_can_happen_to_a_client() {
     println!("with clients:\n{counts}");
     if one_seed().is_none() {
         counts.check_clients(10);
+    }
+}
+
+#[test]
+fn every_case_of_linking() {
+    let mut counts = Counts::default();
+    each_seed(11_000..15_000, |seed, rng| run(seed, with_pairs(rng), 60, &mut counts));
+    println!("with pairs:\n{counts}");
+    if one_seed().is_none() {
+        counts.check_links(10);
+        counts.check_partners(10);
     }
 }
 

@@ -8,7 +8,8 @@ use std::collections::{BTreeMap, BTreeSet};
 use std::fmt::Debug;
 
 use gen::{
-    each_seed, one_seed, run, state, with_clients, with_copies, with_restrictions, Call, Step,
+    each_seed, one_seed, run, state, with_clients, with_copies, with_pairs, with_restrictions,
+    Call, Step,
 };
 use model::{
     write_number, Client, Group, Level, Model, Reader, Request, Token, TokenType, DISABLE, ENABLE,
@@ -22,6 +23,7 @@ fn run_all(check: impl Fn(&Step) + Copy) {
     each_seed(200..240, |seed, _| run(seed, with_restrictions(), 200, check));
     each_seed(240..280, |seed, _| run(seed, with_copies(), 200, check));
     each_seed(280..320, |seed, rng| run(seed, with_clients(rng), 200, check));
+    each_seed(320..440, |seed, rng| run(seed, with_pairs(rng), 200, check));
 }
 
 fn tokens(model: &Model) -> impl Iterator<Item = &Token> {
@@ -85,7 +87,6 @@ fn identity_never_changes() {
         };
         for (old, new) in pairs(before, after) {
             assert_eq!(identity(old), identity(new), "{call:?}");
-            assert_eq!(old.elevation, new.elevation, "{call:?}");
         }
     });
 }
@@ -112,16 +113,21 @@ fn token_of(model: &Model, station: usize, handle: u32) -> Option<&Token> {
     model.token(live.token)
 }
 
-/// The request that made a copy, its source and the copy.
+/// The request that made a copy, its source and the copy; a clone's source is the partner.
 fn copied<'a>(step: &Step<'a>) -> Option<(Request, &'a Token, &'a Token)> {
     let (station, request) = ended_request(step)?;
-    let (Request::Duplicate { handle, .. } | Request::Restrict { handle, .. }) = request else {
-        return None;
-    };
+    let source = |handle| token_of(step.before, station, handle).expect("a success has a source");
     if step.status() != Some(0) {
         return None;
     }
-    let source = token_of(step.before, station, handle).expect("a success has a source");
+    let source = match request {
+        Request::Duplicate { handle, .. } | Request::Restrict { handle, .. } => source(handle),
+        Request::GetLinked { handle } if step.before.next_token < step.after.next_token => {
+            let partner = step.before.partner(source(handle).number);
+            step.before.token(partner.expect("it is linked")).expect("a partner lives")
+        }
+        _ => return None,
+    };
     let copy = step.after.token(step.before.next_token).expect("a success has a copy");
     Some((request, source, copy))
 }
@@ -153,6 +159,7 @@ fn a_copy_of_a_restricted_token_is_restricted_by_nothing_that_its_source_lacked(
         let by = match request {
             Request::Duplicate { .. } if is_anonymous => return,
             Request::Duplicate { .. } => "duplicate",
+            Request::GetLinked { .. } => "clone",
             Request::Restrict { sids, .. } if sids.is_empty() => "restrict by none",
             _ => "restrict",
         };
@@ -164,7 +171,7 @@ fn a_copy_of_a_restricted_token_is_restricted_by_nothing_that_its_source_lacked(
             *seen.borrow_mut().entry(by).or_insert(0) += 1;
         }
     });
-    check_counts(&seen.borrow(), ["duplicate", "restrict by none", "restrict"]);
+    check_counts(&seen.borrow(), ["duplicate", "restrict by none", "restrict", "clone"]);
 }
 
 /// Whether the items stand in the list in their order.

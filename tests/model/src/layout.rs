@@ -1,7 +1,7 @@
 //! Sizes and places in the lent memory, as docs/MEMORY.md has them.
 
 use crate::frame::{MAX_BODY, MAX_LENGTH_BYTES};
-use crate::state::{HANDLES, STATIONS, TOKENS};
+use crate::state::{HANDLES, PAIRS, STATIONS, TOKENS};
 use crate::token::{MAX_DACL, MAX_GROUPS, MAX_RESTRICTING};
 
 /// Where a token's fields stand in its row.
@@ -47,6 +47,14 @@ pub mod station_word {
     pub const CLIENT_LEVEL: usize = 4;
 }
 
+/// Where a pair's fields stand in its row; a free place is told by the elevated one.
+#[allow(missing_docs)] // named as the fields
+pub mod pair_word {
+    pub const SESSION: usize = 0;
+    pub const ELEVATED: usize = 1;
+    pub const FILTERED: usize = 2;
+}
+
 /// Where a handle's fields stand in its record: bytes.
 #[allow(missing_docs)] // named as the fields
 pub mod handle_byte {
@@ -64,6 +72,8 @@ pub mod control_word {
     pub const NEXT_HANDLE: usize = 1;
     /// The first station's row; the others follow.
     pub const STATIONS: usize = NEXT_HANDLE + 1;
+    /// The first pair's row; the others follow.
+    pub const PAIRS: usize = STATIONS + super::STATIONS * super::STATION_ROW;
 }
 
 /// Words of a token's row.
@@ -74,6 +84,8 @@ pub const DACL_ROW: usize = MAX_DACL;
 pub const HANDLE_BYTES: usize = handle_byte::TOKEN.end;
 /// Words of a station's row.
 pub const STATION_ROW: usize = station_word::CLIENT_LEVEL + 1;
+/// Words of a pair's row.
+pub const PAIR_ROW: usize = pair_word::FILTERED + 1;
 /// Bytes of a station's row of pending bytes.
 pub const PENDING_ROW: usize = MAX_LENGTH_BYTES + MAX_BODY;
 
@@ -84,6 +96,6 @@ pub const DACL_BYTES: usize = TOKENS * DACL_ROW;
 /// Size of the handles part.
 pub const HANDLE_ROWS: usize = HANDLES;
 /// Size of the control part.
-pub const CONTROL_WORDS: usize = control_word::STATIONS + STATIONS * STATION_ROW;
+pub const CONTROL_WORDS: usize = control_word::PAIRS + PAIRS * PAIR_ROW;
 /// Size of the pending part.
 pub const PENDING_BYTES: usize = STATIONS * PENDING_ROW;

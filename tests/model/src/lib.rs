@@ -12,6 +12,7 @@ mod layout;
 mod lent;
 mod memory;
 mod number;
+mod pairs;
 mod privileges;
 mod program;
 mod query;
@@ -30,9 +31,9 @@ mod valid;
 pub use feed::{Fed, MIN_BUFFER};
 pub use frame::{framed, MAX_BODY, MAX_LENGTH_BYTES};
 pub use layout::{
-    control_word, handle_byte, station_word, token_word, ATTRIBUTES_BIT, CONTROL_WORDS, DACL_BYTES,
-    DACL_ROW, HANDLE_BYTES, HANDLE_ROWS, PENDING_BYTES, PENDING_ROW, STATION_ROW, TOKEN_ROW,
-    TOKEN_WORDS,
+    control_word, handle_byte, pair_word, station_word, token_word, ATTRIBUTES_BIT, CONTROL_WORDS,
+    DACL_BYTES, DACL_ROW, HANDLE_BYTES, HANDLE_ROWS, PAIR_ROW, PENDING_BYTES, PENDING_ROW,
+    STATION_ROW, TOKEN_ROW, TOKEN_WORDS,
 };
 pub use memory::{Bytes, Memory, PARTS};
 pub use number::{number_length, write_number, Reader, MORE};
@@ -46,9 +47,12 @@ pub use record::HandleRecord;
 pub use refusal::Refusal;
 pub use request::{
     Request, DISABLE, ENABLE, LAST_REQUEST, NO_CHANGE, REMOVE, RESET_GROUPS, RESET_PRIVILEGES,
+    UNUSED_REQUESTS,
 };
 pub use rights::Mask;
-pub use state::{Client, Handle, Model, Station, HANDLES, NO_CLIENT, STATIONS, TOKENS};
+pub use state::{
+    Client, Handle, Model, Pair, Station, HANDLES, NO_CLIENT, PAIRS, STATIONS, TOKENS,
+};
 pub use token::{
     Elevation, Group, Level, Token, TokenType, ANONYMOUS_SID, INTEGRITY_LEVELS, MAX_DACL,
     MAX_GROUPS, MAX_RESTRICTING, NO_ROOT, SYSTEM_SID,

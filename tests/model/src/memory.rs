@@ -1,12 +1,12 @@
 //! The lent memory: the state written into five parts of fixed size.
 
 use crate::layout::{
-    control_word, station_word, token_word, ATTRIBUTES_BIT, CONTROL_WORDS, DACL_ROW, PENDING_ROW,
-    STATION_ROW, TOKEN_ROW,
+    control_word, pair_word, station_word, token_word, ATTRIBUTES_BIT, CONTROL_WORDS, DACL_ROW,
+    PAIR_ROW, PENDING_ROW, STATION_ROW, TOKEN_ROW,
 };
 use crate::privileges::Privileges;
 use crate::record::HandleRecord;
-use crate::state::{Client, Model, Station, NO_CLIENT};
+use crate::state::{Client, Model, Pair, Station, NO_CLIENT};
 use crate::token::{Elevation, Group, Level, Token, TokenType};
 
 /// The names of the parts, in the order in which they are lent.
@@ -24,7 +24,8 @@ pub struct Memory {
     pub dacls: Vec<u8>,
     /// A record for each handle slot.
     pub handles: Vec<HandleRecord>,
-    /// The control words: the two next numbers, then a row of words for each station.
+    /// The control words: the two next numbers, then a row of words for each station, then one for
+    /// each pair.
     pub control: Vec<u64>,
     /// A row of bytes for each station.
     pub pending: Vec<u8>,
@@ -52,7 +53,7 @@ impl Model {
         let mut words = vec![0; CONTROL_WORDS];
         words[control_word::NEXT_TOKEN] = self.next_token;
         words[control_word::NEXT_HANDLE] = self.next_handle.into();
-        let rows = words[control_word::STATIONS..].chunks_mut(STATION_ROW);
+        let rows = words[control_word::STATIONS..control_word::PAIRS].chunks_mut(STATION_ROW);
         for (row, station) in rows.zip(&self.stations) {
             row[station_word::TOKEN] = station.token;
             row[station_word::PENDING_COUNT] = station.pending.len() as u64;
@@ -60,6 +61,14 @@ impl Model {
             if let Some(client) = station.client {
                 row[station_word::CLIENT] = client.token;
                 row[station_word::CLIENT_LEVEL] = client.level as u64;
+            }
+        }
+        let rows = words[control_word::PAIRS..].chunks_mut(PAIR_ROW);
+        for (row, pair) in rows.zip(&self.pairs) {
+            if let Some(pair) = pair {
+                row[pair_word::SESSION] = pair.session;
+                row[pair_word::ELEVATED] = pair.elevated;
+                row[pair_word::FILTERED] = pair.filtered;
             }
         }
         words
@@ -132,6 +141,7 @@ impl Memory {
             tokens: tokens.try_into().ok()?,
             handles: handles.try_into().ok()?,
             stations: stations.try_into().ok()?,
+            pairs: self.pair_rows().map(|row| row.pair()).collect::<Vec<_>>().try_into().ok()?,
             next_token: self.control[control_word::NEXT_TOKEN],
             next_handle: self.control[control_word::NEXT_HANDLE].try_into().ok()?,
         })
@@ -146,7 +156,8 @@ impl Memory {
     /// The stations, each with its row of pending bytes.
     pub(crate) fn station_rows(&self) -> impl Iterator<Item = StationRow<'_>> {
         let rows = self.pending.chunks(PENDING_ROW);
-        let stations = self.control[control_word::STATIONS..].chunks(STATION_ROW);
+        let stations =
+            self.control[control_word::STATIONS..control_word::PAIRS].chunks(STATION_ROW);
         stations.zip(rows).map(|(words, row)| StationRow {
             token: words[station_word::TOKEN],
             count: words[station_word::PENDING_COUNT],
@@ -155,6 +166,11 @@ impl Memory {
             client_level: words[station_word::CLIENT_LEVEL],
             row,
         })
+    }
+
+    /// The places for pairs.
+    pub(crate) fn pair_rows(&self) -> impl Iterator<Item = PairRow<'_>> {
+        self.control[control_word::PAIRS..].chunks(PAIR_ROW).map(PairRow)
     }
 
     /// Every byte of every part, as a host has them.
@@ -209,6 +225,34 @@ impl StationRow<'_> {
     }
 }
 
+/// The words of a place for a pair.
+#[derive(Clone, Copy)]
+pub(crate) struct PairRow<'a>(pub &'a [u64]);
+
+impl PairRow<'_> {
+    pub fn session(&self) -> u64 {
+        self.0[pair_word::SESSION]
+    }
+
+    pub fn elevated(&self) -> u64 {
+        self.0[pair_word::ELEVATED]
+    }
+
+    pub fn filtered(&self) -> u64 {
+        self.0[pair_word::FILTERED]
+    }
+
+    /// Whether there is no pair; session 0 may have one.
+    pub fn is_free(&self) -> bool {
+        self.elevated() == 0
+    }
+
+    fn pair(&self) -> Option<Pair> {
+        let (session, elevated, filtered) = (self.session(), self.elevated(), self.filtered());
+        (!self.is_free()).then_some(Pair { session, elevated, filtered })
+    }
+}
+
 /// A token slot's words and its DACL's row.
 pub(crate) struct TokenRow<'a> {
     pub words: &'a [u64],
@@ -222,6 +266,9 @@ impl TokenRow<'_> {
     }
     pub fn root(&self) -> u64 {
         self.words[token_word::ROOT]
+    }
+    pub fn session(&self) -> u64 {
+        self.words[token_word::SESSION]
     }
     pub fn user(&self) -> u64 {
         self.words[token_word::USER]
@@ -298,7 +345,7 @@ impl TokenRow<'_> {
             number: self.number(),
             root: self.root(),
             modified: self.words[token_word::MODIFIED],
-            session: self.words[token_word::SESSION],
+            session: self.session(),
             user: self.user().try_into().ok()?,
             kind: TokenType::from_number(self.kind())?,
             level: Level::from_number(self.level())?,

@@ -1,7 +1,7 @@
 //! The refusals, by name and number.
 
-/// Refusals 1 to 9 answer a request, 10 answers the byte that breaks a stream, and 11 to 13
-/// refuse a whole call.
+/// Refusals 1 to 9 and 14 answer a request, 10 answers the byte that breaks a stream, and 11 to 13
+/// refuse a whole call. A request gets the first of 1 to 7, 14, 8, 9 that applies.
 #[derive(Clone, Copy, Debug, PartialEq, Eq)]
 pub enum Refusal {
     /// Unknown request, or a body not in its layout, or bytes left.
@@ -13,15 +13,16 @@ pub enum Refusal {
     /// The privilege is not held.
     Privilege,
     /// A bad field or entry, an unknown class, installing a non-primary token, acting for a primary
-    /// one, or restricting a restricted one to none of its SIDs, or to write-restricted where it is not.
+    /// one, restricting a restricted one to none of its SIDs, or to write-restricted where it is not, or
+    /// linking tokens that can't be a pair.
     Field,
     /// A mandatory, deny-only or logon group, or disabling one with the user's SID.
     Protected,
     /// The token to install is of another user or session; or the own token is restricted, the one
     /// to act for is not, and Impersonate is not held.
     Mismatch,
-    /// No slot is free, no number is left, or there are too many restricting SIDs for an
-    /// unrestricted token.
+    /// No slot is free, no number is left, four other sessions have pairs, or there are too many
+    /// restricting SIDs for an unrestricted token.
     Full,
     /// The query's answer, of this size, is larger than the given capacity.
     Capacity(u32),
@@ -33,13 +34,15 @@ pub enum Refusal {
     Buffer,
     /// The memory is not valid.
     Memory,
+    /// The token is in no pair.
+    Unlinked,
 }
 
 impl Refusal {
     /// The one with the largest number.
-    pub const LAST: Refusal = Refusal::Memory;
+    pub const LAST: Refusal = Refusal::Unlinked;
 
-    /// The number that document 01 gives the refusal.
+    /// The number that documents 01 and 02 give the refusal.
     pub fn number(self) -> u32 {
         match self {
             Refusal::Layout => 1,
@@ -55,6 +58,7 @@ impl Refusal {
             Refusal::Station => 11,
             Refusal::Buffer => 12,
             Refusal::Memory => 13,
+            Refusal::Unlinked => 14,
         }
     }
 

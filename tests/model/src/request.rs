@@ -16,7 +16,9 @@ pub const RESET_PRIVILEGES: (u32, u32) = (0, 0x8000_0000);
 pub const RESET_GROUPS: (u32, u32) = (0xFFFF_FFFF, 0);
 
 /// The number of the last request; the first is 1.
-pub const LAST_REQUEST: u32 = 13;
+pub const LAST_REQUEST: u32 = 17;
+/// Numbers below it that no request has yet.
+pub const UNUSED_REQUESTS: [u32; 2] = [14, 15];
 
 /// A request in its layout; its values may still be bad.
 #[derive(Clone, Debug, PartialEq, Eq)]
@@ -55,6 +57,10 @@ pub enum Request {
     Impersonate { handle: u32 },
     /// 13: acts for none.
     Revert,
+    /// 16: links two tokens of a session.
+    Link { elevated: u32, filtered: u32, session: u64 },
+    /// 17: a handle on the other of a pair, or on a clone of it.
+    GetLinked { handle: u32 },
 }
 
 impl Request {
@@ -89,6 +95,12 @@ impl Request {
             11 => Request::Install { handle: reader.u32()? },
             12 => Request::Impersonate { handle: reader.u32()? },
             13 => Request::Revert,
+            16 => Request::Link {
+                elevated: reader.u32()?,
+                filtered: reader.u32()?,
+                session: reader.u64()?,
+            },
+            17 => Request::GetLinked { handle: reader.u32()? },
             _ => return None,
         })
     }

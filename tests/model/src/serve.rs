@@ -14,7 +14,7 @@ impl Model {
         }
     }
 
-    /// The fields after status 0, or the lowest refusal; a refusal changes nothing.
+    /// The fields after status 0, or the first refusal that applies; a refusal changes nothing.
     fn reply(&mut self, station: usize, body: &[u8]) -> Result<Vec<u8>, Refusal> {
         match Request::read(body).ok_or(Refusal::Layout)? {
             Request::Open { mask } => self.open(station, mask).map(number),
@@ -46,6 +46,10 @@ impl Model {
                 self.impersonate(station, handle).map(|level| number(level as u32))
             }
             Request::Revert => Ok(given_up(self.revert(station))),
+            Request::Link { elevated, filtered, session } => {
+                self.link(station, elevated, filtered, session).map(nothing)
+            }
+            Request::GetLinked { handle } => self.get_linked(station, handle).map(number),
         }
     }
 }

@@ -1,4 +1,4 @@
-//! What the model keeps: tokens, handles, stations and the next numbers.
+//! What the model keeps: tokens, handles, stations, linked pairs and the next numbers.
 
 use crate::refusal::Refusal;
 use crate::rights::Mask;
@@ -10,6 +10,8 @@ pub const STATIONS: usize = 8;
 pub const TOKENS: usize = 16;
 /// How many slots for handles.
 pub const HANDLES: usize = 32;
+/// How many places for linked pairs.
+pub const PAIRS: usize = 4;
 
 /// A handle.
 #[derive(Clone, Copy, Debug, PartialEq, Eq)]
@@ -36,6 +38,24 @@ pub struct Client {
     pub level: Level,
 }
 
+/// Two linked tokens of a session.
+#[derive(Clone, Copy, Debug, PartialEq, Eq)]
+pub struct Pair {
+    /// The session, which has this pair alone.
+    pub session: u64,
+    /// The number of the elevated token.
+    pub elevated: u64,
+    /// The number of the filtered one.
+    pub filtered: u64,
+}
+
+impl Pair {
+    /// Both tokens' numbers.
+    pub fn tokens(self) -> [u64; 2] {
+        [self.elevated, self.filtered]
+    }
+}
+
 /// A station and its stream.
 #[derive(Clone, Debug, Default, PartialEq, Eq)]
 pub struct Station {
@@ -58,6 +78,8 @@ pub struct Model {
     pub handles: [Option<Handle>; HANDLES],
     /// The stations.
     pub stations: [Station; STATIONS],
+    /// Places for pairs.
+    pub pairs: [Option<Pair>; PAIRS],
     /// The next token number.
     pub next_token: u64,
     /// The next handle number.
@@ -73,6 +95,7 @@ impl Model {
             tokens,
             handles: [None; HANDLES],
             stations: std::array::from_fn(|_| Station { token: 1, ..Station::default() }),
+            pairs: [None; PAIRS],
             next_token: 2,
             next_handle: 1,
         }
@@ -171,13 +194,14 @@ impl Model {
         Ok(handle)
     }
 
-    /// Every reference to a token: of handles, of stations to their primary tokens, and of stations
-    /// to the tokens that they act for.
+    /// Every reference to a token: of handles, of stations to their primary tokens, of stations to
+    /// the tokens that they act for, and of pairs.
     pub fn references(&self) -> impl Iterator<Item = u64> + '_ {
         let handles = self.handles.iter().flatten().map(|handle| handle.token);
         let primaries = self.stations.iter().map(|station| station.token);
         let clients = self.stations.iter().filter_map(|station| station.client);
-        handles.chain(primaries).chain(clients.map(|client| client.token))
+        let paired = self.pairs.iter().flatten().flat_map(|pair| pair.tokens());
+        handles.chain(primaries).chain(clients.map(|client| client.token)).chain(paired)
     }
 
     /// Whether anything refers to the token.

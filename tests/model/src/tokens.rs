@@ -152,7 +152,7 @@ fn primary_copy(source: &Token) -> Token {
     }
 }
 
-fn impersonation_copy(source: &Token, level: Level) -> Token {
+pub(crate) fn impersonation_copy(source: &Token, level: Level) -> Token {
     Token { kind: TokenType::Impersonation, level, elevation: Elevation::Default, ..source.clone() }
 }
 

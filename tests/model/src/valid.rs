@@ -7,7 +7,7 @@ use crate::frame::may_be_pending;
 use crate::layout::{
     control_word, CONTROL_WORDS, DACL_BYTES, HANDLE_ROWS, PENDING_BYTES, TOKEN_WORDS,
 };
-use crate::memory::{Memory, StationRow, TokenRow};
+use crate::memory::{Memory, PairRow, StationRow, TokenRow};
 use crate::privileges::ALL_PRIVILEGES;
 use crate::record::HandleRecord;
 use crate::rights::Mask;
@@ -39,6 +39,11 @@ pub const RULES: &[Rule] = &[
     ("roots", roots_are_at_most_the_number),
     ("client tokens", client_tokens_are_for_impersonation),
     ("client levels", levels_in_force_are_at_most_the_tokens_own),
+    ("pair sessions", pairs_are_of_different_sessions),
+    ("paired types", paired_tokens_are_primary),
+    ("paired elevations", paired_tokens_are_full_and_limited),
+    ("paired users", paired_tokens_are_of_one_user),
+    ("paired sessions", paired_tokens_are_of_the_pairs_session),
 ];
 
 impl Memory {
@@ -78,13 +83,27 @@ impl Memory {
         self.station_rows().filter(StationRow::has_client)
     }
 
-    /// Every token number that a handle or a station refers to, the station as its own or as its
-    /// client's.
+    /// The places with a pair.
+    fn live_pairs(&self) -> impl Iterator<Item = PairRow<'_>> {
+        self.pair_rows().filter(|row| !row.is_free())
+    }
+
+    /// Whether this holds of each pair and each of its tokens.
+    fn all_paired(&self, holds: impl Fn(PairRow, TokenRow) -> bool) -> bool {
+        self.live_pairs().all(|pair| {
+            let numbers = [pair.elevated(), pair.filtered()].into_iter();
+            numbers.flat_map(|number| self.tokens_numbered(number)).all(|row| holds(pair, row))
+        })
+    }
+
+    /// Every token number that a handle, a station or a pair refers to, the station as its own or as
+    /// its client's.
     fn references(&self) -> HashSet<u64> {
         let handles = self.live_handles().map(|handle| handle.token);
         let primaries = self.station_rows().map(|row| row.token);
         let clients = self.acting_stations().map(|row| row.client);
-        handles.chain(primaries).chain(clients).collect()
+        let paired = self.live_pairs().flat_map(|row| [row.elevated(), row.filtered()]);
+        handles.chain(primaries).chain(clients).chain(paired).collect()
     }
 }
 
@@ -145,6 +164,7 @@ fn free_slots_are_zero(memory: &Memory) -> bool {
     memory.token_rows().all(token_is_clean)
         && memory.handles.iter().all(|handle| handle.number != 0 || all_zero(&handle.bytes()))
         && memory.station_rows().all(|row| all_zero(row.past_pending()))
+        && memory.pair_rows().all(|row| !row.is_free() || all_zero(row.0))
 }
 
 fn all_zero<T: Default + PartialEq>(items: &[T]) -> bool {
@@ -246,4 +266,34 @@ fn levels_in_force_are_at_most_the_tokens_own(memory: &Memory) -> bool {
             station.client_level == 0
         }
     })
+}
+
+fn pairs_are_of_different_sessions(memory: &Memory) -> bool {
+    are_distinct(&memory.live_pairs().map(|pair| pair.session()).collect::<Vec<_>>())
+}
+
+fn paired_tokens_are_primary(memory: &Memory) -> bool {
+    memory.all_paired(|_, row| row.kind() == TokenType::Primary as u64)
+}
+
+/// So they are two.
+fn paired_tokens_are_full_and_limited(memory: &Memory) -> bool {
+    let has = |number, elevation| {
+        memory.tokens_numbered(number).all(|row| row.elevation() == elevation as u64)
+    };
+    memory.live_pairs().all(|pair| {
+        has(pair.elevated(), Elevation::Full) && has(pair.filtered(), Elevation::Limited)
+    })
+}
+
+fn paired_tokens_are_of_one_user(memory: &Memory) -> bool {
+    memory.live_pairs().all(|pair| {
+        let users = |number| memory.tokens_numbered(number).map(|row| row.user());
+        let both: HashSet<u64> = users(pair.elevated()).chain(users(pair.filtered())).collect();
+        both.len() <= 1
+    })
+}
+
+fn paired_tokens_are_of_the_pairs_session(memory: &Memory) -> bool {
+    memory.all_paired(|pair, row| row.session() == pair.session())
 }

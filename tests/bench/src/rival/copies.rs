@@ -134,7 +134,7 @@ impl Memory<'_> {
     }
 
     /// The token and its DACL into another slot.
-    fn copy(&mut self, source: usize, slot: usize) {
+    pub fn copy(&mut self, source: usize, slot: usize) {
         self.tokens[slot] = self.tokens[source];
         self.dacls[slot] = self.dacls[source];
     }

@@ -6,6 +6,8 @@ pub const STATIONS: usize = 8;
 /// Slots of tokens and of handles.
 pub const TOKENS: usize = 16;
 pub const HANDLES: usize = 32;
+/// Places for linked pairs.
+pub const PAIRS: usize = 4;
 
 /// Most groups, restricting SIDs and DACL bytes of a token.
 pub const MAX_GROUPS: usize = 64;
@@ -68,6 +70,14 @@ pub mod station_word {
 }
 pub const STATION_ROW: usize = station_word::IN_FORCE + 1;
 
+/// Words of a pair's row, which follow the stations' rows; 0 for the elevated token: a free place.
+pub mod pair_word {
+    pub const SESSION: usize = 0;
+    pub const ELEVATED: usize = 1;
+    pub const FILTERED: usize = 2;
+}
+pub const PAIR_ROW: usize = pair_word::FILTERED + 1;
+
 /// Bytes of a token's DACL and of a station's pending bytes.
 pub const DACL_ROW: usize = MAX_DACL;
 pub const PENDING_ROW: usize = MAX_LENGTH_BYTES + MAX_BODY;
@@ -79,6 +89,7 @@ pub const ANONYMOUS: u64 = 0;
 pub const IDENTIFICATION: u64 = 1;
 pub const DELEGATION: u64 = 3;
 pub const DEFAULT_ELEVATION: u64 = 1;
+pub const FULL: u64 = 2;
 pub const LIMITED: u64 = 3;
 pub const INTEGRITY_STEP: u64 = 4096;
 pub const MAX_INTEGRITY: u64 = 4 * INTEGRITY_STEP;

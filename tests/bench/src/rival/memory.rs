@@ -2,8 +2,8 @@
 
 use super::layout::{
     station_word, word, ALL_PRIVILEGES, DACL_ROW, DEFAULT_ELEVATION, HANDLES, MAX_INTEGRITY,
-    NEXT_HANDLE, NEXT_NUMBERS, NEXT_TOKEN, PENDING_ROW, PRIMARY, STATIONS, STATION_ROW, SYSTEM_SID,
-    TOKENS, TOKEN_ROW,
+    NEXT_HANDLE, NEXT_NUMBERS, NEXT_TOKEN, PAIRS, PAIR_ROW, PENDING_ROW, PRIMARY, STATIONS,
+    STATION_ROW, SYSTEM_SID, TOKENS, TOKEN_ROW,
 };
 
 /// A handle's record; a free one is all zero.
@@ -25,7 +25,7 @@ pub struct Parts {
     pub dacls: Vec<u8>,
     /// Handle records.
     pub handles: Vec<Handle>,
-    /// Control words: next numbers and stations.
+    /// Control words: next numbers, stations and pairs.
     pub control: Vec<u64>,
     /// Pending bytes.
     pub pending: Vec<u8>,
@@ -62,19 +62,22 @@ pub struct Memory<'a> {
     pub handles: &'a mut [Handle; HANDLES],
     pub next: &'a mut [u64; NEXT_NUMBERS],
     pub stations: &'a mut [[u64; STATION_ROW]; STATIONS],
+    pub pairs: &'a mut [[u64; PAIR_ROW]; PAIRS],
     pub pending: &'a mut [[u8; PENDING_ROW]; STATIONS],
 }
 
 impl Parts {
     /// The tables, when each part has its size.
     pub fn view(&mut self) -> Option<Memory<'_>> {
-        let (next, stations) = self.control.split_first_chunk_mut()?;
+        let (next, rows) = self.control.split_first_chunk_mut()?;
+        let (stations, pairs) = rows.split_at_mut_checked(STATIONS * STATION_ROW)?;
         Some(Memory {
             tokens: table(&mut self.tokens)?,
             dacls: table(&mut self.dacls)?,
             handles: self.handles.as_mut_slice().try_into().ok()?,
             next,
             stations: table(stations)?,
+            pairs: table(pairs)?,
             pending: table(&mut self.pending)?,
         })
     }
@@ -114,6 +117,7 @@ impl Memory<'_> {
         self.next[NEXT_HANDLE] = 1;
         *self.stations = [[0; STATION_ROW]; STATIONS];
         self.stations.iter_mut().for_each(|words| words[station_word::TOKEN] = 1);
+        *self.pairs = [[0; PAIR_ROW]; PAIRS];
     }
 
     pub fn station(&self, station: usize) -> Station {

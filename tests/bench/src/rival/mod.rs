@@ -5,6 +5,7 @@ mod acting;
 mod copies;
 mod groups;
 mod layout;
+mod linking;
 mod memory;
 mod reader;
 mod records;

@@ -1,6 +1,8 @@
 //! Handles and tokens in their slots.
 
-use super::layout::{right, station_word, word, DACL_ROW, NEXT_HANDLE, NEXT_TOKEN, TOKEN_ROW};
+use super::layout::{
+    pair_word, right, station_word, word, DACL_ROW, NEXT_HANDLE, NEXT_TOKEN, TOKEN_ROW,
+};
 use super::memory::{Handle, Memory};
 use super::reader::{refuse, Refused};
 
@@ -87,7 +89,10 @@ impl Memory<'_> {
         let has_station = self.stations.iter().fold(false, |has, words| {
             has | (words[station_word::TOKEN] == number) | (words[station_word::ACTS_FOR] == number)
         });
-        if !has_handle && !has_station {
+        let has_pair = self.pairs.iter().fold(false, |has, words| {
+            has | (words[pair_word::ELEVATED] == number) | (words[pair_word::FILTERED] == number)
+        });
+        if !has_handle && !has_station && !has_pair {
             let slot = self.slot(number);
             self.tokens[slot] = [0; TOKEN_ROW];
             self.dacls[slot] = [0; DACL_ROW];

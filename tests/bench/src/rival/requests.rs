@@ -44,6 +44,8 @@ impl Memory<'_> {
             11 => self.install(station, reader),
             12 => self.impersonate(station, reader, out),
             13 => self.revert(station, reader, out),
+            16 => self.link(station, reader),
+            17 => self.get_linked(station, reader, out),
             _ => refuse(1, false),
         }
     }

@@ -2,10 +2,10 @@
 
 use super::groups::attribute;
 use super::layout::{
-    word, ALL_PRIVILEGES, ANONYMOUS, ATTRIBUTES, DACL_ROW, DELEGATION, DENY_ONLY, ENABLED, GIVEN,
-    GROUPS, HANDLES, IMPERSONATION, INTEGRITY_STEP, LIMITED, LOGON_ID, MAX_BODY, MAX_DACL,
-    MAX_GROUPS, MAX_INTEGRITY, MAX_LENGTH_BYTES, MAX_RESTRICTING, NEXT_HANDLE, NEXT_TOKEN, OWNER,
-    PRIMARY, STATIONS, TOKENS,
+    pair_word, word, ALL_PRIVILEGES, ANONYMOUS, ATTRIBUTES, DACL_ROW, DELEGATION, DENY_ONLY,
+    ENABLED, FULL, GIVEN, GROUPS, HANDLES, IMPERSONATION, INTEGRITY_STEP, LIMITED, LOGON_ID,
+    MAX_BODY, MAX_DACL, MAX_GROUPS, MAX_INTEGRITY, MAX_LENGTH_BYTES, MAX_RESTRICTING, NEXT_HANDLE,
+    NEXT_TOKEN, OWNER, PAIR_ROW, PRIMARY, STATIONS, TOKENS,
 };
 use super::memory::{Handle, Memory, Row, Station};
 use super::reader::MORE;
@@ -38,40 +38,80 @@ impl Memory<'_> {
             && are_distinct(&handles)
     }
 
-    /// Every handle and station refers to live tokens, and every live token is referred to.
+    /// Every handle, station and pair refers to live tokens, and every live token is referred to.
     fn references_are_valid(&self, numbers: &[u64; TOKENS]) -> bool {
+        let of_all = [self.of_handles(numbers), self.of_stations(numbers), self.of_pairs(numbers)];
+        let [Some(handles), Some(stations), Some(pairs)] = of_all else { return false };
+        let live = (0..TOKENS).fold(0, |live, slot| live | u32::from(numbers[slot] != 0) << slot);
+        live == handles | stations | pairs
+    }
+
+    /// The slots that handles refer to; `None` if one is not as it should be.
+    fn of_handles(&self, numbers: &[u64; TOKENS]) -> Option<u32> {
         let mut referred = 0;
         for handle in self.handles.iter() {
             if handle.number == 0 {
                 if *handle != Handle::default() {
-                    return false;
+                    return None;
                 }
                 continue;
             }
             let slots = slots_of(numbers, handle.token);
             let in_range = usize::from(handle.station) < STATIONS && is_mask(handle.mask.into());
             if slots == 0 || !in_range {
-                return false;
+                return None;
             }
             referred |= slots;
         }
+        Some(referred)
+    }
+
+    /// The same of stations.
+    fn of_stations(&self, numbers: &[u64; TOKENS]) -> Option<u32> {
+        let mut referred = 0;
         for words in self.stations.iter() {
             let Station { token, acts_for, in_force, .. } = Station::new(words);
             let [own, other] = [token, acts_for].map(|number| slots_of(numbers, number));
             if own == 0 || self.row(own)[word::TYPE] != PRIMARY {
-                return false;
+                return None;
             }
             let is_good = match acts_for {
                 0 => in_force == 0,
                 _ => other != 0 && may_be_acted_for(self.row(other), in_force),
             };
             if !is_good {
-                return false;
+                return None;
             }
             referred |= own | other;
         }
-        let live = (0..TOKENS).fold(0, |live, slot| live | u32::from(numbers[slot] != 0) << slot);
-        live == referred
+        Some(referred)
+    }
+
+    /// The same of pairs.
+    fn of_pairs(&self, numbers: &[u64; TOKENS]) -> Option<u32> {
+        let mut referred = 0;
+        for (place, pair) in self.pairs.iter().enumerate() {
+            if pair[pair_word::ELEVATED] == 0 {
+                if !words_are_zero(pair) {
+                    return None;
+                }
+                continue;
+            }
+            let [elevated, filtered] = [pair_word::ELEVATED, pair_word::FILTERED]
+                .map(|word| slots_of(numbers, pair[word]));
+            let of_session = |other: &[u64; PAIR_ROW]| {
+                other[pair_word::ELEVATED] != 0
+                    && other[pair_word::SESSION] == pair[pair_word::SESSION]
+            };
+            if elevated == 0 || filtered == 0 || self.pairs[..place].iter().any(of_session) {
+                return None;
+            }
+            if !are_a_pair(self.row(elevated), self.row(filtered), pair[pair_word::SESSION]) {
+                return None;
+            }
+            referred |= elevated | filtered;
+        }
+        Some(referred)
     }
 
     /// The row of the lowest of these slots.
@@ -104,6 +144,16 @@ impl Memory<'_> {
 
 fn may_be_acted_for(row: &Row, in_force: u64) -> bool {
     row[word::TYPE] == IMPERSONATION && in_force <= row[word::LEVEL]
+}
+
+/// Full and Limited, so two of them; primary, of the session and of one user.
+fn are_a_pair(elevated: &Row, filtered: &Row, session: u64) -> bool {
+    elevated[word::ELEVATION] == FULL
+        && filtered[word::ELEVATION] == LIMITED
+        && elevated[word::USER] == filtered[word::USER]
+        && [elevated, filtered]
+            .iter()
+            .all(|row| row[word::TYPE] == PRIMARY && row[word::SESSION] == session)
 }
 
 /// The slots with this number, as bits; none for 0.

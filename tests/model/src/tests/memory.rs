@@ -8,13 +8,13 @@ use crate::layout::{
 use crate::{HandleRecord, Memory, Model, ALL_PRIVILEGES, HANDLES, MIN_BUFFER, PARTS, STATIONS};
 
 /// The bytes of each part, as docs/MEMORY.md's first table has them.
-const SIZES: [usize; PARTS.len()] = [12_928, 4_096, 512, 336, 16_400];
+const SIZES: [usize; PARTS.len()] = [12_928, 4_096, 512, 432, 16_400];
 
 #[test]
 fn sizes() {
     let sizes = Model::start().memory().bytes().map(|part| part.len());
     assert_eq!(sizes, SIZES);
-    assert_eq!(sizes.iter().sum::<usize>(), 34_272);
+    assert_eq!(sizes.iter().sum::<usize>(), 34_368);
 }
 
 #[test]
@@ -26,7 +26,8 @@ fn the_start_in_memory() {
     assert_eq!(fields, row);
     assert!(rest.iter().all(|&word| word == 0));
     assert_eq!(memory.handles, [HandleRecord::default(); HANDLES]);
-    assert_eq!(memory.control, [vec![2, 1], [1, 0, 0, 0, 0].repeat(STATIONS)].concat());
+    let stations = [1, 0, 0, 0, 0].repeat(STATIONS);
+    assert_eq!(memory.control, [vec![2, 1], stations, vec![0; 12]].concat());
     assert!(memory.dacls.iter().chain(&memory.pending).all(|&byte| byte == 0));
     assert_eq!(memory.model(), Some(Model::start()));
 }

@@ -13,6 +13,8 @@ mod install;
 mod lent;
 mod memory;
 mod numbers;
+mod pair_memory;
+mod pairs;
 mod privileges;
 mod program;
 mod query;

@@ -1,17 +1,18 @@
 -- references::columns::other_numbers meets its contract: its loop keeps what is not 0 of a column. Assumes nothing.
 use Prim.Native.Nat.{_-_}
 use mathlib.Core.Path.{refl}
+use mathlib.Core.List.{[]}
 use borrow.Author.Needs.{needs}
 use Rattle.rules.specs.State.{tokenSlots}
 use Rattle.rules.specs.Memory.{tokenWords}
 use Rattle.references.specs.Tests.{columnBy, otherWord}
-use Rattle.references.proofs.Loops.{Keeping, keeping-done}
-use Rattle.references.proofs.Lists.{given-none, given-more}
+use Rattle.references.proofs.Loops.{Keeping}
+use Rattle.references.proofs.Lists.{given-none, given-more, given-done}
 use Rattle.references.proofs.columns.other_numbers.Statement.{statement}
 use Rattle.references.proofs.columns.other_numbers.Tie as tie
 
 abbrev Inv : tie.InvT-loop
-Inv tokens out₀ n₀ i₀ out n i = Keeping (λ x. x) (λ x. x) (columnBy otherWord tokenWords tokenSlots tokens) tokenSlots tokenSlots out n i
+Inv tokens out₀ n₀ i₀ out n i = Keeping (λ x. x) (λ x. x) (columnBy otherWord tokenWords tokenSlots tokens) [] tokenSlots tokenSlots out n i
 
 abbrev μ : tie.MeasureT-loop
 μ tokens out₀ n₀ i₀ out n i = tokenSlots - i
@@ -35,4 +36,4 @@ other-numbers-spec =
     (λ c. search needs)
     (λ c. search needs)
     (λ c. search (needs, given-more otherWord tokenWords))
-    (λ c. search (needs, keeping-done)))
+    (λ c. search (needs, given-done otherWord tokenWords)))

@@ -1,4 +1,4 @@
--- references::handles::live meets its contract: its loop tests each handle, and keeps numbers of the live ones; the stations' tokens come behind. Assumes nothing.
+-- references::handles::live meets its contract: its loop tests each handle, and keeps numbers of the live ones; the pairs' and the stations' tokens come behind. Assumes nothing.
 use Prim.Native.Nat.{_-_}
 use mathlib.Core.Path.{refl}
 use native.Mathlib.Omega.{arith}
@@ -15,10 +15,10 @@ use Rattle.references.proofs.handles.live.Statement.{statement}
 use Rattle.references.proofs.handles.live.Tie as tie
 
 abbrev Inv : tie.InvT-loop
-Inv handles rows ok₀ numbers₀ referred₀ n₀ i₀ ok numbers referred n i = Sorting fieldsOf numberOf numberOf tokenOf none (recordsIn handles) handleSlots referenceSlots ok numbers referred n i
+Inv handles rows pairs ok₀ numbers₀ referred₀ n₀ i₀ ok numbers referred n i = Sorting fieldsOf numberOf numberOf tokenOf none (recordsIn handles) handleSlots referenceSlots ok numbers referred n i
 
 abbrev μ : tie.MeasureT-loop
-μ handles rows ok₀ numbers₀ referred₀ n₀ i₀ ok numbers referred n i = handleSlots - i
+μ handles rows pairs ok₀ numbers₀ referred₀ n₀ i₀ ok numbers referred n i = handleSlots - i
 
 pub live-spec : {M : Type 1} → statement M
 live-spec =
@@ -40,12 +40,19 @@ live-spec =
     (λ c.
     let k = c .before .before .before .before in
     sorting-more _ _ _ _ _ _ (k .before .before .loop .inv) (search needs) (k .at .ensures) (c .before .before .before .fields-valid .ensures) (c .before .before .number-of .ensures) (c .before .token-of .ensures) (c .is-kept .ensures .0))
+    (λ c. search needs)
+    (λ c κs. search needs)
+    (λ c. search needs)
+    (λ c κs. search needs)
     (λ c κs. search needs)
     (λ c. search needs)
     (λ c κs. search needs)
     (λ c.
-    let sorted = c .before .before .before .before .before .loop .inv in
-    let past = c .before .before .before .before .loop-test .left in (
+    let firsts = c .before .before in
+    let filtered = firsts .before .before .before in
+    let elevated = filtered .before .before .before in
+    let sorted = elevated .before .before .before .loop .inv in
+    let past = elevated .before .before .loop-test .left in (
       sorting-tested _ _ _ _ _ _ sorted past,
-      (sorting-first _ _ _ _ _ _ sorted past, at-referred _ _ _ _ _ _ sorted past (c .before .before .add-primaries .ensures) (c .add-clients .ensures)),
+      (sorting-first _ _ _ _ _ _ sorted past, at-referred _ _ _ _ _ _ _ sorted past (elevated .add-pairs .ensures) (filtered .add-pairs2 .ensures) (firsts .add-primaries .ensures) (c .add-clients .ensures)),
     )))

@@ -1,0 +1,2 @@
+pub mod LinkEnding
+pub mod LinkedEnding
