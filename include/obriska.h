@@ -39,6 +39,7 @@ extern "C" {
 #define OBRISKA_MAX_GROUPS 64      /* of a token */
 #define OBRISKA_MAX_RESTRICTING 16 /* restricting SIDs of a token; with any it is restricted */
 #define OBRISKA_MAX_DACL 256       /* bytes of a token's default DACL */
+#define OBRISKA_MAX_DEPTH 8        /* of a condition */
 
 #define OBRISKA_ANSWER_LEN 1024 /* the shortest answer buffer, and the longest answer */
 #define OBRISKA_MAX_BODY 2048   /* the longest body of a request */
@@ -172,14 +173,16 @@ OBRISKA_ASSERT_(sizeof(struct obriska_memory) == OBRISKA_MEMORY_BYTES, "the memo
  * first of 1 to 7, 14, 8, 9. 11 to 13 refuse a whole call, the lowest that applies, and then nothing
  * at all is written. */
 enum obriska_refusal {
-    OBRISKA_REFUSED_LAYOUT = 1,     /* unknown request, not in its layout, or bytes left over */
+    OBRISKA_REFUSED_LAYOUT = 1,     /* unknown request, not in its layout, or bytes left over; a
+                                       condition deeper than OBRISKA_MAX_DEPTH */
     OBRISKA_REFUSED_HANDLE = 2,     /* not a live handle of this station */
     OBRISKA_REFUSED_RIGHT = 3,      /* the handle lacks the right */
     OBRISKA_REFUSED_PRIVILEGE = 4,  /* the privilege is not enabled on the station's token */
     OBRISKA_REFUSED_FIELD = 5,      /* a bad field or entry, an unknown class, installing a token that
                                        is not primary, acting for one that is, restricting a
                                        restricted one to none of its SIDs, or to write-restricted
-                                       where it is not, or linking two that can be no pair */
+                                       where it is not, linking two that can be no pair, or an
+                                       unknown privilege in a condition */
     OBRISKA_REFUSED_PROTECTED = 6,  /* an entry names a mandatory, deny-only or logon group, or
                                        disables one with the user's SID */
     OBRISKA_REFUSED_MISMATCH = 7,   /* installing a token of another user or session; acting for an
@@ -211,6 +214,7 @@ enum obriska_refusal {
  *   12           the level in force;
  *   13           the number of the token given up and the level that was in force, 0 and 0 if the
  *                station acted for none;
+ *   18           1 if the token meets the condition, else 0;
  *   2, 7, 8, 11, 16
  *                nothing. */
 
@@ -238,6 +242,13 @@ enum obriska_refusal {
 #define OBRISKA_ELEVATION_FULL 2u
 #define OBRISKA_ELEVATION_LIMITED 3u
 
+/* Kinds of a condition. */
+#define OBRISKA_CONDITION_ALL 1u     /* a count and that many conditions: each holds */
+#define OBRISKA_CONDITION_ANY 2u     /* a count and that many conditions: one holds at least */
+#define OBRISKA_CONDITION_NOT 3u     /* a condition: it does not hold */
+#define OBRISKA_CONDITION_ENABLED 4u /* a privilege: it is enabled */
+#define OBRISKA_CONDITION_GROUP 5u   /* a SID: a group of it is enabled */
+
 /* Attributes of a group. */
 #define OBRISKA_GROUP_MANDATORY 0x01u
 #define OBRISKA_GROUP_ENABLED_BY_DEFAULT 0x02u
@@ -264,6 +275,14 @@ enum obriska_refusal {
  * token is in a pair. Request 17 gives a handle on the other token of a pair: on the token itself, with
  * all rights, where Tcb is held; else on a new copy of it for impersonation, at level Identification,
  * with right QUERY and the elevation kept, which is in no pair. */
+
+/* Request 18, with right QUERY, evaluates a condition on a handle's token: whether it may see a page of
+ * a screen, say. It has the handle and the condition, a kind and what belongs to it, all as numbers of
+ * 32 bits. Of an empty list ALL holds and ANY does not. ENABLED, GROUP and empty lists are one deep,
+ * NOT and other lists one deeper than the deepest condition in them. What is no condition at most
+ * OBRISKA_MAX_DEPTH deep is refused by 1, whatever the handle is; a privilege that there is
+ * not, anywhere in it, by 5. No token changes, not even which privileges it has used.
+ * docs/CONDITIONS.md has a worked example. */
 
 /* ---- the calls ------------------------------------------------------------------------------ */
 

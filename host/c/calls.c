@@ -352,6 +352,77 @@ static void a_pair_is_of_one_session_full_and_limited(void)
     }
 }
 
+/* Station 0 has handle 1 on its own token, to query and to adjust privileges. */
+static void start_with_a_handle(void)
+{
+    EXPECT(obriska_memory_start(&memory) == 0);
+    EXPECT(is(feed(0, open_own, sizeof open_own), 0, 3, 3));
+}
+
+/* docs/CONDITIONS.md: all(enabled tcb, any(group 20, not enabled shutdown)). */
+static void a_condition_is_answered_1_or_0_and_nothing_changes(void)
+{
+    static const uint8_t may[] = {0x0D, 0x12, 0x01, 0x01, 0x02, 0x04, 0x07,
+                                  0x02, 0x02, 0x05, 0x14, 0x03, 0x04, 0x13};
+    static const uint8_t disable_shutdown[] = {0x05, 0x05, 0x01, 0x01, 0x13, 0x00};
+    static const uint8_t no[] = {0x02, 0x00, 0x00};
+    static const uint8_t yes[] = {0x02, 0x00, 0x01};
+    start_with_a_handle();
+    before = memory;
+    EXPECT(answers(may, sizeof may, no, sizeof no) && unchanged());
+    EXPECT(is(feed(0, disable_shutdown, sizeof disable_shutdown), 0, 6, 8));
+    before = memory;
+    EXPECT(answers(may, sizeof may, yes, sizeof yes) && unchanged());
+}
+
+/* Writes request 18 for 'enabled tcb' with so many NOTs before it; gives its length. */
+static size_t write_nots(uint8_t *frame, uint8_t nots)
+{
+    static const uint8_t enabled_tcb[] = {OBRISKA_CONDITION_ENABLED, 0x07};
+    frame[0] = (uint8_t)(2 + nots + sizeof enabled_tcb);
+    frame[1] = 0x12;
+    frame[2] = 0x01;
+    memset(frame + 3, OBRISKA_CONDITION_NOT, nots);
+    memcpy(frame + 3 + nots, enabled_tcb, sizeof enabled_tcb);
+    return 3 + nots + sizeof enabled_tcb;
+}
+
+static void a_condition_is_eight_deep_at_most(void)
+{
+    static const uint8_t refused[] = {0x01, OBRISKA_REFUSED_LAYOUT};
+    uint8_t frame[3 + OBRISKA_MAX_DEPTH + 2];
+    start_with_a_handle();
+    before = memory;
+    for (uint8_t nots = 0; nots < OBRISKA_MAX_DEPTH; nots++) {
+        const uint8_t value[] = {0x02, 0x00, nots % 2 == 0};
+        EXPECT(answers(frame, write_nots(frame, nots), value, sizeof value));
+    }
+    EXPECT(answers(frame, write_nots(frame, OBRISKA_MAX_DEPTH), refused, sizeof refused));
+    EXPECT(unchanged());
+}
+
+static void a_condition_is_refused_by_1_then_2_then_3_then_5(void)
+{
+    static const uint8_t open_duplicate[] = {0x02, 0x01, 0x02};
+    static const struct {
+        uint8_t refusal, frame[9];
+    } requests[] = {
+        {OBRISKA_REFUSED_LAYOUT, {0x04, 0x12, 0x09, 0x06, 0x25}}, /* an unknown kind */
+        {OBRISKA_REFUSED_HANDLE, {0x04, 0x12, 0x09, 0x04, 0x25}},
+        {OBRISKA_REFUSED_RIGHT, {0x04, 0x12, 0x02, 0x04, 0x25}},
+        {OBRISKA_REFUSED_FIELD, {0x04, 0x12, 0x01, 0x04, 0x25}},
+        /* any(all(), enabled 37): decided, but 37 is no privilege all the same */
+        {OBRISKA_REFUSED_FIELD, {0x08, 0x12, 0x01, 0x02, 0x02, 0x01, 0x00, 0x04, 0x25}}};
+    start_with_a_handle();
+    EXPECT(is(feed(0, open_duplicate, sizeof open_duplicate), 0, 3, 3));
+    before = memory;
+    for (size_t i = 0; i < sizeof requests / sizeof requests[0]; i++) {
+        const uint8_t *frame = requests[i].frame;
+        const uint8_t refused[] = {0x01, requests[i].refusal};
+        EXPECT(answers(frame, 1u + frame[0], refused, sizeof refused) && unchanged());
+    }
+}
+
 static void a_request_is_answered_at_its_last_byte(void)
 {
     const uint8_t *pending = &memory.pending[3 * OBRISKA_PENDING_BYTES];
@@ -418,6 +489,9 @@ int main(void)
     a_pair_keeps_its_tokens_alive_and_gives_the_other_one();
     a_token_in_no_pair_is_refused_by_14();
     a_pair_is_of_one_session_full_and_limited();
+    a_condition_is_answered_1_or_0_and_nothing_changes();
+    a_condition_is_eight_deep_at_most();
+    a_condition_is_refused_by_1_then_2_then_3_then_5();
     a_request_is_answered_at_its_last_byte();
     a_broken_stream_ignores_bytes_until_a_reconnect();
     find_gives_the_stations_live_handle();

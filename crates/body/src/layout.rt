@@ -1,4 +1,4 @@
-// The layouts of the fifteen requests. A body is read whole before anything else is judged: numbers by value, lists by skipping them.
+// The layouts of the requests, but that of 18, whose condition is read where it is evaluated. A body is read whole before anything else is judged: numbers by value, lists by skipping them.
 ghost use mathlib.Core.Path.{_≡_};
 ghost use Rattle.rules.specs.Request as rules;
 ghost use Rattle.rules.specs.Request.{group, byte, createLayout, queryLayout, scopeLayout, defaultsLayout, duplicateLayout, linkLayout};

@@ -27,6 +27,7 @@ use Rattle.rules.specs.Restrict as Restrict
 use Rattle.rules.specs.Install as Install
 use Rattle.rules.specs.Impersonate as Impersonate
 use Rattle.rules.specs.Link as Link
+use Rattle.rules.specs.Evaluate as Evaluate
 use Rattle.rules.specs.Privileges.{tcb}
 use Rattle.rules.proofs.Tables.{on-if}
 use Rattle.rules.proofs.Steps.{install-marked, client-marked}
@@ -57,7 +58,7 @@ Keeps σ (need_else_then_ b r rest) = Keeps σ rest
 Keeps σ (success τ bytes) = rows τ ≡ rows σ
 
 by-rule : (σ : State) (s : ℕ) (r : Request) → Keeps σ (rule σ s r)
-unfolding Keeps rule withHandle issued OpenClose.openOwn OpenClose.close Create.create Query.query AdjustPrivileges.adjust AdjustGroups.adjust AdjustScope.scope AdjustDefaults.adjust Duplicate.duplicate Restrict.restrict Install.install Impersonate.impersonate Impersonate.revert Link.withBoth Link.linked Link.link Link.getLinked withPairs setPair withTokens withHandles withStations changeStation setToken setClient withToken withClient putToken changeToken used addToken addHandle dropHandle released
+unfolding Keeps rule withHandle issued OpenClose.openOwn OpenClose.close Create.create Query.query AdjustPrivileges.adjust AdjustGroups.adjust AdjustScope.scope AdjustDefaults.adjust Duplicate.duplicate Restrict.restrict Install.install Impersonate.impersonate Impersonate.revert Link.withBoth Link.linked Link.link Link.getLinked Evaluate.evaluate withPairs setPair withTokens withHandles withStations changeStation setToken setClient withToken withClient putToken changeToken used addToken addHandle dropHandle released
 by-rule σ s (Request.openOwn mask) = refl
 by-rule σ s (Request.close n) = refl
 by-rule σ s (Request.create user session integrity present byDefault gs) = refl
@@ -73,6 +74,7 @@ by-rule σ s (Request.impersonate n) = same-pending (withClient _) (λ x. refl) 
 by-rule σ s Request.revert = same-pending (withClient _) (λ x. refl) s _
 by-rule σ s (Request.link n m session) = refl
 by-rule σ s (Request.linked n) = on-if (Keeps σ) (held σ s tcb) _ _ (λ t. refl) (λ t. refl)
+by-rule σ s (Request.evaluate n c) = refl
 
 by-read : (σ : State) (s : ℕ) (r : Read Request) → Keeps σ (decided σ s r)
 unfolding decided Keeps

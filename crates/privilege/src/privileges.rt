@@ -1,7 +1,7 @@
 // The privileges of a token: four words, privilege n at bit n.
 ghost use mathlib.Core.Path.{_≡_};
 ghost use Prim.Native.Nat.{_<_};
-ghost use Rattle.rules.specs.Privileges.{isEnabled, enable, disable, remove, reset, markUsed, granted};
+ghost use Rattle.rules.specs.Privileges.{exists, isEnabled, enable, disable, remove, reset, markUsed, granted};
 ghost use Rattle.rules.specs.AdjustPrivileges.{validEntry, applied};
 ghost use Rattle.privilege.specs.Meaning.{privilegesOf, entryOf};
 use crate::words;
@@ -24,6 +24,12 @@ impl Privileges {
 
     // Privileges 2 to 36, as a word.
     pub const EXISTING: u64 = 0x1F_FFFF_FFFC;
+
+    pub fn exists(n: u64) -> bool
+        ensures { λ r. ⌜ r ≡ exists n ⌝ }
+    {
+        (2 <= n) & (n <= 36)
+    }
 
     // Privilege n is enabled.
     pub fn holds(self, n: u64) -> bool
@@ -67,7 +73,7 @@ impl Privileges {
     pub fn may_adjust(self, n: u64, value: u64) -> bool
         ensures { λ r. ⌜ r ≡ validEntry (privilegesOf self) (entryOf n value) ⌝ }
     {
-        ((2 <= n) & (n <= 36))
+        Privileges::exists(n)
             & ((value == 0) | (value == 4) | (value == 2) & words::has(self.present, n))
     }
 

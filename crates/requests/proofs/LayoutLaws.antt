@@ -1,21 +1,23 @@
 -- The rest of a body, where it is in its request's layout and where it is not. Assumes nothing.
 use Prim.Native.Nat.{ℕ, _≤_, max}
 use native.Mathlib.Omega.{arith}
-use mathlib.Core.Path.{_≡_, sym, ap, _∙_, subst}
+use mathlib.Core.Path.{_≡_, refl, sym, ap, _∙_, subst}
 use mathlib.Core.Bool.{Bool, true, false, not}
 use mathlib.Core.List.{List, []}
 use lib.ListN.{length, drop}
 use borrow.Author.Tests.{not-true, not-false}
-use Rattle.rules.specs.Number.{Read, bad}
+use Rattle.rules.specs.Basic.{if_then_else_}
+use Rattle.rules.specs.Number.{Read, got, bad, readNumber, max32}
 use Rattle.rules.specs.Entry.{Entry}
 use Rattle.rules.specs.Refusal.{refusal}
 use Rattle.rules.specs.Request as requests
-use Rattle.rules.specs.Request.{Request, Reader, end, byte, group, u32, numberLayout, entriesLayout, createLayout, defaultsLayout, restrictLayout}
+use Rattle.rules.specs.Request.{Request, Reader, end, byte, group, u32, numberLayout, entriesLayout, createLayout, defaultsLayout, restrictLayout, evaluateLayout, follow, _>>=_}
 use Rattle.rules.specs.Decision.{carriedOut}
 use Rattle.rules.specs.Serve.{rule, decided}
-use Rattle.number.specs.Rest.{readFrom}
-use Rattle.number.specs.Meaning.{restOf}
+use Rattle.number.specs.Rest.{Rest, rest, lost, readFrom}
+use Rattle.number.specs.Meaning.{restOf, FieldAfter}
 use Rattle.number.specs.declared.cursor.Cursor.{Cursor}
+use Rattle.number.specs.declared.cursor.Field.{Field}
 use Rattle.handle.specs.declared.Handle.{Handle}
 use Rattle.answer.specs.declared.Answer.the-variants as answers
 use Rattle.body.specs.Layout.{whole, valuesAt, There, NothingRead, NumberRead, Listed, EntriesRead, RestrictRead}
@@ -25,6 +27,7 @@ use Rattle.decide.proofs.Deciding.{refuses}
 use Rattle.create.specs.Create.{CreateCarried}
 use Rattle.decide.specs.EntriesCarried.{EntriesCarried}
 use Rattle.copy.specs.Restrict.{RestrictCarried}
+use Rattle.evaluate.specs.Evaluate.{asks}
 use Rattle.requests.specs.Layouts.{LayoutCarried}
 
 module _ (station : ℕ) {hs : List Handle} {cs ts ds : List ℕ} (r : Outcome) where
@@ -101,6 +104,27 @@ module _ (station : ℕ) {s : List ℕ} {c : Cursor} (ok : Bool) {hs : List Hand
         later = [];
         sids = n .sids .there (not-false ok f);
       }))
+
+-- request 18: what stands behind the handle is read where it is evaluated
+behind-handle : (x : Rest) → readFrom evaluateLayout x ≡ follow (readFrom (readNumber max32) x) asks
+unfolding readFrom evaluateLayout _>>=_ follow u32 asks
+behind-handle (rest bytes) = refl
+behind-handle lost = refl
+
+module _ (station : ℕ) {s : List ℕ} {c : Cursor} {f : Field} (x : FieldAfter s c max32 f) {hs : List Handle} {cs ts ds : List ℕ} (r : Outcome) where
+  pub handle-not-read : not (f .next .ok) ≡ true → Ends (answers.Refused 1) r → LayoutCarried evaluateLayout station s c ts ds hs cs ts ds cs r
+  unfolding follow
+  handle-not-read e i = record {
+    carried = malformed station r (readFrom evaluateLayout (restOf s c))
+        (behind-handle (restOf s c) ∙ ap (λ (y : Read ℕ). follow y asks) (sym (x .means) ∙ ap (λ (b : Bool). if b then got (f .value) (drop (f .next .at) s) else bad) (not-true (f .next .ok) e))) i;
+  }
+
+  pub evaluate-served : not (f .next .ok) ≡ false → {cs′ ts′ ds′ : List ℕ} → Carried (λ σ. decided σ station (asks (f .value) (drop (f .next .at) s))) ts ds hs cs ts′ ds′ cs′ r
+      → LayoutCarried evaluateLayout station s c ts ds hs cs ts′ ds′ cs′ r
+  unfolding follow
+  evaluate-served e y = record {
+    carried = read-alike station r (sym (behind-handle (restOf s c) ∙ ap (λ (z : Read ℕ). follow z asks) (sym (x .means) ∙ ap (λ (b : Bool). if b then got (f .value) (drop (f .next .at) s) else bad) (not-false (f .next .ok) e)))) y;
+  }
 
 -- request 8: what its bytes are asked
 module _ {s : List ℕ} {c : Cursor} (request : Request) (ok : Bool) (at size : ℕ) (n : Listed s c byte defaultsLayout request ok at size) where

@@ -1,9 +1,10 @@
-// A function for each request number: the rest of the body in the request's layout, or refusal 1; then the request.
+// A function for each request number: the rest of the body in the request's layout (of 18, what stands before its condition), or refusal 1;
+// then the request.
 ghost use Prim.Native.Nat.{_≤_, _<_};
 ghost use lib.ListN.{length};
 ghost use Rattle.rules.specs.State.{stationCount};
 ghost use Rattle.rules.specs.Request as rules;
-ghost use Rattle.rules.specs.Request.{end, numberLayout, createLayout, queryLayout, entriesLayout, scopeLayout, defaultsLayout, duplicateLayout, restrictLayout, linkLayout};
+ghost use Rattle.rules.specs.Request.{end, numberLayout, createLayout, queryLayout, entriesLayout, scopeLayout, defaultsLayout, duplicateLayout, restrictLayout, linkLayout, evaluateLayout};
 ghost use Rattle.handle.specs.Words.{recordsIn};
 ghost use Rattle.state.specs.Parts.{Lent};
 ghost use Rattle.requests.specs.Layouts.{LayoutCarried};
@@ -13,6 +14,7 @@ use decide::outcome;
 use decide::outcome::Outcome;
 use handle::HANDLE_WORDS;
 use number::Cursor;
+use number::U32;
 
 pub fn open_own(
     station: u32,
@@ -296,4 +298,34 @@ pub fn linked(
         return outcome::refused(refusal::MALFORMED);
     }
     link::linked::linked(station, f.value, handles, tokens, dacls, control)
+}
+
+// The rest of the layout is read where it is evaluated.
+pub fn evaluate(
+    station: u32,
+    s: &[u8],
+    c: Cursor,
+    handles: &[u64; HANDLE_WORDS],
+    tokens: &mut [u64],
+    dacls: &mut [u8],
+    control: &mut [u64],
+) -> Outcome
+    requires { ⌜ Lent (now tokens) (now dacls) (now control) × (station < stationCount) ⌝ }
+    ensures { λ r. ⌜ LayoutCarried evaluateLayout station (now (s .entry)) c (now (tokens .entry)) (now (dacls .entry)) (recordsIn (now (handles .entry))) (now (control .entry)) (now (tokens .exit)) (now (dacls .exit)) (now (control .exit)) r ⌝ }
+{
+    let handle = c.number(s, U32);
+    let next = handle.next;
+    if !next.ok {
+        return outcome::refused(refusal::MALFORMED);
+    }
+    evaluate::evaluate(
+        station,
+        handle.value as u32,
+        s,
+        next.at,
+        handles,
+        tokens,
+        dacls,
+        control,
+    )
 }

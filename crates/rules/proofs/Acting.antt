@@ -17,6 +17,7 @@ use Rattle.rules.specs.Basic.{changeAt}
 use Rattle.rules.specs.Create as Create
 use Rattle.rules.specs.Decision.{withHandle, issued}
 use Rattle.rules.specs.Duplicate as Duplicate
+use Rattle.rules.specs.Evaluate as Evaluate
 use Rattle.rules.specs.Growth.{Live, Mem, here, there}
 use Rattle.rules.specs.Impersonate as Impersonate
 use Rattle.rules.specs.Install as Install
@@ -112,7 +113,7 @@ module _ (d : State) (s : ℕ) where
   sets e c r same q k = ⊎-elim (λ h. inl (ap (λ xs. getD (changeAt s (withClient c) xs) k startStation .client) same ∙ h)) (λ h. inr (h, q)) (other-station (d .stations) s k (withClient c))
 
   leaves : (r : Read Request) → Ends (Leaves r) (decided d s r)
-  unfolding decided rule Ends Leaves setsClient SameStations clientAt stationAt withHandle issued OpenClose.openOwn OpenClose.close Create.create Query.query AdjustPrivileges.adjust AdjustGroups.adjust AdjustScope.scope AdjustDefaults.adjust Duplicate.duplicate Restrict.restrict Install.install Impersonate.impersonate Impersonate.revert Link.withBoth Link.link Link.linked Link.getLinked released addToken addHandle dropHandle setPair withPairs withHandles withTokens used changeToken putToken
+  unfolding decided rule Ends Leaves setsClient SameStations clientAt stationAt withHandle issued OpenClose.openOwn OpenClose.close Create.create Query.query AdjustPrivileges.adjust AdjustGroups.adjust AdjustScope.scope AdjustDefaults.adjust Duplicate.duplicate Restrict.restrict Install.install Impersonate.impersonate Impersonate.revert Link.withBoth Link.link Link.linked Link.getLinked Evaluate.evaluate released addToken addHandle dropHandle setPair withPairs withHandles withTokens used changeToken putToken
   leaves bad = λ h. absurd (not-both h refl)
   leaves (got (Request.openOwn mask) bytes) = λ ok room k. inl refl
   leaves (got (Request.close n) bytes) = λ known k. inl refl
@@ -130,6 +131,7 @@ module _ (d : State) (s : ℕ) where
   leaves (got (Request.link n m session) bytes) = λ known may held ok room k. inl refl
   leaves (got (Request.linked n) bytes) = λ known may paired.
       on-if (Ends (Leaves (got (Request.linked n) bytes))) (held d s tcb) _ _ (λ t room k. inl refl) (λ t room k. inl refl)
+  leaves (got (Request.evaluate n c) bytes) = λ known may ok k. inl refl
 
 -- ---- one body
 

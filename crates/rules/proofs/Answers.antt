@@ -19,11 +19,13 @@ use Rattle.rules.specs.AdjustPrivileges as AdjustPrivileges
 use Rattle.rules.specs.AdjustScope as AdjustScope
 use Rattle.rules.specs.Basic.{implies, bothOrNeither, all}
 use Rattle.rules.specs.Bits.{has, within}
+use Rattle.rules.specs.Condition.{Condition, holds}
 use Rattle.rules.specs.Create as Create
 use Rattle.rules.specs.Create.{validIntegrity}
 use Rattle.rules.specs.Decision.{carriedOut, withHandle, issued, Decision, need_else_then_, success}
 use Rattle.rules.specs.Duplicate as Duplicate
 use Rattle.rules.specs.Entry.{Entry}
+use Rattle.rules.specs.Evaluate as Evaluate
 use Rattle.rules.specs.Frame.{maxAnswer, frame}
 use Rattle.rules.specs.Group.{noGroup, isEnabled, isDenyOnly, Group}
 use Rattle.rules.specs.Growth.{Live, Mem, here, there}
@@ -341,6 +343,11 @@ module _ (σ : State) (f : StateFacts σ) (s : ℕ) where
       let b = word (c .level) (r .1) in
       simp length-append (omega arith)
 
+  evaluates : (n : ℕ) (c : Condition) → Fits (Evaluate.evaluate σ s n c)
+  unfolding Evaluate.evaluate Fits refusal
+  evaluates n c = on-handle n _ _ λ k.
+      (omega arith, λ ok. on-if (λ (x : ℕ). length (encode x) ≤ most) (holds (tokenOf σ (handleOf σ s n .token)) c) 1 0 (λ t. omega (arith, word 1 (omega arith))) (λ t. omega (arith, word 0 (omega arith))))
+
   by-rule : (r : Request) → Fits (rule σ s r)
   unfolding rule OpenClose.openOwn OpenClose.close Create.create AdjustScope.scope AdjustDefaults.adjust Duplicate.duplicate Restrict.restrict Install.install Link.withBoth Link.link Link.getLinked issued used changeToken putToken withTokens Fits refusal
   by-rule (Request.openOwn mask) = (omega arith, λ a. (omega arith, λ b. next-handle))
@@ -361,6 +368,7 @@ module _ (σ : State) (f : StateFacts σ) (s : ℕ) where
     omega arith,
     λ a. on-if Fits (held σ s tcb) _ _ (λ t. (omega arith, λ b. next-handle)) (λ t. (omega arith, λ b. next-handle)),
   )
+  by-rule (Request.evaluate n c) = evaluates n c
 
   by-read : (r : Read Request) → Fits (decided σ s r)
   unfolding decided Fits refusal

@@ -11,6 +11,7 @@ use Rattle.rules.specs.Bits.{has}
 use Rattle.rules.specs.Create as Create
 use Rattle.rules.specs.Decision.{carriedOut, withHandle, issued, Decision}
 use Rattle.rules.specs.Duplicate as Duplicate
+use Rattle.rules.specs.Evaluate as Evaluate
 use Rattle.rules.specs.Growth.{Live}
 use Rattle.rules.specs.Handle.{Handle}
 use Rattle.rules.specs.Impersonate as Impersonate
@@ -58,6 +59,7 @@ Allows R (Request.impersonate n) = Unit {0}
 Allows R Request.revert = Unit {0}
 Allows R (Request.link n m session) = (t : Token) → R t (withElevation full t) × R t (withElevation limited t)
 Allows R (Request.linked n) = Unit {0}
+Allows R (Request.evaluate n c) = Unit {0}
 
 duplicate-number : (n type level : ℕ) (t : Token) → Duplicate.duplicated n type level t .number ≡ n
 unfolding Duplicate.duplicated Duplicate.copied Duplicate.anonymousCopy newToken
@@ -134,7 +136,7 @@ module _ (R : Token → Token → Type 0) (l : Lasting R) (d : State) (f : State
       on-if (Ends Goes) (held d s tcb) _ _ (λ h room. marked tcb) (λ h room. issues _ _ d refl stay)
 
   by-rule : (r : Request) → Allows R r → Ends Goes (rule d s r)
-  unfolding rule Allows Ends Goes OpenClose.openOwn OpenClose.close Create.create Query.query AdjustPrivileges.adjust AdjustPrivileges.adjustedToken AdjustGroups.adjust AdjustGroups.adjustedToken AdjustDefaults.adjust AdjustDefaults.adjustedToken Duplicate.duplicate Restrict.restrict Restrict.restricted Install.install Impersonate.impersonate Impersonate.revert newToken withPrivileges withGroups withDefaults nextModified addHandle dropHandle setToken setClient changeStation withHandles withStations
+  unfolding rule Allows Ends Goes OpenClose.openOwn OpenClose.close Create.create Query.query AdjustPrivileges.adjust AdjustPrivileges.adjustedToken AdjustGroups.adjust AdjustGroups.adjustedToken AdjustDefaults.adjust AdjustDefaults.adjustedToken Duplicate.duplicate Restrict.restrict Restrict.restricted Install.install Impersonate.impersonate Impersonate.revert Evaluate.evaluate newToken withPrivileges withGroups withDefaults nextModified addHandle dropHandle setToken setClient changeStation withHandles withStations
   by-rule (Request.openOwn mask) r = λ ok room. stay
   by-rule (Request.close n) r = λ known. frees (dropHandle s n d) stay
   by-rule (Request.create u e i p b gs) r = λ may ok room. issues _ _ (used createToken s d) (sym (marked-next d s createToken)) (marked createToken)
@@ -150,6 +152,7 @@ module _ (R : Token → Token → Type 0) (l : Lasting R) (d : State) (f : State
   by-rule Request.revert r = frees (setClient s _ d) stay
   by-rule (Request.link n m session) r = links n m session r
   by-rule (Request.linked n) r = gets-linked n
+  by-rule (Request.evaluate n c) r = on-handle n _ _ λ k ok. stay
 
 -- ---- one body
 

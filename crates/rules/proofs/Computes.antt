@@ -13,6 +13,7 @@ use Rattle.rules.specs.Pair as Pair
 use Rattle.rules.specs.State as State
 use Rattle.rules.specs.Index as Index
 use Rattle.rules.specs.Entry as Entry
+use Rattle.rules.specs.Condition as Condition
 use Rattle.rules.specs.Refusal as Refusal
 use Rattle.rules.specs.Decision as Decision
 use Rattle.rules.specs.Request as Request
@@ -28,6 +29,8 @@ use Rattle.rules.specs.Restrict as Restrict
 use Rattle.rules.specs.Install as Install
 use Rattle.rules.specs.Impersonate as Impersonate
 use Rattle.rules.specs.Link as Link
+use Rattle.rules.specs.Evaluate as Evaluate
+use Rattle.rules.specs.Evaluating as Evaluating
 use Rattle.rules.specs.Serve as Serve
 use Rattle.rules.specs.Frame as Frame
 use Rattle.rules.specs.Model as Model
@@ -55,9 +58,10 @@ unfolding
     State.start State.withTokens State.withHandles State.withStations State.withPairs State.stationAt State.changeStation State.setToken State.clientAt State.setClient State.numberOf State.isNumbered State.noToken State.tokenOf State.callerNumber State.caller State.held State.putToken State.changeToken State.usedOn State.used State.canAddToken State.addToken State.handleNumber State.findHandle State.handleOf State.canAddHandle State.addHandle State.dropHandle State.pairOf State.hasPair State.canLink State.setPair State.handleToken State.stationToken State.stationClient State.clientToken State.elevatedToken State.filteredToken State.references State.isReferred State.released
     Index.freeIndex Index.foundIndex Index.freedOne
     Entry.keyOf Entry.isOnly Entry.validEntries Entry.applyAll
+    Condition.hasGroup Condition.holds Condition.allHold Condition.anyHolds Condition.known Condition.allKnown Condition.depth Condition.deepest
     Refusal.refusal Refusal.capacityBelow
     Decision.carriedOut Decision.withHandle Decision.canIssue Decision.issued
-    Request.follow Request._>>=_ Request.give Request.end Request.byte Request.times Request.u16 Request.u32 Request.u64 Request.group Request.entry Request.numberLayout Request.entriesLayout Request.createLayout Request.queryLayout Request.scopeLayout Request.defaultsLayout Request.duplicateLayout Request.restrictLayout Request.linkLayout Request.unknown Request.layouts Request.parse
+    Request.follow Request._>>=_ Request.give Request.end Request.byte Request.times Request.u16 Request.u32 Request.u64 Request.group Request.entry Request.unknown Request.conditions Request.listLayout Request.negatedLayout Request.namedLayout Request.kinds Request.condition Request.numberLayout Request.entriesLayout Request.createLayout Request.queryLayout Request.scopeLayout Request.defaultsLayout Request.duplicateLayout Request.restrictLayout Request.linkLayout Request.evaluateLayout Request.layouts Request.parse
     OpenClose.openOwn OpenClose.close
     Create.validPair Create.validIntegrity Create.validCreate Create.entered Create.create
     Query.pairs Query.words Query.classes Query.classBytes Query.query
@@ -70,6 +74,7 @@ unfolding
     Install.matches Install.marked Install.install
     Impersonate.alike Impersonate.passes Impersonate.mayAct Impersonate.inForce Impersonate.marked Impersonate.impersonate Impersonate.revert
     Link.withBoth Link.isOfSession Link.linkable Link.linked Link.link Link.partnerOf Link.clone Link.getLinked
+    Evaluate.evaluate Evaluating.count Evaluating.written Evaluating.writtenAll Evaluating.fits Evaluating.allFit Evaluating.evaluation
     Serve.rule Serve.decided Serve.decision Serve.serve
     Frame.frame Frame.secondOf Frame.lengthOf Frame.framedBy Frame.framed
     Model.joined Model.byteAt Model.step Model.refused Model.fedOn Model.fedFrom Model.feed Model.reconnect

@@ -13,10 +13,12 @@ use Rattle.rules.specs.AdjustPrivileges as AdjustPrivileges
 use Rattle.rules.specs.AdjustScope as AdjustScope
 use Rattle.rules.specs.Basic.{implies, all}
 use Rattle.rules.specs.Bits.{has, within}
+use Rattle.rules.specs.Condition.{Condition}
 use Rattle.rules.specs.Create as Create
 use Rattle.rules.specs.Decision.{canIssue, issued}
 use Rattle.rules.specs.Duplicate as Duplicate
 use Rattle.rules.specs.Entry.{Entry}
+use Rattle.rules.specs.Evaluate as Evaluate
 use Rattle.rules.specs.Group.{Group}
 use Rattle.rules.specs.Growth.{Mem, Live, Follows}
 use Rattle.rules.specs.Handle.{Handle}
@@ -187,6 +189,10 @@ module _ (d : State) (f : StateFacts d) (s : ℕ) (in8 : s < stationCount) where
   queries : (n class capacity : ℕ) → Keeps d (Query.query d s n class capacity)
   unfolding Query.query Ends
   queries n class capacity = on-handle d s n _ _ f λ k ok fits. stays f
+
+  evaluates : (n : ℕ) (c : Condition) → Keeps d (Evaluate.evaluate d s n c)
+  unfolding Evaluate.evaluate Ends
+  evaluates n c = on-handle d s n _ _ f λ k ok. stays f
 
   adjusts-privileges : (n : ℕ) (es : List Entry) → Keeps d (AdjustPrivileges.adjust d s n es)
   unfolding AdjustPrivileges.adjust Ends
@@ -434,6 +440,7 @@ module _ (d : State) (f : StateFacts d) (s : ℕ) (in8 : s < stationCount) where
   by-rule Request.revert w = reverts
   by-rule (Request.link n m session) w = links n m session
   by-rule (Request.linked n) w = gets-linked n
+  by-rule (Request.evaluate n c) w = evaluates n c
 
   by-read : (r : Read Request) → Got Fits r → Keeps d (decided d s r)
   unfolding decided Ends Got

@@ -27,6 +27,7 @@ use Rattle.rules.specs.Restrict as Restrict
 use Rattle.rules.specs.Install as Install
 use Rattle.rules.specs.Impersonate as Impersonate
 use Rattle.rules.specs.Link as Link
+use Rattle.rules.specs.Evaluate as Evaluate
 use Rattle.rules.specs.Serve.{rule, decided, decision, serve}
 use Rattle.rules.specs.Ladder.{failing, firstOf, status, Ladder}
 use Rattle.rules.specs.Growth.{Mem, here, there}
@@ -54,7 +55,7 @@ rises k (success after bytes) = true
 -- ---- of every request
 
 in-order : (σ : State) (s : ℕ) (r : Request) → rises 0 (rule σ s r) ≡ true
-unfolding rises rank place member rule refusal capacityBelow withHandle issued OpenClose.openOwn OpenClose.close Create.create Query.query AdjustPrivileges.adjust AdjustGroups.adjust AdjustScope.scope AdjustDefaults.adjust Duplicate.duplicate Restrict.restrict Install.install Impersonate.impersonate Impersonate.revert Link.withBoth Link.link Link.getLinked
+unfolding rises rank place member rule refusal capacityBelow withHandle issued OpenClose.openOwn OpenClose.close Create.create Query.query AdjustPrivileges.adjust AdjustGroups.adjust AdjustScope.scope AdjustDefaults.adjust Duplicate.duplicate Restrict.restrict Install.install Impersonate.impersonate Impersonate.revert Link.withBoth Link.link Link.getLinked Evaluate.evaluate
 in-order σ s (Request.openOwn mask) = refl
 in-order σ s (Request.close n) = refl
 in-order σ s (Request.create user session integrity present byDefault gs) = refl
@@ -70,6 +71,7 @@ in-order σ s (Request.impersonate n) = refl
 in-order σ s Request.revert = refl
 in-order σ s (Request.link n m session) = refl
 in-order σ s (Request.linked n) = on-if (λ x. rises (rank 14) x ≡ true) (held σ s tcb) _ _ (λ t. refl) (λ t. refl)
+in-order σ s (Request.evaluate n c) = refl
 
 of-body : (σ : State) (s : ℕ) (r : Read Request) → rises 0 (decided σ s r) ≡ true
 unfolding decided rises rank place member refusal

@@ -7,6 +7,7 @@ pub mod Tables
 pub mod Facts
 pub mod Changes
 pub mod Widths
+pub mod Conditions
 pub mod PrivilegesKept
 pub mod GroupsKept
 pub mod Restricting
@@ -17,6 +18,7 @@ pub mod Carrying
 pub mod Ladder
 pub mod Acting
 pub mod Linking
+pub mod Evaluating
 pub mod Frames
 pub mod Answers
 pub mod Runs

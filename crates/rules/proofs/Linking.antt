@@ -12,6 +12,7 @@ use Rattle.rules.specs.AdjustScope as AdjustScope
 use Rattle.rules.specs.Create as Create
 use Rattle.rules.specs.Decision.{withHandle, issued}
 use Rattle.rules.specs.Duplicate as Duplicate
+use Rattle.rules.specs.Evaluate as Evaluate
 use Rattle.rules.specs.Growth.{Live}
 use Rattle.rules.specs.Impersonate as Impersonate
 use Rattle.rules.specs.Install as Install
@@ -70,7 +71,7 @@ module _ (d : State) (s : ℕ) where
   client-marks t = client-marked SamePairs d s t refl refl
 
   pairs-stay : (r : Read Request) → Ends SamePairs (decided d s r) ⊎ IsLink r
-  unfolding decided rule Ends SamePairs withHandle issued OpenClose.openOwn OpenClose.close Create.create Query.query AdjustPrivileges.adjust AdjustGroups.adjust AdjustScope.scope AdjustDefaults.adjust Duplicate.duplicate Restrict.restrict Install.install Impersonate.impersonate Impersonate.revert Link.getLinked released addToken addHandle dropHandle setToken setClient changeStation withHandles withTokens withStations used changeToken putToken
+  unfolding decided rule Ends SamePairs withHandle issued OpenClose.openOwn OpenClose.close Create.create Query.query AdjustPrivileges.adjust AdjustGroups.adjust AdjustScope.scope AdjustDefaults.adjust Duplicate.duplicate Restrict.restrict Install.install Impersonate.impersonate Impersonate.revert Link.getLinked Evaluate.evaluate released addToken addHandle dropHandle setToken setClient changeStation withHandles withTokens withStations used changeToken putToken
   pairs-stay bad = inl (λ h. absurd (not-both h refl))
   pairs-stay (got (Request.openOwn mask) bytes) = inl (λ ok room. refl)
   pairs-stay (got (Request.close n) bytes) = inl (λ known. refl)
@@ -87,6 +88,7 @@ module _ (d : State) (s : ℕ) where
   pairs-stay (got Request.revert bytes) = inl refl
   pairs-stay (got (Request.link n m session) bytes) = inr (record { elevated = n; filtered = m; session = session; bytes = bytes; is = refl })
   pairs-stay (got (Request.linked n) bytes) = inl (λ known may paired. on-if (Ends SamePairs) (held d s tcb) _ _ (λ t room. refl) (λ t room. refl))
+  pairs-stay (got (Request.evaluate n c) bytes) = inl (λ known may ok. refl)
 
 pub pairs-kept : (x : Serving) → PairsKept x
 unfolding PairsKept servedBy serve decision SamePairs
@@ -123,6 +125,7 @@ elevation-stays (got (Request.impersonate n) bytes) = inl tt
 elevation-stays (got Request.revert bytes) = inl tt
 elevation-stays (got (Request.link n m session) bytes) = inr (record { elevated = n; filtered = m; session = session; bytes = bytes; is = refl })
 elevation-stays (got (Request.linked n) bytes) = inl tt
+elevation-stays (got (Request.evaluate n c) bytes) = inl tt
 
 pub elevation-kept : (x : Serving) → Onward x → ElevationKept x
 unfolding ElevationKept Live SameElevation

@@ -16,6 +16,7 @@ use Rattle.rules.specs.Create as Create
 use Rattle.rules.specs.Decision.{withHandle}
 use Rattle.rules.specs.Duplicate as Duplicate
 use Rattle.rules.specs.Duplicate.{isAnonymous}
+use Rattle.rules.specs.Evaluate as Evaluate
 use Rattle.rules.specs.Group.{Group}
 use Rattle.rules.specs.Growth.{Creating, Live, Mem, here, there, Source, sourceAt, partnerAt, sourceOf, Copying, makesRoot, Rooted, none, old, created}
 use Rattle.rules.specs.Handle.{noHandle, Handle}
@@ -94,7 +95,7 @@ module _ (d : State) (f : StateFacts d) (s : ℕ) where
   client-marks t = client-marked (SameNext d) d s t refl refl
 
   gives : (r : Read Request) → Gives d s r
-  unfolding decided rule sourceOf makesRoot Ends SameNext withHandle OpenClose.openOwn OpenClose.close Query.query AdjustPrivileges.adjust AdjustGroups.adjust AdjustScope.scope AdjustDefaults.adjust Duplicate.duplicate Restrict.restrict Install.install Impersonate.impersonate Impersonate.revert Link.withBoth Link.link Link.linked Link.getLinked setPair withPairs released addHandle dropHandle setToken setClient changeStation withStations withHandles withTokens withSlots used changeToken putToken
+  unfolding decided rule sourceOf makesRoot Ends SameNext withHandle OpenClose.openOwn OpenClose.close Query.query AdjustPrivileges.adjust AdjustGroups.adjust AdjustScope.scope AdjustDefaults.adjust Duplicate.duplicate Restrict.restrict Install.install Impersonate.impersonate Impersonate.revert Link.withBoth Link.link Link.linked Link.getLinked Evaluate.evaluate setPair withPairs released addHandle dropHandle setToken setClient changeStation withStations withHandles withTokens withSlots used changeToken putToken
   gives bad = nothing refl (λ h. absurd (not-both h refl))
   gives (got (Request.openOwn mask) bytes) = nothing refl (λ ok room. refl)
   gives (got (Request.close n) bytes) = nothing refl (λ known. refl)
@@ -111,6 +112,7 @@ module _ (d : State) (f : StateFacts d) (s : ℕ) where
   gives (got Request.revert bytes) = nothing refl refl
   gives (got (Request.link n m session) bytes) = nothing refl (λ known may held ok room. refl)
   gives (got (Request.linked n) bytes) = of-partner n _ refl refl (λ no known may paired. absurd (no known paired))
+  gives (got (Request.evaluate n c) bytes) = nothing refl (λ known may ok. refl)
 
 -- ---- one body
 

@@ -158,6 +158,7 @@ module _ (d : State) (f : StateFacts d) (x : Source) where
   of-request s (got Request.revert bytes) e = none e
   of-request s (got (Request.link n m session) bytes) e = none e
   of-request s (got (Request.linked n) bytes) e = linked s n e
+  of-request s (got (Request.evaluate n c) bytes) e = none e
 
 -- ---- every body that is served in a run
 

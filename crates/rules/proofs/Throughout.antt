@@ -18,6 +18,7 @@ use Rattle.rules.proofs.Bound.{bound, closed}
 use Rattle.rules.proofs.Ladder.{ladder}
 use Rattle.rules.proofs.Acting.{acting, client-kept}
 use Rattle.rules.proofs.Linking.{pairs-kept, elevation-kept}
+use Rattle.rules.proofs.Evaluating.{evaluated}
 use Rattle.rules.proofs.Sources.{no-more}
 use Rattle.rules.proofs.Served.{answers-served, one-by-one}
 use Rattle.rules.proofs.Roots.{creations, roots}
@@ -58,6 +59,7 @@ throughout σ v cs w =
       linked = g .loose .pairs;
       pairs = λ x m. pairs-kept x;
       elevations = λ x m. elevation-kept x (run-serves cs σ w f x m);
+      evaluating = λ x m. evaluated x;
       enabled = enabled-present τ g;
       byDefault = default-present τ g;
       copies = no-more cs σ w f;

@@ -1,17 +1,18 @@
 -- What is read is within its field's width: of a body of bytes, every field of the request. Assumes nothing.
-use Prim.Native.Nat.{ℕ, zero, suc, _^_, _≤_}
+use Prim.Native.Nat.{ℕ, zero, suc, _+_, _^_, _≤_}
 use native.Mathlib.Omega.{arith}
-use mathlib.Core.Path.{_≡_, refl}
+use mathlib.Core.Path.{_≡_, refl, subst}
 use mathlib.Core.Bool.{Bool, true}
 use mathlib.Core.List.{List, [], _∷_}
 use lib.ListN.{getD}
 use borrow.Author.Tests.{lt-ltb}
 use Rattle.rules.specs.Basic.{all}
+use Rattle.rules.specs.Condition.{Condition, allOf, anyOf, negated, privilegeEnabled, groupEnabled, Conditions, none, more, maxDepth}
 use Rattle.rules.specs.Entry.{Entry}
 use Rattle.rules.specs.Group.{Group}
 use Rattle.rules.specs.Number.{max16, max32, max64, readNumber, Read, got, bad}
 use Rattle.rules.specs.Request as Request
-use Rattle.rules.specs.Request.{Reader, follow, _>>=_, give, end, byte, times, u16, u32, u64, group, entry, numberLayout, entriesLayout, createLayout, queryLayout, scopeLayout, defaultsLayout, duplicateLayout, restrictLayout, linkLayout, unknown, layouts, parse, Request}
+use Rattle.rules.specs.Request.{Reader, follow, _>>=_, give, end, byte, times, u16, u32, u64, group, entry, unknown, conditions, listLayout, negatedLayout, namedLayout, kinds, condition, numberLayout, entriesLayout, createLayout, queryLayout, scopeLayout, defaultsLayout, duplicateLayout, restrictLayout, linkLayout, evaluateLayout, layouts, parse, Request}
 use Rattle.rules.specs.Valid.{isByte, is32, is64}
 use Rattle.rules.proofs.Logic.{and-l, and-r, and-i}
 use Rattle.rules.proofs.Numbers.{by-reading}
@@ -47,6 +48,17 @@ ends {P = P} a h = record { gives = go }
     go [] b = (h, b)
     go (x ∷ bytes) b = tt
 
+-- each reader of a list, by its number
+unfoldable pub Each : {A : Type 0} → (ℕ → Reader A → Type 0) → ℕ → List (Reader A) → Type 0
+Each P k [] = Unit {0}
+Each P k (l ∷ ls) = P k l × Each P (suc k) ls
+
+pub at-number : {A : Type 0} (P : ℕ → Reader A → Type 0) → ((n : ℕ) → P n unknown) → (k : ℕ) (ls : List (Reader A)) (n : ℕ) → Each P k ls → P (k + n) (getD ls n unknown)
+unfolding Each
+at-number P other k [] n h = other (k + n)
+at-number P other k (l ∷ ls) zero h = subst (λ m. P m l) (omega arith) (h .0)
+at-number P other k (l ∷ ls) (suc n) h = subst (λ m. P m (getD ls n unknown)) (omega arith) (at-number P other (suc k) ls n (h .1))
+
 -- ---- numbers
 
 reads : {A : Type 0} {P Q : A → Type 0} (r : Read A) → ((a : A) → P a → Q a) → Got P r → Got Q r
@@ -54,7 +66,7 @@ unfolding Got
 reads bad f h = tt
 reads (got a rest) f h = (f a (h .0), h .1)
 
-number : (top : ℕ) (bytes : List ℕ) → all isByte bytes ≡ true → Got (λ n. n ≤ top) (readNumber top bytes)
+pub number : (top : ℕ) (bytes : List ℕ) → all isByte bytes ≡ true → Got (λ n. n ≤ top) (readNumber top bytes)
 unfolding Got all
 number = by-reading (λ top bytes r. all isByte bytes ≡ true → Got (λ n. n ≤ top) r)
     (λ top bytes h. tt)
@@ -97,6 +109,9 @@ module _ {A : Type 0} (f : A → Bool) (p : Reader A) (h : Reads (λ a. f a ≡ 
 unfoldable pub sid32 : Group → Bool
 sid32 g = is32 (g .sid)
 
+unfoldable Whatever : {A : Type 0} → A → Type 0
+Whatever a = Unit {0}
+
 unfoldable anything : Entry → Bool
 anything e = true
 
@@ -127,6 +142,7 @@ Fits (Request.impersonate h) = Unit {0}
 Fits Request.revert = Unit {0}
 Fits (Request.link h k session) = Unit {0}
 Fits (Request.linked h) = Unit {0}
+Fits (Request.evaluate h c) = Unit {0}
 
 in-number : (f : ℕ → Request) → ((n : ℕ) → Fits (f n)) → Reads Fits (numberLayout f)
 unfolding numberLayout
@@ -170,28 +186,51 @@ in-link : Reads Fits linkLayout
 unfolding linkLayout Fits
 in-link = and-then u32 _ number32 λ a h. and-then u32 _ number32 λ b i. and-then u64 _ number64 λ c j. ends _ tt
 
-in-none : Reads Fits unknown
+in-none : {A : Type 0} {P : A → Type 0} → Reads P unknown
 unfolding unknown Got
 in-none = record { gives = λ bytes b. tt }
 
--- each layout of a list
-Each : List (Reader Request) → Type 0
-Each [] = Unit {0}
-Each (l ∷ ls) = Reads Fits l × Each ls
+-- ---- conditions
 
-at-number : (ls : List (Reader Request)) (n : ℕ) → Each ls → Reads Fits (getD ls n unknown)
-unfolding Each
-at-number [] n h = in-none
-at-number (l ∷ ls) zero h = h .0
-at-number (l ∷ ls) (suc n) h = at-number ls n (h .1)
+module _ (p : Reader Condition) (h : Reads Whatever p) where
+  in-conditions : (n : ℕ) → Reads Whatever (conditions n p)
+  unfolding conditions Whatever
+  in-conditions zero = gives-it none tt
+  in-conditions (suc n) =
+      record {
+        gives = λ bytes b.
+            followed (p bytes) (λ c rest. follow (conditions n p rest) (λ cs. give (more c cs))) (h .gives bytes b)
+            (λ c k. record { gives = λ rest d. followed (conditions n p rest) (λ cs. give (more c cs)) (in-conditions n .gives rest d) (λ cs l. gives-it (more c cs) tt) });
+      }
 
-all-fit : Each layouts
+  in-list : (f : Conditions → Condition) → Reads Whatever (listLayout f p)
+  unfolding listLayout Whatever
+  in-list f = and-then u32 _ number32 λ n k. and-then _ _ (in-conditions n) λ cs l. gives-it (f cs) tt
+
+  in-kinds : Each (λ n l. Reads Whatever l) 0 (kinds p)
+  unfolding kinds Each negatedLayout namedLayout Whatever
+  in-kinds =
+      let named : (f : ℕ → Condition) → Reads Whatever (namedLayout f) = λ f. and-then u32 _ number32 λ n k. gives-it (f n) tt in
+      (in-none, (in-list allOf, (in-list anyOf, (and-then p _ h (λ c k. gives-it (negated c) tt), (named privilegeEnabled, (named groupEnabled, tt))))))
+
+a-condition : (d : ℕ) → Reads Whatever (condition d)
+unfolding condition
+a-condition zero = in-none
+a-condition (suc d) = and-then u32 _ number32 λ k h. at-number (λ n l. Reads Whatever l) (λ n. in-none) 0 (kinds (condition d)) k (in-kinds (condition d) (a-condition d))
+
+in-evaluate : Reads Fits evaluateLayout
+unfolding evaluateLayout Fits
+in-evaluate = and-then u32 _ number32 λ n h. and-then (condition maxDepth) _ (a-condition maxDepth) λ c k. ends _ tt
+
+-- ---- every request
+
+all-fit : Each (λ n l. Reads Fits l) 0 layouts
 unfolding layouts Each Fits
 all-fit =
     let one : (n : ℕ) → Unit {0} = λ n. tt in
     let two : (n : ℕ) (es : List Entry) → Unit {0} = λ n es. tt in
-    (in-none, (in-number _ one, (in-number _ one, (in-create, (in-query, (in-entries _ two, (in-entries _ two, (in-scope, (in-defaults, (in-duplicate, (in-restrict, (in-number _ one, (in-number _ one, (ends _ tt, (in-none, (in-none, (in-link, (in-number _ one, tt))))))))))))))))))
+    (in-none, (in-number _ one, (in-number _ one, (in-create, (in-query, (in-entries _ two, (in-entries _ two, (in-scope, (in-defaults, (in-duplicate, (in-restrict, (in-number _ one, (in-number _ one, (ends _ tt, (in-none, (in-none, (in-link, (in-number _ one, (in-evaluate, tt)))))))))))))))))))
 
 pub parsed : (body : List ℕ) → all isByte body ≡ true → Got Fits (parse body)
 unfolding parse
-parsed body b = (and-then u32 (λ n. getD layouts n unknown) number32 (λ n h. at-number layouts n all-fit)) .gives body b
+parsed body b = (and-then u32 (λ n. getD layouts n unknown) number32 (λ n h. at-number (λ n l. Reads Fits l) (λ n. in-none) 0 layouts n all-fit)) .gives body b

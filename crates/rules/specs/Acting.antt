@@ -38,6 +38,7 @@ setsClient (got (Request.impersonate n) bytes) = true
 setsClient (got Request.revert bytes) = true
 setsClient (got (Request.link n m session) bytes) = false
 setsClient (got (Request.linked n) bytes) = false
+setsClient (got (Request.evaluate n c) bytes) = false
 
 -- the body is a request 12 or 13 of station k, and succeeds
 pub record SetBy (x : Serving) (k : ℕ) : Type 0 where

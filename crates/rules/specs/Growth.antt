@@ -108,6 +108,7 @@ sourceOf σ s (got (Request.impersonate n) bytes) = free
 sourceOf σ s (got Request.revert bytes) = free
 sourceOf σ s (got (Request.link n m session) bytes) = free
 sourceOf σ s (got (Request.linked n) bytes) = partnerAt σ (findHandle σ s n)
+sourceOf σ s (got (Request.evaluate n c) bytes) = free
 
 -- u, just made, and its source: it has no more, and the source's root
 pub record FromSource (x : Source) (u : Token) : Type 0 where
@@ -148,6 +149,7 @@ makesRoot (got (Request.impersonate n) bytes) = false
 makesRoot (got Request.revert bytes) = false
 makesRoot (got (Request.link n m session) bytes) = false
 makesRoot (got (Request.linked n) bytes) = false
+makesRoot (got (Request.evaluate n c) bytes) = false
 
 -- of a body that is served: a token that it makes of none is its own root
 unfoldable pub Creating : Serving → Type 0

@@ -12,6 +12,7 @@ pub mod Pair
 pub mod State
 pub mod Index
 pub mod Entry
+pub mod Condition
 pub mod Refusal
 pub mod Decision
 pub mod Request
@@ -27,6 +28,7 @@ pub mod Restrict
 pub mod Install
 pub mod Impersonate
 pub mod Link
+pub mod Evaluate
 pub mod Serve
 pub mod Frame
 pub mod Model
@@ -36,6 +38,7 @@ pub mod Run
 pub mod Growth
 pub mod Acting
 pub mod Linking
+pub mod Evaluating
 pub mod Head
 pub mod Memory
 pub mod Throughout

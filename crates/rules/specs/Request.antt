@@ -1,10 +1,11 @@
--- The fifteen requests and their layouts: the request number, then the fields; nothing may be left. Assumes nothing.
+-- The sixteen requests and their layouts: the request number, then the fields; nothing may be left. Assumes nothing.
 use Prim.Native.Nat.{ℕ, zero, suc}
 use mathlib.Core.List.{List, [], _∷_}
 use lib.ListN.{getD}
 use Rattle.rules.specs.Number.{Read, got, bad, readNumber, max16, max32, max64}
 use Rattle.rules.specs.Group.{Group}
 use Rattle.rules.specs.Entry.{Entry}
+use Rattle.rules.specs.Condition.{Condition, allOf, anyOf, negated, privilegeEnabled, groupEnabled, Conditions, none, more, maxDepth}
 
 pub data Request : Type 0 where
   openOwn : ℕ → Request
@@ -22,6 +23,7 @@ pub data Request : Type 0 where
   revert : Request
   link : ℕ → ℕ → ℕ → Request
   linked : ℕ → Request
+  evaluate : ℕ → Condition → Request
 
 -- ---- reading one thing after the other
 
@@ -37,6 +39,10 @@ _>>=_ p f = λ bytes. follow (p bytes) f
 
 unfoldable pub give : {A : Type 0} → A → Reader A
 give a bytes = got a bytes
+
+-- what has a number that none has
+unfoldable pub unknown : {A : Type 0} → Reader A
+unknown bytes = bad
 
 -- the body ends here
 unfoldable pub end : {A : Type 0} → A → Reader A
@@ -71,6 +77,46 @@ entry = do
   k ← u32
   v ← u32
   give (record { key = k; value = v })
+
+-- ---- a condition: its kind, then a count and as many conditions (1, 2), a condition (3) or a number (4, 5)
+
+unfoldable pub conditions : ℕ → Reader Condition → Reader Conditions
+conditions zero p = give none
+conditions (suc n) p = λ bytes. follow (p bytes) (λ c after. follow (conditions n p after) (λ cs. give (more c cs)))
+
+unfoldable pub listLayout : (Conditions → Condition) → Reader Condition → Reader Condition
+listLayout make p = do
+  count ← u32
+  cs ← conditions count p
+  give (make cs)
+
+unfoldable pub negatedLayout : Reader Condition → Reader Condition
+negatedLayout p = do
+  c ← p
+  give (negated c)
+
+unfoldable pub namedLayout : (ℕ → Condition) → Reader Condition
+namedLayout make = do
+  n ← u32
+  give (make n)
+
+-- by its kind, p reading what stands inside
+unfoldable pub kinds : Reader Condition → List (Reader Condition)
+kinds p =
+    unknown
+    ∷ listLayout allOf p
+    ∷ listLayout anyOf p
+    ∷ negatedLayout p
+    ∷ namedLayout privilegeEnabled
+    ∷ namedLayout groupEnabled
+    ∷ []
+
+-- a condition at most so deep
+unfoldable pub condition : ℕ → Reader Condition
+condition zero = unknown
+condition (suc d) = do
+  kind ← u32
+  getD (kinds (condition d)) kind unknown
 
 -- ---- the layouts
 
@@ -148,9 +194,11 @@ linkLayout = do
   session ← u64
   end (link elevated filtered session)
 
--- a request number that is none
-unfoldable pub unknown : Reader Request
-unknown bytes = bad
+unfoldable pub evaluateLayout : Reader Request
+evaluateLayout = do
+  h ← u32
+  c ← condition maxDepth
+  end (evaluate h c)
 
 unfoldable pub layouts : List (Reader Request)
 layouts =
@@ -172,6 +220,7 @@ layouts =
     ∷ unknown
     ∷ linkLayout
     ∷ numberLayout linked
+    ∷ evaluateLayout
     ∷ []
 
 -- the request that a body is

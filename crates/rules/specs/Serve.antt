@@ -19,6 +19,7 @@ use Rattle.rules.specs.Restrict as Restrict
 use Rattle.rules.specs.Install as Install
 use Rattle.rules.specs.Impersonate as Impersonate
 use Rattle.rules.specs.Link as Link
+use Rattle.rules.specs.Evaluate as Evaluate
 
 unfoldable pub rule : State → ℕ → Request → Decision
 rule σ s (Request.openOwn mask) = OpenClose.openOwn σ s mask
@@ -36,6 +37,7 @@ rule σ s (Request.impersonate n) = Impersonate.impersonate σ s n
 rule σ s Request.revert = Impersonate.revert σ s
 rule σ s (Request.link n m session) = Link.link σ s n m session
 rule σ s (Request.linked n) = Link.getLinked σ s n
+rule σ s (Request.evaluate n c) = Evaluate.evaluate σ s n c
 
 -- a body that is not in a layout fails the first check
 unfoldable pub decided : State → ℕ → Read Request → Decision

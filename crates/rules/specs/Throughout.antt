@@ -21,6 +21,7 @@ use Rattle.rules.specs.Run.{Call, byte, ofBytes, after, answered, events
 use Rattle.rules.specs.Growth.{Mem, Live, LiveHandle, Follows, Later, HandlesLater, StillHandle, Copying, Creating, Rooted}
 use Rattle.rules.specs.Acting.{ActsFor, ClientKept}
 use Rattle.rules.specs.Linking.{Linked, PairsKept, ElevationKept}
+use Rattle.rules.specs.Evaluating.{Evaluating}
 
 -- an answer: one valid frame that fits the buffer
 pub record IsAnswer (bytes : List ℕ) : Type 0 where
@@ -87,6 +88,8 @@ pub record Throughout (σ : State) (cs : List Call) : Type 0 where
   -- pairs and elevations change only by request 16, and a Full or Limited token stays so (`lasting`)
   pub pairs : (x : Serving) → Mem (serves x) (outcomes (events cs σ) σ) → PairsKept x
   pub elevations : (x : Serving) → Mem (serves x) (outcomes (events cs σ) σ) → ElevationKept x
+  -- request 18 changes nothing, and 'the answer is exactly the rule's meaning'
+  pub evaluating : (x : Serving) → Mem (serves x) (outcomes (events cs σ) σ) → Evaluating x
   -- 'enabled ones stay among the present', and default ones
   pub enabled : (t : Token) → Live t (after cs σ) → within (t .privileges .enabled) (t .privileges .present) ≡ true
   pub byDefault : (t : Token) → Live t (after cs σ) → within (t .privileges .byDefault) (t .privileges .present) ≡ true

@@ -50,6 +50,7 @@ fn carry_out(
         13 => requests::revert(station, body, c, handles, tokens, dacls, control),
         16 => requests::link(station, body, c, handles, tokens, dacls, control),
         17 => requests::linked(station, body, c, handles, tokens, dacls, control),
+        18 => requests::evaluate(station, body, c, handles, tokens, dacls, control),
         _ => outcome::refused(refusal::MALFORMED),
     }
 }

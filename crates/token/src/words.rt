@@ -1,6 +1,6 @@
 // A group and its word, SID + attributes * 2^32.
 ghost use mathlib.Core.Path.{_≡_};
-ghost use Rattle.rules.specs.Group.{isOwner};
+ghost use Rattle.rules.specs.Group.{isEnabled, isOwner};
 ghost use Rattle.rules.specs.Memory.{unpack};
 ghost use Rattle.token.specs.Row.{groupIn, wordOf};
 use crate::Group;
@@ -22,6 +22,13 @@ pub fn pack(g: Group) -> u64
     let sid = g.sid as u64;
     let attributes = g.attributes as u64;
     sid + attributes * WORD_32
+}
+
+// ENABLED, by the word.
+pub fn is_enabled(w: u64) -> bool
+    ensures { λ r. ⌜ r ≡ isEnabled (unpack w) ⌝ }
+{
+    has(w / WORD_32, 2)
 }
 
 // OWNER, by the word.

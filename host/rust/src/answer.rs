@@ -35,13 +35,14 @@ impl Answer {
         number::read(&self.bytes).map_or(&[], |(_, body)| body)
     }
 
-    /// `None` for a success; the refusal 1 to 10 otherwise.
+    /// `None` for a success; the refusal 1 to 10 or 14 otherwise.
     pub fn refusal(&self) -> Option<Refusal> {
         self.body().first().and_then(|&status| Refusal::from_number(status.into()))
     }
 
     /// The bytes after the status: a success's fields, or the size that refusal 9 gives. Those of
-    /// request 5 are a [`PreviousPrivileges`](crate::PreviousPrivileges).
+    /// request 5 are a [`PreviousPrivileges`](crate::PreviousPrivileges), and request 18's are read by
+    /// [`Condition::read_answer`](crate::Condition::read_answer).
     pub fn fields(&self) -> &[u8] {
         self.body().get(1..).unwrap_or_default()
     }

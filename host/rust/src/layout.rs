@@ -15,6 +15,8 @@ pub const MAX_GROUPS: usize = 64;
 pub const MAX_RESTRICTING: usize = 16;
 /// The longest default DACL in bytes.
 pub const MAX_DACL: usize = 256;
+/// How deep a condition is at most.
+pub const MAX_DEPTH: usize = 8;
 
 /// The longest answer in bytes.
 pub const MAX_ANSWER: usize = 1024;

@@ -1,9 +1,10 @@
 //! The proved rights broker, for hosts in Rust.
 //!
 //! Eight stations send bytes to one [`Broker`], which keeps access tokens and answers requests to
-//! open, close, create, query, adjust, duplicate, restrict, install and link them, to act for one and
-//! to revert. The code behind it is proved to do for every input what its rules say; this crate owns
-//! the memory that it works on and makes its calls safe. It has no dependencies.
+//! open, close, create, query, adjust, duplicate, restrict, install and link them, to evaluate a
+//! [`Condition`] on one, to act for one and to revert. The code behind it is proved to do for every input what its
+//! rules say; this crate owns the memory that it works on and makes its calls safe. It has no
+//! dependencies.
 //!
 //! ```
 //! use obriska::Broker;
@@ -30,6 +31,7 @@
 
 mod answer;
 mod broker;
+mod condition;
 mod ffi;
 mod layout;
 mod memory;
@@ -42,8 +44,9 @@ mod view;
 
 pub use answer::Answer;
 pub use broker::Broker;
+pub use condition::{Condition, ConditionError};
 pub use layout::{
-    HANDLES, LENGTH_BYTES, MAX_ANSWER, MAX_BODY, MAX_DACL, MAX_GROUPS, MAX_RESTRICTING,
+    HANDLES, LENGTH_BYTES, MAX_ANSWER, MAX_BODY, MAX_DACL, MAX_DEPTH, MAX_GROUPS, MAX_RESTRICTING,
     MEMORY_BYTES, PAIRS, STATIONS, TOKENS,
 };
 pub use pair::Pair;

@@ -18,7 +18,8 @@ use std::fmt;
 #[derive(Clone, Copy, Debug, PartialEq, Eq, Hash)]
 #[repr(u32)]
 pub enum Refusal {
-    /// Unknown request, or a body not in its layout, or bytes left over.
+    /// Unknown request, or a body not in its layout, or bytes left over; a condition deeper than
+    /// [`MAX_DEPTH`](crate::MAX_DEPTH).
     Layout = 1,
     /// Not a live handle of this station.
     Handle = 2,
@@ -28,7 +29,7 @@ pub enum Refusal {
     Privilege = 4,
     /// A bad field or entry, an unknown class, installing a token that is not primary, acting for one
     /// that is, restricting a restricted one to none of its SIDs, or to write-restricted where it is
-    /// not, or linking two that can be no pair.
+    /// not, linking two that can be no pair, or an unknown privilege in a condition.
     Field = 5,
     /// An entry names a mandatory, deny-only or logon group, or disables one with the user's SID.
     Protected = 6,

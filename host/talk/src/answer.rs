@@ -1,6 +1,6 @@
 //! Answers in words.
 
-use obriska::{names, number, Answer, PreviousPrivileges, Refusal, MAX_BODY, NO_CLIENT};
+use obriska::{names, number, Answer, Condition, PreviousPrivileges, Refusal, MAX_BODY, NO_CLIENT};
 
 use crate::hex;
 use crate::request::RESET_PRIVILEGES;
@@ -45,6 +45,7 @@ fn success(request: &[u8], fields: &[u8]) -> Option<Vec<String>> {
         6 => Some(vec![format!("enabled before: {}", groups_text(&number::read_all(fields)?))]),
         12 => Some(vec![format!("acts at level {}", level_text(number::read(fields)?.0))]),
         13 => given_up(&number::read_all(fields)?),
+        18 => Some(vec![yes_or_no(Condition::read_answer(fields)?)]),
         _ => None,
     }
 }
@@ -75,6 +76,11 @@ fn given_up(numbers: &[u64]) -> Option<Vec<String>> {
         NO_CLIENT => "acted for none".to_string(),
         _ => format!("acted for token {token} at level {}", level_text(level)),
     }])
+}
+
+/// Whether a condition held.
+fn yes_or_no(holds: bool) -> String {
+    if holds { "yes" } else { "no" }.to_string()
 }
 
 fn level_text(level: u64) -> String {
@@ -194,6 +200,8 @@ mod tests {
         assert_eq!(said(&[13], &[3, 0]), ["acted for token 3 at level anonymous"]);
         assert_eq!(said(&[13], &[0, 0]), ["acted for none"]);
         assert_eq!(said(&[17, 3], &[0xAC, 2]), ["handle 300"]);
+        assert_eq!(said(&[18, 3, 1, 0], &[1]), ["yes"]);
+        assert_eq!(said(&[18, 3, 2, 0], &[0]), ["no"]);
         assert_eq!(success(&[2, 1], &[]), None);
         assert_eq!(success(&[16, 1, 2, 5], &[]), None);
     }

@@ -25,6 +25,26 @@ impl<'a> Arguments<'a> {
         self.word(what)?.number(what, u32::MAX.into())
     }
 
+    /// The column of the next word, or of the line's end.
+    pub fn column(&self) -> usize {
+        self.words.as_slice().first().map_or(self.end, |word| word.column)
+    }
+
+    /// Takes the next word if it is this one.
+    pub fn takes(&mut self, text: &str) -> bool {
+        let is_next = self.words.as_slice().first().is_some_and(|word| word.text == text);
+        if is_next {
+            self.words.next();
+        }
+        is_next
+    }
+
+    /// Cuts the words left at these marks, which become words themselves.
+    pub fn cut(&mut self, marks: &[char]) {
+        let words: Vec<_> = self.words.by_ref().flat_map(|word| word.cut(marks)).collect();
+        self.words = words.into_iter();
+    }
+
     /// All words left.
     pub fn rest(&mut self) -> Vec<Word<'a>> {
         self.words.by_ref().collect()

@@ -134,6 +134,11 @@ mod tests {
         assert_eq!(sent("0: link 3 300 session=7"), "05 10 03 AC 02 07");
         assert_eq!(sent("0: link 1 2 session=0xFFFFFFFFFFFFFFFF"), "0D 10 01 02 FF*9 01");
         assert_eq!(sent("0: linked 300"), "03 11 AC 02");
+        assert_eq!(
+            sent("0: may 1 all(enabled tcb, any(group 20, not enabled shutdown))"),
+            "0D 12 01 01 02 04 07 02 02 05 14 03 04 13"
+        );
+        assert_eq!(sent("0: may 300 all()"), "05 12 AC 02 01 00");
     }
 
     #[test]
@@ -165,6 +170,10 @@ mod tests {
         assert_eq!(mistake("0: link 3 4 7"), (13, "'7' is none of session=..".into()));
         assert_eq!(mistake("0: linked"), (10, "missing: handle".into()));
         assert_eq!(mistake("0: linked 3 4"), (13, "'4' is one word too many".into()));
+        assert_eq!(mistake("0: may"), (7, "missing: handle".into()));
+        assert_eq!(mistake("0: may 3"), (9, "missing: a condition such as 'enabled tcb'".into()));
+        assert_eq!(mistake("0: may 3 any(all()"), (19, "missing: ',' or ')'".into()));
+        assert_eq!(mistake("0: may 3 group 20 30"), (19, "'30' is one word too many".into()));
         assert_eq!(mistake("0: close 4294967296"), (10, "4294967296 is over 4294967295".into()));
         assert_eq!(mistake("0: privileges 1 tcbb=enable").0, 17);
         assert_eq!(mistake("0: privileges 1 tcb=on").0, 21);

@@ -2,6 +2,7 @@
 
 mod answer;
 mod arguments;
+mod condition;
 mod hex;
 mod line;
 mod request;

@@ -3,6 +3,7 @@
 use obriska::{number, MAX_ANSWER};
 
 use crate::arguments::Arguments;
+use crate::condition;
 use crate::hex;
 use crate::vocabulary::{self, ACTIONS, CLASSES, LEVELS, SWITCHES, TYPES};
 use crate::words::{Mistake, Word};
@@ -32,6 +33,7 @@ pub fn frame(name: Word, mut arguments: Arguments) -> Option<Result<Vec<u8>, Mis
         "revert" => revert,
         "link" => link,
         "linked" => linked,
+        "may" => may,
         _ => return None,
     };
     Some(layout(&mut arguments).and_then(|body| arguments.finish().map(|()| framed(&body))))
@@ -223,4 +225,10 @@ fn link(arguments: &mut Arguments) -> Parsed {
 
 fn linked(arguments: &mut Arguments) -> Parsed {
     Ok(Body::new(&[17, handle(arguments)?]))
+}
+
+fn may(arguments: &mut Arguments) -> Parsed {
+    let mut body = Body::new(&[18, handle(arguments)?]);
+    body.0.extend(condition::bytes(arguments)?);
+    Ok(body)
 }

@@ -65,6 +65,22 @@ impl<'a> Word<'a> {
         words
     }
 
+    /// The word cut at these marks, which are parts themselves.
+    pub fn cut(self, marks: &[char]) -> Vec<Word<'a>> {
+        let mut parts = Vec::new();
+        let mut rest = self;
+        while let Some(first) = rest.text.chars().next() {
+            let end = match rest.text.find(marks) {
+                Some(0) => first.len_utf8(),
+                Some(mark) => mark,
+                None => rest.text.len(),
+            };
+            parts.push(rest.part(0, end));
+            rest = rest.part(end, rest.text.len());
+        }
+        parts
+    }
+
     /// The line without its comment.
     pub fn without_comment(self) -> Word<'a> {
         self.split_once('#').map_or(self, |(before, _)| before)
@@ -130,6 +146,14 @@ mod tests {
         assert_eq!(columns(&words[2].split(',')), [("query".into(), 11), ("x".into(), 17)]);
         assert_eq!(words[2].end(), 18);
         assert!(Word::line(" \t").words().is_empty());
+    }
+
+    #[test]
+    fn a_word_is_cut_at_marks() {
+        let parts = Word { text: "ä(b,c))", column: 3 }.cut(&['(', ',', ')']);
+        let expected = [("ä", 3), ("(", 4), ("b", 5), (",", 6), ("c", 7), (")", 8), (")", 9)];
+        assert_eq!(columns(&parts), expected.map(|(text, column)| (text.to_string(), column)));
+        assert!(Word::line("").cut(&['(']).is_empty());
     }
 
     #[test]

@@ -59,6 +59,12 @@ fn linked_pairs_are_document_02s() {
 }
 
 #[test]
+fn page_conditions_are_document_02s() {
+    let examples = "../../examples/page-conditions";
+    writes(&["--hex"], &format!("{examples}.talk"), &format!("{examples}.expected"));
+}
+
+#[test]
 fn all_requests_are_answered_in_words() {
     writes(&[], "tests/requests.talk", "tests/requests.expected");
 }
@@ -87,7 +93,7 @@ fn help_has_an_example_of_each_request_that_is_no_mistake() {
     let help = talk(&[], "help\n");
     let examples: Vec<_> =
         text(&help.stdout).lines().filter(|line| line.starts_with("  0: ")).collect();
-    assert_eq!(examples.len(), 17); // fifteen requests, reconnect, bytes
+    assert_eq!(examples.len(), 18); // sixteen requests, reconnect, bytes
     let script: String = examples
         .iter()
         .map(|line| line.trim().split("  ").next().expect("an example").to_string() + "\n")

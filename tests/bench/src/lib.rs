@@ -1,5 +1,6 @@
 //! What the broker's calls cost, beside a rival in plain Rust with the same duties.
 
+mod condition_work;
 pub mod rival;
 pub mod work;
 

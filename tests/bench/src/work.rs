@@ -7,6 +7,8 @@ use model::{
     MIN_BUFFER, NO_CHANGE, PAIRS, STATIONS, TOKENS,
 };
 
+use crate::condition_work;
+
 /// A list of feeds.
 pub struct Work {
     /// What it is.
@@ -20,10 +22,10 @@ pub struct Work {
 }
 
 /// Stations and chunks.
-type Feeds = Vec<(u32, Vec<u8>)>;
+pub(crate) type Feeds = Vec<(u32, Vec<u8>)>;
 
 impl Work {
-    fn new(name: &'static str, model: &Model, feeds: &Feeds) -> Self {
+    pub(crate) fn new(name: &'static str, model: &Model, feeds: &Feeds) -> Self {
         let mut work = Work { name, memory: model.memory(), bytes: vec![], feeds: vec![] };
         for (station, chunk) in feeds {
             let begin = work.bytes.len();
@@ -52,14 +54,16 @@ pub fn all() -> Vec<Work> {
     let (start, full) = (Model::start(), full());
     let (shift, on_full) = (shift(REQUESTS), on_full_tables(&full, REQUESTS));
     let empty = vec![(0, vec![]); EMPTY];
-    vec![
+    let mut all = vec![
         Work::new("empty chunk, start", &start, &empty),
         Work::new("empty chunk, full tables", &full, &empty),
         Work::new("whole requests, a shift", &start, &shift),
         Work::new("whole requests, full tables", &full, &on_full),
         Work::new("one-byte chunks, a shift", &start, &byte_by_byte(&shift[..IN_BYTES])),
         Work::new("one-byte chunks, full tables", &full, &byte_by_byte(&on_full[..IN_BYTES])),
-    ]
+    ];
+    all.extend(condition_work::all());
+    all
 }
 
 fn byte_by_byte(feeds: &[(u32, Vec<u8>)]) -> Feeds {

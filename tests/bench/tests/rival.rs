@@ -1,7 +1,7 @@
 //! The rival has the broker's duties: it does what the model does, refusals and memory included.
 
 use bench::Rival;
-use compare::{damages, lists};
+use compare::{conditions, damages, lists};
 use gen::{check_cuts, each_damage, each_seed, one_seed, Counts};
 use model::Model;
 
@@ -35,6 +35,18 @@ fn links() {
     if one_seed().is_none() {
         counts.check_links(3);
         counts.check_partners(3);
+    }
+}
+
+#[test]
+fn conditions_of_all_kinds() {
+    conditions::compare_known::<Rival>();
+    assert!(conditions::compare_short::<Rival>() > 100);
+    assert_eq!(conditions::compare_long::<Rival>(), 8 + 8 + 1022);
+    let mut counts = Counts::default();
+    conditions::compare_random::<Rival>(0..1000, &mut counts);
+    if one_seed().is_none() {
+        counts.check_conditions(5);
     }
 }
 

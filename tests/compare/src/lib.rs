@@ -1,6 +1,7 @@
 //! The proved code against the independent model: [`Lent`] makes the calls through the static
-//! library, [`program`] runs the program, [`lists`] and [`damages`] compare.
+//! library, [`program`] runs the program, [`lists`], [`conditions`] and [`damages`] compare.
 
+pub mod conditions;
 pub mod damages;
 pub mod lists;
 pub mod program;

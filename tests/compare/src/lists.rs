@@ -4,8 +4,9 @@ use std::fmt::Debug;
 use std::ops::Range;
 
 use gen::{
-    each_seed, garbage, near_the_last_numbers, run, state, with_clients, with_copies, with_groups,
-    with_pairs, with_restrictions, Broker, Call, Calls, Counts, Rng, Step, DAMAGES,
+    each_seed, garbage, near_the_last_numbers, run, state, with_clients, with_conditions,
+    with_copies, with_groups, with_pairs, with_restrictions, Broker, Call, Calls, Counts, Rng,
+    Step, DAMAGES,
 };
 use model::{Bytes, Fed, Memory, Model, MIN_BUFFER, PARTS};
 
@@ -14,11 +15,11 @@ pub const CALLS: usize = 300;
 /// How many each makes of the short lists, before the tokens are too much alike.
 pub const FEW_CALLS: usize = 60;
 /// How many starts there are to go on from, the broker's own twice.
-const STARTS: u64 = 9;
+const STARTS: u64 = 10;
 
 /// A list of calls for each seed: from the start, from a random state, near the last numbers, with
-/// groups of all kinds, with restricted tokens, with copies of copies, with others to act for, or with
-/// linked pairs.
+/// groups of all kinds, with restricted tokens, with copies of copies, with others to act for, with
+/// linked pairs, or with tokens to ask conditions of.
 pub fn compare<B: Broker>(seeds: Range<u64>, counts: &mut Counts) {
     each_seed(seeds, |seed, rng| {
         let first = match seed % STARTS {
@@ -29,7 +30,8 @@ pub fn compare<B: Broker>(seeds: Range<u64>, counts: &mut Counts) {
             5 => with_restrictions(),
             6 => with_copies(),
             7 => with_clients(rng),
-            _ => with_pairs(rng),
+            8 => with_pairs(rng),
+            _ => with_conditions(rng),
         };
         let mut broker = B::lend(&first.memory());
         if seed % STARTS < 2 {
@@ -127,9 +129,20 @@ impl<B: Broker> Both<B> {
 
     /// Makes the call on both and compares.
     pub fn make(&mut self, call: &Call) -> Fed {
+        self.shown(call, |_| {})
+    }
+
+    /// The same, counted.
+    pub fn counted(&mut self, call: &Call, counts: &mut Counts) -> Fed {
+        self.shown(call, |step| counts.step(step))
+    }
+
+    fn shown(&mut self, call: &Call, show: impl FnOnce(&Step)) -> Fed {
         let before = self.model.clone();
         let fed = self.model.make(call);
-        both(&mut self.broker, &Step { call, before: &before, after: &self.model, fed: &fed });
+        let step = Step { call, before: &before, after: &self.model, fed: &fed };
+        both(&mut self.broker, &step);
+        show(&step);
         fed
     }
 

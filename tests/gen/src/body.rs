@@ -1,7 +1,8 @@
 //! Bodies of requests: mostly as wished, sometimes damaged.
 
-use model::{Model, LAST_REQUEST, MAX_BODY, MAX_GROUPS, MORE, UNUSED_REQUESTS};
+use model::{Model, Request, LAST_REQUEST, MAX_BODY, MAX_GROUPS, MORE, UNUSED_REQUESTS};
 
+use crate::condition_damages;
 use crate::fields::{fields, flat, Field};
 use crate::rng::Rng;
 use crate::wishes::Wish;
@@ -9,9 +10,26 @@ use crate::wishes::Wish;
 /// The body of a random request for the station, of 1 to [`MAX_BODY`] bytes.
 pub fn body(rng: &mut Rng, model: &Model, station: usize) -> Vec<u8> {
     let request = Wish { rng, model, station }.request();
-    let fields = fields(&request);
+    written(rng, &request)
+}
+
+/// The body of a random request 18.
+pub fn condition_body(rng: &mut Rng, model: &Model, station: usize) -> Vec<u8> {
+    let request = Wish { rng, model, station }.request_of(18);
+    written(rng, &request)
+}
+
+/// The request's bytes, sometimes damaged; a condition's more often, in ways of its own.
+fn written(rng: &mut Rng, request: &Request) -> Vec<u8> {
+    let fields = fields(request);
     let share = if fields.len() == 1 { 20 } else { 8 };
-    let mut body = if rng.percent(share) { damaged(rng, fields) } else { flat(&fields) };
+    let mut body = match request {
+        Request::Evaluate { condition, .. } if rng.percent(20) => {
+            [flat(&fields[..2]), condition_damages::damaged(rng, condition)].concat()
+        }
+        _ if rng.percent(share) => damaged(rng, fields),
+        _ => flat(&fields),
+    };
     body.truncate(MAX_BODY);
     body
 }
@@ -64,7 +82,7 @@ fn damaged(rng: &mut Rng, mut fields: Vec<Field>) -> Vec<u8> {
 }
 
 /// The number in a longer form than the shortest.
-fn long_form(rng: &mut Rng, field: &Field) -> Field {
+pub(crate) fn long_form(rng: &mut Rng, field: &Field) -> Field {
     let mut bytes = field.bytes();
     for _ in 0..1 + rng.below(2) {
         if let Some(last) = bytes.last_mut() {

@@ -1,6 +1,6 @@
 //! How often each refusal came, each status of each request, what request 6 did to each kind of
 //! group, request 10 to each kind of list, what was made from each kind of token, how stations came to
-//! act for others, and how tokens were linked and their partners given.
+//! act for others, how tokens were linked and their partners given, and which conditions were asked for.
 
 use std::collections::BTreeMap;
 use std::fmt;
@@ -9,6 +9,7 @@ use model::{Fed, Model, Reader, Refusal, LAST_REQUEST};
 
 use crate::broker::{status, Step};
 use crate::clients::ClientCounts;
+use crate::conditions::ConditionCounts;
 use crate::groups::GroupCounts;
 use crate::links::LinkCounts;
 use crate::partners::PartnerCounts;
@@ -35,6 +36,7 @@ const POSSIBLE: [(u32, &[u8]); LAST_REQUEST as usize + 1] = [
     (15, &[1]),
     (16, &[0, 1, 2, 3, 4, 5, 8]),
     (17, &[0, 1, 2, 3, 8, 14]),
+    (18, &[0, 1, 2, 3, 5]),
 ];
 
 /// The counts; printed as a table.
@@ -49,6 +51,7 @@ pub struct Counts {
     clients: ClientCounts,
     links: LinkCounts,
     partners: PartnerCounts,
+    conditions: ConditionCounts,
 }
 
 impl Counts {
@@ -61,6 +64,7 @@ impl Counts {
         self.clients.step(step);
         self.links.step(step);
         self.partners.step(step);
+        self.conditions.step(step);
     }
 
     /// Counts what a call returned.
@@ -137,6 +141,11 @@ impl Counts {
         self.partners.check(least);
     }
 
+    /// The same of request 18.
+    pub fn check_conditions(&self, least: usize) {
+        self.conditions.check(least);
+    }
+
     /// Each refusal came so often at least.
     pub fn check_refusals(&self, least: usize) {
         for (refusal, count) in self.refusals() {
@@ -175,6 +184,7 @@ impl fmt::Display for Counts {
         writeln!(f, "{}", self.roots)?;
         writeln!(f, "{}", self.clients)?;
         writeln!(f, "{}", self.links)?;
-        self.partners.fmt(f)
+        writeln!(f, "{}", self.partners)?;
+        self.conditions.fmt(f)
     }
 }

@@ -1,6 +1,8 @@
 //! A request as a list of fields, to be written or damaged field by field.
 
-use model::{write_number, Request};
+use model::{write_number, Condition, Request};
+
+use crate::condition_layout;
 
 /// One field of a body.
 #[derive(Clone, Debug, PartialEq, Eq)]
@@ -50,18 +52,15 @@ pub fn fields(request: &Request) -> Vec<Field> {
         }
         Request::Scope { handle, value } => numbers(&[7, (*handle).into(), (*value).into()]),
         Request::Default { handle, owner, group, flag, dacl } => {
-            let indexes = [8, (*handle).into(), (*owner).into(), (*group).into()];
-            let dacl_head = numbers(&[(*flag).into(), dacl.len() as u64]);
-            [numbers(&indexes), dacl_head, vec![Field::Bytes(dacl.clone())]].concat()
+            let head = [8, (*handle).into(), (*owner).into(), (*group).into(), (*flag).into()];
+            [numbers(&head), counted_bytes(dacl)].concat()
         }
         Request::Duplicate { handle, kind, level, mask } => {
             numbers(&[9, (*handle).into(), (*kind).into(), (*level).into(), (*mask).into()])
         }
         Request::Restrict { handle, write_restricted, remove, deny, sids } => {
             let head = [10, (*handle).into(), (*write_restricted).into(), *remove];
-            let counts = [deny.len() as u64, sids.len() as u64];
-            let lists = deny.iter().chain(sids).map(|&item| Field::Number(item.into()));
-            [numbers(&head), numbers(&counts), lists.collect()].concat()
+            [numbers(&head), counted_lists(deny, sids)].concat()
         }
         Request::Install { handle } => numbers(&[11, (*handle).into()]),
         Request::Impersonate { handle } => numbers(&[12, (*handle).into()]),
@@ -70,11 +69,30 @@ pub fn fields(request: &Request) -> Vec<Field> {
             numbers(&[16, (*elevated).into(), (*filtered).into(), *session])
         }
         Request::GetLinked { handle } => numbers(&[17, (*handle).into()]),
+        Request::Evaluate { handle, condition } => of_condition(*handle, condition),
     }
 }
 
 fn numbers(numbers: &[u64]) -> Vec<Field> {
     numbers.iter().map(|&number| Field::Number(number)).collect()
+}
+
+fn of_condition(handle: u32, condition: &Condition) -> Vec<Field> {
+    let condition = condition_layout::numbers(condition).into_iter().map(|(_, number)| number);
+    let all: Vec<u64> = [18, handle.into()].into_iter().chain(condition).collect();
+    numbers(&all)
+}
+
+fn counted_bytes(bytes: &[u8]) -> Vec<Field> {
+    vec![Field::Number(bytes.len() as u64), Field::Bytes(bytes.to_vec())]
+}
+
+/// Both counts before both lists.
+fn counted_lists(first: &[u32], second: &[u32]) -> Vec<Field> {
+    let counts = [first, second].map(|list| list.len() as u64);
+    let items = first.iter().chain(second).map(|&item| item.into());
+    let all: Vec<u64> = counts.into_iter().chain(items).collect();
+    numbers(&all)
 }
 
 fn counted(pairs: &[(u32, u32)]) -> Vec<Field> {

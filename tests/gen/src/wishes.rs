@@ -7,6 +7,7 @@ use model::{
     MAX_GROUPS, MAX_RESTRICTING, NO_CHANGE, REMOVE, RESET_GROUPS, RESET_PRIVILEGES, TCB, TOKENS,
 };
 
+use crate::condition_wishes::Draw;
 use crate::damage::{is_client, is_paired};
 use crate::fields::{fields, flat};
 use crate::groups::{kind, Kind};
@@ -50,6 +51,7 @@ const RIGHTS: [Mask; LAST_REQUEST as usize + 1] = [
     Mask(0),
     Mask::DUPLICATE,
     Mask::QUERY,
+    Mask::QUERY,
 ];
 
 impl Wish<'_> {
@@ -78,21 +80,22 @@ impl Wish<'_> {
             12 => Request::Impersonate { handle: self.again().unwrap_or(handle) },
             16 => self.link(),
             17 => Request::GetLinked { handle },
+            18 => self.evaluate(wanted),
             _ => Request::Revert,
         }
     }
 
     /// A request's number: open without handles, close when slots run out, groups if there are any,
     /// restrict what is restricted, act for what may be acted for, give up what one acts for, link what
-    /// can be linked, get what is linked.
+    /// can be linked, get what is linked, ask for groups if there are any.
     fn kind(&mut self) -> usize {
         let mut weights: [_; RIGHTS.len()] =
-            [0, 16, 6, 10, 14, 14, 14, 8, 12, 14, 14, 20, 5, 2, 0, 0, 4, 4];
+            [0, 16, 6, 10, 14, 14, 14, 8, 12, 14, 14, 20, 5, 2, 0, 0, 4, 4, 6];
         let own = self.own_handles();
         if own.len() < 2 {
             weights[1] = 60;
         }
-        for (kind, more) in [(2, 4), (6, 20), (10, 8), (12, 16), (17, 12)] {
+        for (kind, more) in [(2, 4), (6, 20), (10, 8), (12, 16), (17, 12), (18, 6)] {
             if own.iter().any(|&handle| self.suits(kind, handle)) {
                 weights[kind] += more;
             }
@@ -121,7 +124,7 @@ impl Wish<'_> {
         let Some(token) = self.token(handle) else { return false };
         match kind {
             2 => is_client(self.model, token.number) || is_paired(self.model, token.number),
-            6 | 8 => !token.groups.is_empty(),
+            6 | 8 | 18 => !token.groups.is_empty(),
             9 => token.root != token.number,
             10 => token.is_restricted() || token.write_restricted,
             11 | 16 => token.kind == TokenType::Primary,
@@ -261,6 +264,13 @@ impl Wish<'_> {
             }
             _ => 0,
         }
+    }
+
+    /// A condition on the handle's token.
+    fn evaluate(&mut self, handle: Handle) -> Request {
+        let token = self.model.token(handle.token);
+        let condition = Draw { rng: self.rng, token }.condition(handle.number);
+        Request::Evaluate { handle: handle.number, condition }
     }
 
     fn privilege_entries(&mut self, handle: Handle) -> Vec<(u32, u32)> {

@@ -1,15 +1,27 @@
 //! Every request gets every status that it can get, request 6 meets every kind of group, request 10
 //! every kind of list, tokens of every kind of root are copied, request 12 meets every row of its gate
-//! table, requests 16 and 17 every case of theirs, and the memory always holds the state.
+//! table, requests 16, 17 and 18 every case of theirs, and the memory always holds the state.
 
 use gen::{
-    body, each_seed, fields, flat, near_the_last_numbers, one_seed, state, with_clients,
-    with_copies, with_groups, with_pairs, with_restrictions, Call, Calls, Counts, Rng, Step,
+    body, condition_body, each_seed, fields, flat, near_the_last_numbers, one_seed, state,
+    with_clients, with_conditions, with_copies, with_groups, with_pairs, with_restrictions, Call,
+    Calls, Counts, Rng, Step,
 };
 use model::{framed, Fed, Mask, Model, Request, HANDLES, IMPERSONATE, MIN_BUFFER, STATIONS};
 
 /// Feeds so many requests as whole frames and counts their statuses.
-fn run(seed: u64, mut model: Model, requests: usize, counts: &mut Counts) {
+fn run(seed: u64, model: Model, requests: usize, counts: &mut Counts) {
+    run_of(body, seed, model, requests, counts);
+}
+
+/// The same, with bodies drawn so.
+fn run_of(
+    body: fn(&mut Rng, &Model, usize) -> Vec<u8>,
+    seed: u64,
+    mut model: Model,
+    requests: usize,
+    counts: &mut Counts,
+) {
     let mut rng = Rng::new(seed);
     for step in 0..requests {
         let station = rng.below(STATIONS);
@@ -111,7 +123,7 @@ fn every_kind_of_group() {
 #[test]
 fn every_restriction() {
     let mut counts = Counts::default();
-    for seed in 4000..4600 {
+    for seed in 4000..4800 {
         run(seed, with_restrictions(), 100, &mut counts);
     }
     println!("with restrictions:\n{counts}");
@@ -161,6 +173,19 @@ fn every_case_of_linking() {
     if one_seed().is_none() {
         counts.check_links(10);
         counts.check_partners(10);
+    }
+}
+
+#[test]
+fn every_case_of_conditions() {
+    let mut counts = Counts::default();
+    each_seed(15_000..17_000, |seed, rng| {
+        let first = if seed % 3 == 0 { state(rng) } else { with_conditions(rng) };
+        run_of(condition_body, seed, first, 30, &mut counts);
+    });
+    println!("conditions:\n{counts}");
+    if one_seed().is_none() {
+        counts.check_conditions(20);
     }
 }
 

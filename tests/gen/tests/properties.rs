@@ -153,7 +153,7 @@ fn check_counts<C: Ord + Debug>(seen: &BTreeMap<C, usize>, cases: impl IntoItera
 #[test]
 fn a_copy_of_a_restricted_token_is_restricted_by_nothing_that_its_source_lacked() {
     let seen = RefCell::new(BTreeMap::new());
-    run_all(|step| {
+    let check = |step: &Step| {
         let Some((request, source, copy)) = copied(step) else { return };
         let is_anonymous = copy.kind == TokenType::Impersonation && copy.level == Level::Anonymous;
         let by = match request {
@@ -170,7 +170,9 @@ fn a_copy_of_a_restricted_token_is_restricted_by_nothing_that_its_source_lacked(
             assert_eq!(copy.write_restricted, source.write_restricted, "{:?}", step.call);
             *seen.borrow_mut().entry(by).or_insert(0) += 1;
         }
-    });
+    };
+    run_all(check);
+    each_seed(6000..6400, |seed, rng| run(seed, state(rng), 200, check));
     check_counts(&seen.borrow(), ["duplicate", "restrict by none", "restrict", "clone"]);
 }
 

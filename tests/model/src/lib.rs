@@ -6,6 +6,7 @@
 
 mod adjust;
 mod clients;
+mod condition;
 mod feed;
 mod frame;
 mod layout;
@@ -28,6 +29,7 @@ mod token;
 mod tokens;
 mod valid;
 
+pub use condition::{Condition, MAX_DEPTH};
 pub use feed::{Fed, MIN_BUFFER};
 pub use frame::{framed, MAX_BODY, MAX_LENGTH_BYTES};
 pub use layout::{

@@ -4,7 +4,8 @@
 /// refuse a whole call. A request gets the first of 1 to 7, 14, 8, 9 that applies.
 #[derive(Clone, Copy, Debug, PartialEq, Eq)]
 pub enum Refusal {
-    /// Unknown request, or a body not in its layout, or bytes left.
+    /// Unknown request, or a body not in its layout, or bytes left; so also a condition of unknown kind
+    /// or too deep.
     Layout,
     /// The handle is not a live one of this station.
     Handle,
@@ -13,8 +14,8 @@ pub enum Refusal {
     /// The privilege is not held.
     Privilege,
     /// A bad field or entry, an unknown class, installing a non-primary token, acting for a primary
-    /// one, restricting a restricted one to none of its SIDs, or to write-restricted where it is not, or
-    /// linking tokens that can't be a pair.
+    /// one, restricting a restricted one to none of its SIDs, or to write-restricted where it is not,
+    /// linking tokens that can't be a pair, or an unknown privilege anywhere in a condition.
     Field,
     /// A mandatory, deny-only or logon group, or disabling one with the user's SID.
     Protected,

@@ -1,5 +1,6 @@
 //! The requests and their layouts.
 
+use crate::condition::Condition;
 use crate::number::Reader;
 
 /// The index in a default request that asks for no change.
@@ -16,7 +17,7 @@ pub const RESET_PRIVILEGES: (u32, u32) = (0, 0x8000_0000);
 pub const RESET_GROUPS: (u32, u32) = (0xFFFF_FFFF, 0);
 
 /// The number of the last request; the first is 1.
-pub const LAST_REQUEST: u32 = 17;
+pub const LAST_REQUEST: u32 = 18;
 /// Numbers below it that no request has yet.
 pub const UNUSED_REQUESTS: [u32; 2] = [14, 15];
 
@@ -61,6 +62,8 @@ pub enum Request {
     Link { elevated: u32, filtered: u32, session: u64 },
     /// 17: a handle on the other of a pair, or on a clone of it.
     GetLinked { handle: u32 },
+    /// 18: whether a token meets a condition.
+    Evaluate { handle: u32, condition: Condition },
 }
 
 impl Request {
@@ -101,6 +104,7 @@ impl Request {
                 session: reader.u64()?,
             },
             17 => Request::GetLinked { handle: reader.u32()? },
+            18 => Self::read_evaluate(reader)?,
             _ => return None,
         })
     }
@@ -128,6 +132,11 @@ impl Request {
         let (deny_count, sid_count) = (reader.u32()?, reader.u32()?);
         let (deny, sids) = (reader.list(deny_count)?, reader.list(sid_count)?);
         Some(Request::Restrict { handle, write_restricted, remove, deny, sids })
+    }
+
+    fn read_evaluate(reader: &mut Reader) -> Option<Request> {
+        let (handle, condition) = (reader.u32()?, Condition::read(reader)?);
+        Some(Request::Evaluate { handle, condition })
     }
 }
 

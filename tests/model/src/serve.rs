@@ -4,6 +4,7 @@ use crate::number::write_number;
 use crate::refusal::Refusal;
 use crate::request::Request;
 use crate::state::{Client, Model};
+use crate::token::Level;
 
 impl Model {
     /// Serves the body of one frame and gives the answer's body.
@@ -42,14 +43,15 @@ impl Model {
                 self.restrict(station, handle, write_restricted, remove, &deny, &sids).map(number)
             }
             Request::Install { handle } => self.install(station, handle).map(nothing),
-            Request::Impersonate { handle } => {
-                self.impersonate(station, handle).map(|level| number(level as u32))
-            }
+            Request::Impersonate { handle } => self.impersonate(station, handle).map(level),
             Request::Revert => Ok(given_up(self.revert(station))),
             Request::Link { elevated, filtered, session } => {
                 self.link(station, elevated, filtered, session).map(nothing)
             }
             Request::GetLinked { handle } => self.get_linked(station, handle).map(number),
+            Request::Evaluate { handle, condition } => {
+                self.evaluate(station, handle, &condition).map(truth)
+            }
         }
     }
 }
@@ -67,6 +69,14 @@ fn number(number: u32) -> Vec<u8> {
     let mut fields = Vec::new();
     write_number(number.into(), &mut fields);
     fields
+}
+
+fn level(level: Level) -> Vec<u8> {
+    number(level as u32)
+}
+
+fn truth(is_met: bool) -> Vec<u8> {
+    number(is_met.into())
 }
 
 /// The token's number and the level in force, 0 and 0 if there was no client.

@@ -127,6 +127,16 @@ pub mod right {
     pub const ALL: u32 = 0x1EF;
 }
 
+/// Kinds of conditions, which a byte holds; and how deep one may be.
+pub mod condition {
+    pub const ALL_OF: u8 = 1;
+    pub const ANY_OF: u8 = 2;
+    pub const NEGATED: u8 = 3;
+    pub const PRIVILEGE: u8 = 4;
+    pub const GROUP: u8 = 5;
+}
+pub const MAX_DEPTH: usize = 8;
+
 /// What asks for no change, and the single pairs that reset.
 pub const NO_CHANGE: u16 = 0xFFFF;
 pub const RESET_PRIVILEGES: (u32, u32) = (0, 0x8000_0000);

@@ -2,6 +2,7 @@
 //! tests all lent memory, then serves in place. It copies no more than it must and allocates nothing.
 
 mod acting;
+mod conditions;
 mod copies;
 mod groups;
 mod layout;
@@ -11,6 +12,7 @@ mod reader;
 mod records;
 mod reports;
 mod requests;
+mod sids;
 mod stream;
 mod valid;
 

@@ -91,6 +91,12 @@ impl<'a> Reader<'a> {
         }
     }
 
+    /// The bytes not yet read; refusal 1 if something was not in its layout.
+    pub fn rest(&self) -> Result<&'a [u8], Refused> {
+        refuse(1, !self.bad)?;
+        Ok(self.bytes)
+    }
+
     /// Refusal 1 unless all was read and nothing is left.
     pub fn end(&self) -> Result<(), Refused> {
         refuse(1, !self.bad && self.bytes.is_empty())

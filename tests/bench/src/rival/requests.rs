@@ -46,6 +46,7 @@ impl Memory<'_> {
             13 => self.revert(station, reader, out),
             16 => self.link(station, reader),
             17 => self.get_linked(station, reader, out),
+            18 => self.evaluate(station, reader, out),
             _ => refuse(1, false),
         }
     }

@@ -1,6 +1,6 @@
 //! The comparison on as many seeds as asked: `long_run SEEDS [FIRST]`.
 
-use compare::{damages, lists, program, Lent};
+use compare::{conditions, damages, lists, program, Lent};
 use gen::{check_cuts, each_seed, Counts};
 use model::Model;
 
@@ -13,6 +13,8 @@ fn main() {
     let mut counts = Counts::default();
     lists::compare::<Lent>(part(1), &mut counts);
     println!("{} lists of {} calls\n{counts}", seeds, lists::CALLS);
+    conditions::compare_random::<Lent>(part(1), &mut Counts::default());
+    println!("{} lists of {} requests, most of them conditions", seeds, lists::FEW_CALLS);
     let valid = damages::compare_poked::<Lent>(part(1));
     println!("{seeds} changed memories, {valid} of them still valid");
     each_seed(part(4), |seed, _| check_cuts::<Lent>(seed, &Model::start(), lists::CALLS));

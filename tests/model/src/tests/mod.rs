@@ -3,6 +3,7 @@
 mod calls;
 mod cases;
 mod clients;
+mod conditions;
 mod copies;
 mod create;
 mod defaults;
