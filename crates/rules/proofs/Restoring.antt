@@ -4,7 +4,7 @@ use Prim.Native.Nat.{ℕ, _≤_}
 use native.Mathlib.Omega.{arith}
 use mathlib.Core.Path.{_≡_, refl, sym, ap, _∙_, subst}
 use mathlib.Core.Bool.{true, false, _||_}
-use mathlib.Core.Logic.{_⊎_, inl, inr, ⊎-elim}
+use mathlib.Core.Logic.{inl, inr, ⊎-elim}
 use mathlib.Core.List.{List, [], _∷_, _++_, map}
 use lib.Bits.{and-le-l}
 use lib.Dec.{eqb}
@@ -13,6 +13,7 @@ use Rattle.rules.specs.AdjustDefaults as AdjustDefaults
 use Rattle.rules.specs.AdjustGroups as AdjustGroups
 use Rattle.rules.specs.AdjustPrivileges.{isReset, validEntry, adjusted, named, previous, report, adjustedToken, adjust}
 use Rattle.rules.specs.AdjustScope as AdjustScope
+use Rattle.rules.specs.Basic.{distinct}
 use Rattle.rules.specs.Bits.{within}
 use Rattle.rules.specs.Decision.{carriedOut, withHandle, Served}
 use Rattle.rules.specs.Entry.{validEntries, Entry}
@@ -24,11 +25,11 @@ use Rattle.rules.specs.Number.{got, encode, encodeAll, readNumber, max64
 use Rattle.rules.specs.Privileges.{existing, markUsed}
 use Rattle.rules.specs.Request as Request
 use Rattle.rules.specs.Request.{follow, _>>=_, end, u32, u64, parse, Request}
-use Rattle.rules.specs.Restore.{butUsed, Asks, Adjusts, PrivilegesKept, reportLayout, wordOf, wasEnabled, undoing, putBack, Switches, Restores, PutsBack, CanPutBack}
+use Rattle.rules.specs.Restore.{butUsed, Asks, Adjusts, PrivilegesKept, reportLayout, wordOf, wasEnabled, undoing, putBack, Reordered, Switches, Restores, PutsBack, CanPutBack}
 use Rattle.rules.specs.Run.{Serving, servedBy, Outcome, serves, breaks, OneByOne}
 use Rattle.rules.specs.Serve.{rule, decided, decision, serve}
 use Rattle.rules.specs.State.{State, tokenOf, changeToken, usedOn, findHandle, handleOf}
-use Rattle.rules.specs.Table.{isLive, orElse, live}
+use Rattle.rules.specs.Table.{isLive, orElse}
 use Rattle.rules.specs.Token.{Token, withPrivileges, withGroups, withDefaults, withElevation, withScope, nextModified}
 use Rattle.rules.proofs.Logic.{not-both, either, mem-left, mem-right}
 use Rattle.rules.proofs.Bits.{within-trans, within-le}
@@ -43,7 +44,7 @@ use Rattle.rules.proofs.Ladder.{ladder, none-fails}
 use Rattle.rules.proofs.Always.{Onward}
 use Rattle.rules.proofs.Carrying.{Lasting, Or, or-lasting, Allowed, served-carries, served-alike}
 use Rattle.rules.proofs.Bound.{found-here, token-here}
-use Rattle.rules.proofs.Undoing.{not-reset, Good, good, undone}
+use Rattle.rules.proofs.Undoing.{not-reset, Good, good, undoing-keys, undone}
 use Rattle.rules.proofs.Sending.{can-send}
 
 -- ---- request 5, served
@@ -176,9 +177,14 @@ module _ (x : Serving) (n : ℕ) (es : List Entry) (o : Onward x) (a : Switches 
   fit : Good (tokenOf (x .before) n .privileges) es
   fit = good _ es (a .only) (may x n es o (a .asks) (a .succeeds))
 
+-- the request's own order is one
+pub own-order : (x : Serving) (n : ℕ) (es : List Entry) → Onward x → Switches x n es → Reordered (putBack es (servedBy x .answer)) (putBack es (servedBy x .answer))
+unfolding putBack
+own-order x n es o a = record { only = λ e m. m; each = λ e m. m; once = ap distinct (undoing-keys (wasEnabled (servedBy x .answer)) es) ∙ fit x n es o a .apart }
+
 pub can-put-back : (x : Serving) → Onward x → CanPutBack x
 unfolding CanPutBack putBack
-can-put-back x o n es a h in32 = can-send (wasEnabled (servedBy x .answer)) (tokenOf (x .before) n .privileges) es (fit x n es o a) h in32
+can-put-back x o n es fs a r h in32 = can-send (wasEnabled (servedBy x .answer)) (tokenOf (x .before) n .privileges) es fs (fit x n es o a) r h in32
 
 -- ---- from one body to a later one
 
@@ -189,18 +195,17 @@ Stays n = Or (Words n) ⊥
 stays : (n : ℕ) → Lasting (Stays n)
 stays n = or-lasting (Words n) ⊥ (words-last n)
 
-restores : (x y : Serving) (n : ℕ) (es : List Entry) → Onward x → Onward y → Switches x n es → Carries (Stays n) (servedBy x .state .tokens) (y .before .tokens)
-    → Asks y n (putBack es (servedBy x .answer)) → Restores x y n
+restores : (x y : Serving) (n : ℕ) (es fs : List Entry) → Onward x → Onward y → Switches x n es → Carries (Stays n) (servedBy x .state .tokens) (y .before .tokens)
+    → Reordered (putBack es (servedBy x .answer)) fs → Asks y n fs → Restores x y n
 unfolding Live Or Words
-restores x y n es ox oy a kept b =
+restores x y n es fs ox oy a kept order b =
     let p = tokenOf (x .before) n .privileges in
     let q = tokenOf (y .before) n .privileges in
     let e = first x n es ox a in
     let k = carried-token (Stays n) (servedBy x .state) (y .before) n (ox .step .facts) kept (e .is) (asked y n _ oy b) in
     let now : butUsed q ≡ butUsed (adjusted es p) = ⊎-elim (λ w. w (e .is .number) .1 ∙ ap butUsed (e .privileges)) (λ z. absurd z) k in
-    let back = undone es p q (a .only) (fit x n es ox a) (asked-sound x n es ox (a .asks) .enabled) now in
-    let c : Asks y n (map (undoing (previous es (p .enabled))) es) = subst (Asks y n) (entries x n es ox a) b in
-    let l = done y n _ oy c (back .valid) in
+    let back = undone es fs p q (a .only) (fit x n es ox a) (subst (λ (gs : List Entry). Reordered gs fs) (entries x n es ox a) order) (asked-sound x n es ox (a .asks) .enabled) now in
+    let l = done y n fs oy b (back .valid) in
     record { succeeds = l .succeeds; live = l .is .was; words = ap butUsed (l .privileges) ∙ back .words }
 
 -- what begins after the first outcomes
@@ -223,9 +228,9 @@ between n (serves z ∷ zs) later y d e h o =
 
 pub puts-back : (os : List Outcome) (d e : State) → ((z : Serving) → Mem (serves z) os → Onward z) → OneByOne d os e → PutsBack os
 unfolding PutsBack OneByOne
-puts-back os d e onward o earlier mid later x y n es split a none b =
+puts-back os d e onward o earlier mid later x y n es fs split a none order b =
     let rest = mid ++ (serves y ∷ later) in
     let known : (z : Serving) → Mem (serves z) (earlier ++ (serves x ∷ rest)) → Onward z = λ z m. onward z (rw split m) in
     let r = beyond earlier (serves x ∷ rest) d e (rw split at o) in
     let kept = between n mid later y (servedBy x .state) e (λ z m. (known z (mem-right earlier (there (mem-left (serves y ∷ later) m))), none z m)) (r .1 .1) in
-    restores x y n es (known x (mem-right earlier (here refl))) (known y (mem-right earlier (there (mem-right mid (here refl))))) a kept b
+    restores x y n es fs (known x (mem-right earlier (here refl))) (known y (mem-right earlier (there (mem-right mid (here refl))))) a kept order b

@@ -16,7 +16,7 @@ use Rattle.rules.specs.Number.{got, encode, encodeAll, max32}
 use Rattle.rules.specs.Privileges.{exists, Privileges}
 use Rattle.rules.specs.Request as Request
 use Rattle.rules.specs.Request.{follow, _>>=_, give, end, times, u32, entry, entriesLayout, layouts, parse}
-use Rattle.rules.specs.Restore.{undoing, pairs, written, CanSend}
+use Rattle.rules.specs.Restore.{undoing, Reordered, pairs, written, CanSend}
 use Rattle.rules.proofs.Logic.{and-l, and-r, all-mem, mem-map, few}
 use Rattle.rules.proofs.Numbers.{encode-some, read-encode, all-bytes}
 use Rattle.rules.proofs.Tables.{on-if}
@@ -74,23 +74,22 @@ exists-high : (n : ℕ) → exists n ≡ true → n < 37
 unfolding exists
 exists-high n h = omega (arith, leb-true n 36 (and-r (leb 2 n) (leb n 36) h))
 
-module _ (w : ℕ) (p : Privileges) (es : List Entry) (g : Good p es) where
+module _ (w : ℕ) (p : Privileges) (es fs : List Entry) (g : Good p es) (order : Reordered (map (undoing w) es) fs) where
   high : (e : Entry) → Mem e es → e .key < 37
   unfolding validEntry
   high e m = exists-high (e .key) (and-l (exists (e .key)) _ (all-mem (validEntry p) es (g .each) m))
 
-  at-most-37 : length es ≤ 37
-  unfolding keyOf
-  at-most-37 =
-      let keys : (n : ℕ) → Mem n (map keyOf es) → n < 37 = λ n m. let r = mem-map keyOf es m in rw (r .2) (high (r .0) (r .1)) in
-      omega (arith, few 37 (map keyOf es) (g .apart) keys, length-map es keyOf)
-
-  small : Small (map (undoing w) es)
+  small : (f : Entry) → Mem f fs → (f .key < 37) × (f .value ≤ 2)
   unfolding undoing
   small f m =
-      let r = mem-map (undoing w) es m in
-      let k = high (r .0) (r .1) in
-      rw (r .2) (omega arith, on-if (λ (v : ℕ). v ≤ max32) (has (r .0 .key) w) _ _ (λ t. omega arith) (λ t. omega arith))
+      let r = mem-map (undoing w) es (order .only f m) in
+      rw (r .2) (high (r .0) (r .1), on-if (λ (v : ℕ). v ≤ 2) (has (r .0 .key) w) _ _ (λ t. omega arith) (λ t. omega arith))
 
-  pub can-send : (h : ℕ) → h ≤ max32 → CanSend h (map (undoing w) es)
-  can-send h in32 = sends h (map (undoing w) es) in32 (omega (arith, at-most-37, length-map es (undoing w))) small
+  at-most-37 : length fs ≤ 37
+  unfolding keyOf
+  at-most-37 =
+      let keys : (n : ℕ) → Mem n (map keyOf fs) → n < 37 = λ n m. let r = mem-map keyOf fs m in rw (r .2) (small (r .0) (r .1) .0) in
+      omega (arith, few 37 (map keyOf fs) (order .once) keys, length-map fs keyOf)
+
+  pub can-send : (h : ℕ) → h ≤ max32 → CanSend h fs
+  can-send h in32 = sends h fs in32 at-most-37 (λ f m. let k = small f m in (omega (arith, k .0), omega (arith, k .1)))

@@ -14,8 +14,8 @@ use Rattle.rules.specs.Bits.{has, within}
 use Rattle.rules.specs.Entry.{keyOf, isOnly, validEntries, applyAll, Entry}
 use Rattle.rules.specs.Growth.{Mem, here, there}
 use Rattle.rules.specs.Privileges.{exists, enable, disable, Privileges}
-use Rattle.rules.specs.Restore.{butUsed, switches, undoing}
-use Rattle.rules.proofs.Logic.{and-l, and-r, and-i, or-r, not-both, either, all-mem, mem-all, map-mem, mem-map, member-mem, mem-member, distinct-head, distinct-tail}
+use Rattle.rules.specs.Restore.{butUsed, switches, undoing, Reordered}
+use Rattle.rules.proofs.Logic.{and-l, and-r, and-i, or-r, not-both, either, all-mem, mem-all, map-mem, mem-map, mem-none, member-mem, mem-member, distinct-head, distinct-tail}
 use Rattle.rules.proofs.Bits.{has-and, has-or, has-none, has-power, or-same, without-same, without-none, same-bits, within-has, and-power}
 use Rattle.rules.proofs.Tables.{on-if}
 
@@ -112,15 +112,17 @@ module _ (w : ℕ) where
   undoing-switches [] = refl
   undoing-switches (e ∷ es) = and-i (on-if (λ (v : ℕ). switches (record { key = e .key; value = v }) ≡ true) (has (e .key) w) _ _ (λ t. refl) (λ t. refl)) (undoing-switches es)
 
-  undoing-keys : (es : List Entry) → map keyOf (map (undoing w) es) ≡ map keyOf es
+  pub undoing-keys : (es : List Entry) → map keyOf (map (undoing w) es) ≡ map keyOf es
   unfolding keyOf undoing
   undoing-keys [] = refl
   undoing-keys (e ∷ es) = ap (λ (ks : List ℕ). e .key ∷ ks) (undoing-keys es)
 
-  undoing-some : (es : List Entry) → not (isEmpty es) ≡ true → not (isEmpty (map (undoing w) es)) ≡ true
+  -- where there is an entry, there is one in any order
+  undoing-some : (es fs : List Entry) → not (isEmpty es) ≡ true → ((e : Entry) → Mem e (map (undoing w) es) → Mem e fs) → not (isEmpty fs) ≡ true
   unfolding isEmpty
-  undoing-some [] h = h
-  undoing-some (e ∷ es) h = refl
+  undoing-some [] fs h k = absurd (not-both h refl)
+  undoing-some (e ∷ es) [] h k = absurd (mem-none (k (undoing w e) (here refl)))
+  undoing-some (e ∷ es) (f ∷ fs) h k = refl
 
   undoing-value : (e : Entry) → eqb (undoing w e .value) 2 ≡ has (e .key) w
   unfolding undoing
@@ -145,17 +147,14 @@ pub record Undone (fs : List Entry) (p q : Privileges) : Type 0 where
   pub valid : (isReset fs || validEntries (validEntry q) fs) ≡ true
   pub words : butUsed (adjusted fs q) ≡ butUsed p
 
-module _ (es : List Entry) (p q : Privileges) (s : all switches es ≡ true) (g : Good p es)
+module _ (es fs : List Entry) (p q : Privileges) (s : all switches es ≡ true) (g : Good p es) (order : Reordered (map (undoing (previous es (p .enabled))) es) fs)
     (inside : within (p .enabled) (p .present) ≡ true) (now : butUsed q ≡ butUsed (adjusted es p)) where
   w : ℕ
   w = previous es (p .enabled)
 
-  fs : List Entry
-  fs = map (undoing w) es
-
   fs-switch : all switches fs ≡ true
-  unfolding fs
-  fs-switch = undoing-switches w es
+  unfolding w
+  fs-switch = mem-all switches fs (λ f m. all-mem switches (map (undoing w) es) (undoing-switches w es) (order .only f m))
 
   was : (q .present ≡ applyAll applied es p .present) × (q .enabled ≡ applyAll applied es p .enabled) × (q .byDefault ≡ applyAll applied es p .byDefault)
   was = words-same q (applyAll applied es p) (now ∙ ap butUsed (plain es p s))
@@ -168,24 +167,20 @@ module _ (es : List Entry) (p q : Privileges) (s : all switches es ≡ true) (g 
   in-word k = rw (not-reset es s) (has-and k (p .enabled) (named es) ∙ ap (λ (b : Bool). has k (p .enabled) && b) (has-named es (g .apart) k))
 
   fits : (e : Entry) → Mem e fs → validEntry q e ≡ true
-  unfolding fs
+  unfolding w
   fits f m =
-      let r = mem-map (undoing w) es m in
+      let r = mem-map (undoing w) es (order .only f m) in
       let k = r .0 .key in
       ap (validEntry q) (r .2)
       ∙ undoing-valid w p q (r .0) (all-mem (validEntry p) es (g .each) (r .1))
       (λ t. ap (has k) present ∙ within-has (p .enabled) (p .present) inside k (and-l (has k (p .enabled)) _ (sym (in-word k) ∙ t)))
 
-  apart : distinct (map keyOf fs) ≡ true
-  unfolding fs
-  apart = ap distinct (undoing-keys w es) ∙ g .apart
-
   valid : validEntries (validEntry q) fs ≡ true
-  unfolding validEntries fs
-  valid = and-i (and-i (undoing-some w es (g .some)) (mem-all (validEntry q) fs fits)) apart
+  unfolding validEntries w
+  valid = and-i (and-i (undoing-some w es fs (g .some) (order .each)) (mem-all (validEntry q) fs fits)) (order .once)
 
   bit-back : (k : ℕ) → has k (applyAll applied fs q .enabled) ≡ has k (p .enabled)
-  unfolding fs keyOf undoing
+  unfolding keyOf undoing w
   bit-back k = ⊎-elim at-named at-other (either (member k (map keyOf es)))
     where
       at-named : member k (map keyOf es) ≡ true → has k (applyAll applied fs q .enabled) ≡ has k (p .enabled)
@@ -193,16 +188,15 @@ module _ (es : List Entry) (p q : Privileges) (s : all switches es ≡ true) (g 
           let r = mem-map keyOf es (member-mem k (map keyOf es) t) in
           let e = r .0 in
           ap (λ (i : ℕ). has i (applyAll applied fs q .enabled)) (r .2)
-          ∙ as-asked (undoing w e) fs q fs-switch apart (map-mem (undoing w) (r .1))
+          ∙ as-asked (undoing w e) fs q fs-switch (order .once) (order .each _ (map-mem (undoing w) (r .1)))
           ∙ undoing-value w e ∙ ap (λ (i : ℕ). has i w) (sym (r .2)) ∙ in-word k ∙ ap (λ (b : Bool). has k (p .enabled) && b) t ∙ and-true (has k (p .enabled))
 
       at-other : member k (map keyOf es) ≡ false → has k (applyAll applied fs q .enabled) ≡ has k (p .enabled)
       at-other t =
-          unnamed k fs q fs-switch (λ m. not-both (mem-member (subst (Mem k) (undoing-keys w es) m)) t)
+          unnamed k fs q fs-switch (λ m. let r = mem-map keyOf fs m in not-both (mem-member (subst (Mem k) (undoing-keys w es) (rw (r .2) (map-mem keyOf (order .only (r .0) (r .1)))))) t)
           ∙ ap (has k) (was .1) ∙ unnamed k es p s (λ m. not-both (mem-member m) t)
 
-  pub undone : Undone (map (undoing (previous es (p .enabled))) es) p q
-  unfolding fs w
+  pub undone : Undone fs p q
   undone =
       let stay = others-stay fs q fs-switch in
       record {

@@ -7,7 +7,7 @@ use mathlib.Core.Logic.{_⊎_}
 use mathlib.Core.List.{List, [], _∷_, _++_, map}
 use lib.Dec.{eqb}
 use lib.ListN.{length}
-use Rattle.rules.specs.Basic.{if_then_else_, all}
+use Rattle.rules.specs.Basic.{if_then_else_, all, distinct}
 use Rattle.rules.specs.Number.{Read, got, bad, encodeAll, max32}
 use Rattle.rules.specs.Bits.{has}
 use Rattle.rules.specs.Mask.{permits, adjustPrivileges}
@@ -16,7 +16,7 @@ use Rattle.rules.specs.Token.{Token}
 use Rattle.rules.specs.Table.{live}
 use Rattle.rules.specs.Handle.{Handle}
 use Rattle.rules.specs.State.{tokenOf, findHandle}
-use Rattle.rules.specs.Entry.{Entry}
+use Rattle.rules.specs.Entry.{Entry, keyOf}
 use Rattle.rules.specs.Frame.{maxBody}
 use Rattle.rules.specs.Valid.{isByte}
 use Rattle.rules.specs.Request as Request
@@ -75,9 +75,15 @@ wasEnabled answer = wordOf (reportLayout answer)
 unfoldable pub undoing : ℕ → Entry → Entry
 undoing w e = record { key = e.key; value = if has e.key w then 2 else 0 }
 
--- one entry for each privilege that the request named
+-- one entry for each privilege that the request named, in its order
 unfoldable pub putBack : List Entry → List ℕ → List Entry
 putBack es answer = map (undoing (wasEnabled answer)) es
+
+-- the same entries, each once, in any order
+pub record Reordered (es fs : List Entry) : Type 0 where
+  pub only : (e : Entry) → Mem e fs → Mem e es
+  pub each : (e : Entry) → Mem e es → Mem e fs
+  pub once : distinct (map keyOf fs) ≡ true
 
 -- ---- the request that has them
 
@@ -114,16 +120,19 @@ pub record Restores (x y : Serving) (n : ℕ) : Type 0 where
   pub live : Live (tokenOf (servedBy y .state) n) (servedBy y .state)
   pub words : butUsed (tokenOf (servedBy y .state) n .privileges) ≡ butUsed (tokenOf (x .before) n .privileges)
 
--- y asks on token n for the entries made from x's answer, by any live handle of any station that has the right, and between them no success of 5 was on token n
+-- y asks on token n for the entries made from x's answer, in any order, by any live handle of any station that has the right, and between them no
+-- success of 5 was on token n
 unfoldable pub PutsBack : List Outcome → Type 0
 PutsBack os =
-    (earlier between later : List Outcome) (x y : Serving) (n : ℕ) (es : List Entry)
+    (earlier between later : List Outcome) (x y : Serving) (n : ℕ) (es fs : List Entry)
     → os ≡ earlier ++ (serves x ∷ (between ++ (serves y ∷ later)))
     → Switches x n es
     → ((z : Serving) → Mem (serves z) between → Adjusts z n → ⊥)
-    → Asks y n (putBack es (servedBy x .answer))
+    → Reordered (putBack es (servedBy x .answer)) fs
+    → Asks y n fs
     → Restores x y n
 
 -- and these entries can always be sent, by a handle of any number
 unfoldable pub CanPutBack : Serving → Type 0
-CanPutBack x = (n : ℕ) (es : List Entry) → Switches x n es → (h : ℕ) → h ≤ max32 → CanSend h (putBack es (servedBy x .answer))
+CanPutBack x =
+    (n : ℕ) (es fs : List Entry) → Switches x n es → Reordered (putBack es (servedBy x .answer)) fs → (h : ℕ) → h ≤ max32 → CanSend h fs

@@ -67,7 +67,7 @@ pub enum RestoreError {
     Refused(Refusal),
     /// It was a reset: it names no privilege, and its report is of them all.
     Reset,
-    /// It removed this privilege, the first such one: no request gives it back.
+    /// It was to remove this privilege, the first such one: no request gives one back.
     Removal(u32),
 }
 
@@ -84,7 +84,7 @@ impl Restore {
         let entries = read_request(request).ok_or(RestoreError::Request)?;
         let named = named_by(&entries)?;
         let previous = PreviousPrivileges::read(fields).ok_or(RestoreError::Report)?;
-        if previous.present & !named != 0 || previous.enabled & !previous.present != 0 {
+        if !is_report(&entries, named, previous) {
             return Err(RestoreError::Report); // of another request
         }
         let undoing = |[privilege, _]: Entry| [privilege, before(previous, privilege)];
@@ -101,6 +101,14 @@ impl Restore {
         numbers.for_each(|&number| number::write(number.into(), &mut body));
         frame::of(&body)
     }
+}
+
+/// Whether a success of these entries may report so: of what they name, with nothing enabled that was
+/// absent, before it or by it.
+fn is_report(entries: &[Entry], named: u64, previous: PreviousPrivileges) -> bool {
+    let PreviousPrivileges { present, enabled, .. } = previous;
+    let was_there = |entry: &Entry| entry[1] != action::ENABLE || has_bit(present, entry[0]);
+    present & !named == 0 && enabled & !present == 0 && entries.iter().all(was_there)
 }
 
 /// What makes a privilege as it was.
@@ -166,7 +174,7 @@ impl fmt::Display for RestoreError {
             }
             RestoreError::Reset => f.write_str("it was a reset, which names no privilege"),
             RestoreError::Removal(privilege) => {
-                write!(f, "it removed privilege {privilege}, which no request gives back")
+                write!(f, "it was to remove privilege {privilege}, and no request gives one back")
             }
         }
     }
@@ -237,6 +245,9 @@ mod tests {
             let restore = Restore::new(&DISABLE_TCB, answer);
             assert_eq!(restore, Err(RestoreError::Report), "{answer:?}");
         }
+        let enable_tcb = [5, 5, 1, 1, 7, 2];
+        let was_absent = [3, 0, 0, 0]; // an absent one is not enabled
+        assert_eq!(Restore::new(&enable_tcb, &was_absent), Err(RestoreError::Report));
     }
 
     #[test]
@@ -255,7 +266,7 @@ mod tests {
         ];
         let expected = [
             "it was a reset, which names no privilege",
-            "it removed privilege 7, which no request gives back",
+            "it was to remove privilege 7, and no request gives one back",
             "the request changed nothing: refused 3: the handle lacks the right",
             "the answer is not the request's report",
             "it is no whole request 5 that may succeed",

@@ -60,7 +60,7 @@ fn why(station: u32, error: RestoreError) -> String {
     let error = match error {
         RestoreError::Removal(privilege) => {
             let name = vocabulary::privilege_text(privilege.into());
-            format!("it removed {name}, which no request gives back")
+            format!("it was to remove {name}, and no request gives one back")
         }
         error => error.to_string(),
     };
@@ -116,7 +116,7 @@ mod tests {
         );
         assert_eq!(
             message(&[OPEN, DISABLE, REMOVE]),
-            "station 0's last report restores nothing: it removed SeTcbPrivilege 7, which no request gives back"
+            "station 0's last report restores nothing: it was to remove SeTcbPrivilege 7, and no request gives one back"
         );
     }
 }

@@ -103,7 +103,7 @@ fn restore_sends_nothing_where_no_report_can_be_put_back() {
     let output = talk(&["--hex"], &lines.join("\n"));
     let sent = text(&output.stdout).lines().filter(|line| line.contains(" > ")).count();
     assert_eq!(sent, 4); // all but the five that restore
-    let removal = "it removed SeShutdownPrivilege 19, which no request gives back";
+    let removal = "it was to remove SeShutdownPrivilege 19, and no request gives one back";
     let reset = "it was a reset, which names no privilege";
     let expected = [
         "-:2:4: station 0 has no report to restore".to_string(),
