@@ -257,6 +257,13 @@ enum obriska_refusal {
 #define OBRISKA_GROUP_DENY_ONLY 0x10u
 #define OBRISKA_GROUP_LOGON_ID 0xC0000000u
 
+/* A request 5 that only enabled (2) and disabled (0) is put back by its report: by request 5 with an entry
+ * for each privilege that it named, 2 where the report's second word has the privilege's bit, else 0. As
+ * long as no other success of 5 was on the token, of whatever station, that succeeds on any live handle of
+ * the token that has OBRISKA_RIGHT_ADJUST_PRIVILEGES, sent by the handle's station; the token's present,
+ * enabled and default words are then those before. Which privileges it has used stays. After a removal (4)
+ * or a reset it is not so: docs/RESTORE.md says why, and has a worked example. */
+
 /* A token's root is the number of the started or created token that it descends from, which may be
  * gone; its own number for those. It never changes. An anonymous copy (impersonation at level 0) has
  * none, and so has all that is made from one, a primary token too. */

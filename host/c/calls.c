@@ -359,6 +359,50 @@ static void start_with_a_handle(void)
     EXPECT(is(feed(0, open_own, sizeof open_own), 0, 3, 3));
 }
 
+/* Whether token 1 has the present, enabled and default words that it had before. */
+static int as_before(void)
+{
+    const size_t words = OBRISKA_TOKEN_DEFAULT - OBRISKA_TOKEN_PRESENT + 1;
+    const uint64_t *now = &memory.tokens[OBRISKA_TOKEN_PRESENT];
+    return memcmp(now, &before.tokens[OBRISKA_TOKEN_PRESENT], words * sizeof *now) == 0;
+}
+
+/* docs/RESTORE.md: Shutdown is enabled and Tcb disabled, and then both are as they were. */
+static void request_5_is_put_back_by_its_report(void)
+{
+    static const uint8_t disable_shutdown[] = {0x05, 0x05, 0x01, 0x01, 0x13, 0x00};
+    static const uint8_t change[] = {0x07, 0x05, 0x01, 0x02, 0x13, 0x02, 0x07, 0x00};
+    static const uint8_t report[] = {0x06, 0x00, 0x80, 0x81, 0x20, 0x80, 0x01};
+    static const uint8_t put_back[] = {0x07, 0x05, 0x01, 0x02, 0x13, 0x00, 0x07, 0x02};
+    static const uint8_t by_handle_2[] = {0x07, 0x05, 0x02, 0x02, 0x13, 0x00, 0x07, 0x02};
+    start_with_a_handle();
+    EXPECT(is(feed(0, disable_shutdown, sizeof disable_shutdown), 0, 6, 8));
+    before = memory;
+    EXPECT(answers(change, sizeof change, report, sizeof report) && !as_before());
+    EXPECT(is(feed(0, put_back, sizeof put_back), 0, 8, 8) && as_before());
+    /* station 1's handle of the same token does, for station 1 */
+    EXPECT(answers(change, sizeof change, report, sizeof report) && !as_before());
+    EXPECT(is(feed(1, open_own, sizeof open_own), 0, 3, 3));
+    EXPECT(is(feed(0, by_handle_2, sizeof by_handle_2), 0, 8, 2) && !as_before());
+    EXPECT(is(feed(1, by_handle_2, sizeof by_handle_2), 0, 8, 8) && as_before());
+}
+
+/* docs/RESTORE.md: what a removal's or a reset's report would make. */
+static void a_removal_and_a_reset_are_not_put_back_so(void)
+{
+    static const uint8_t remove_tcb[] = {0x05, 0x05, 0x01, 0x01, 0x07, 0x04};
+    static const uint8_t enable_tcb[] = {0x05, 0x05, 0x01, 0x01, 0x07, 0x02};
+    static const uint8_t was_enabled[] = {0x05, 0x00, 0x80, 0x01, 0x80, 0x01};
+    static const uint8_t reset[] = {0x09, 0x05, 0x01, 0x01, 0x00, 0x80, 0x80, 0x80, 0x80, 0x08};
+    static const uint8_t disable_0[] = {0x05, 0x05, 0x01, 0x01, 0x00, 0x00};
+    static const uint8_t refused[] = {0x01, OBRISKA_REFUSED_FIELD};
+    start_with_a_handle();
+    EXPECT(answers(remove_tcb, sizeof remove_tcb, was_enabled, sizeof was_enabled));
+    EXPECT(answers(enable_tcb, sizeof enable_tcb, refused, sizeof refused));
+    EXPECT(is(feed(0, reset, sizeof reset), 0, sizeof reset, 14));
+    EXPECT(answers(disable_0, sizeof disable_0, refused, sizeof refused));
+}
+
 /* docs/CONDITIONS.md: all(enabled tcb, any(group 20, not enabled shutdown)). */
 static void a_condition_is_answered_1_or_0_and_nothing_changes(void)
 {
@@ -489,6 +533,8 @@ int main(void)
     a_pair_keeps_its_tokens_alive_and_gives_the_other_one();
     a_token_in_no_pair_is_refused_by_14();
     a_pair_is_of_one_session_full_and_limited();
+    request_5_is_put_back_by_its_report();
+    a_removal_and_a_reset_are_not_put_back_so();
     a_condition_is_answered_1_or_0_and_nothing_changes();
     a_condition_is_eight_deep_at_most();
     a_condition_is_refused_by_1_then_2_then_3_then_5();

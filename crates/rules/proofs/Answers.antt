@@ -67,7 +67,7 @@ pub word : (n : ℕ) → n < 2 ^ 64 → length (encode n) ≤ 10
 word n h = encode-width 64 9 n (omega arith) h
 
 -- numbers of w bits, one after the other
-many : (w k : ℕ) → w ≤ 7 * suc k → (ns : List ℕ) → ((n : ℕ) → Mem n ns → n < 2 ^ w) → length (encodeAll ns) ≤ length ns * suc k
+pub many : (w k : ℕ) → w ≤ 7 * suc k → (ns : List ℕ) → ((n : ℕ) → Mem n ns → n < 2 ^ w) → length (encodeAll ns) ≤ length ns * suc k
 unfolding encodeAll
 many w k h [] f = omega arith
 many w k h (n ∷ ns) f =

@@ -40,6 +40,7 @@ use Rattle.rules.specs.Run as Run
 use Rattle.rules.specs.Growth as Growth
 use Rattle.rules.specs.Acting as Acting
 use Rattle.rules.specs.Linking as Linking
+use Rattle.rules.specs.Restore as Restore
 use Rattle.rules.specs.Memory as Memory
 
 unfoldable pub computes : Unit {0}
@@ -84,5 +85,6 @@ unfolding
     Growth.sidOf Growth.Live Growth.LiveHandle Growth.sourceAt Growth.partnerAt Growth.sourceOf Growth.Copying Growth.makesRoot Growth.Creating
     Acting.setsClient Acting.ClientKept
     Linking.PairsKept Linking.ElevationKept
+    Restore.butUsed Restore.PrivilegesKept Restore.reportLayout Restore.wordOf Restore.wasEnabled Restore.undoing Restore.putBack Restore.pairs Restore.written Restore.switches Restore.PutsBack Restore.CanPutBack
     Memory.sized Memory.mark Memory.pack Memory.unpack Memory.head Memory.tokenRow Memory.daclRow Memory.slotRow Memory.slotDacl Memory.slotHandle Memory.stationRow Memory.pairRow Memory.slotPair Memory.pendingRow Memory.sections Memory.control Memory.encode Memory.identityAt Memory.privilegesAt Memory.groupsAt Memory.limitsAt Memory.defaultsAt Memory.tokenAt Memory.slotAt Memory.handleAt Memory.stationAt Memory.pairAt Memory.decode Memory.same Memory.sameHandle Memory.sameHandles Memory.sameMemory Memory.isImage Memory.valid
 computes = tt

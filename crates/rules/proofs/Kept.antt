@@ -70,7 +70,7 @@ pub same-identity : (d e : State) (n : ℕ) → StateFacts d → Advance d e →
 same-identity d e n f st i j = carried-token Follows d e n f (of-later (st .later)) i j .identity
 
 -- a token that is changed, and the others
-changed-token : (d : State) (n : ℕ) (g : Token → Token) → Is d n → g (tokenOf d n) .number ≡ tokenOf d n .number → StateFacts (changeToken n g d) → tokenOf (changeToken n g d) n ≡ g (tokenOf d n)
+pub changed-token : (d : State) (n : ℕ) (g : Token → Token) → Is d n → g (tokenOf d n) .number ≡ tokenOf d n .number → StateFacts (changeToken n g d) → tokenOf (changeToken n g d) n ≡ g (tokenOf d n)
 unfolding changeToken
 changed-token d n g i same f =
     let e = same ∙ i .number in

@@ -4,13 +4,13 @@ use Prim.Native.Nat.{ℕ, suc, _≤_}
 use native.Mathlib.Omega.{arith}
 use mathlib.Core.Path.{_≡_, refl, sym, ap}
 use mathlib.Core.Bool.{Bool, true, false, not, _&&_}
-use mathlib.Core.Logic.{⊎-elim}
+use mathlib.Core.Logic.{_⊎_, inl, inr, ⊎-elim}
 use mathlib.Core.List.{List, [], _∷_}
 use lib.Dec.{eqb, leb}
 use borrow.Author.Tests.{eqb-true, eq-eqb, leb-true}
 use Rattle.rules.specs.Basic.{if_then_else_, filter, member}
 use Rattle.rules.specs.Number.{Read, got, bad}
-use Rattle.rules.specs.Refusal.{refusal, capacityBelow, ranks}
+use Rattle.rules.specs.Refusal.{Refusal, refusal, capacityBelow, ranks}
 use Rattle.rules.specs.Privileges.{tcb}
 use Rattle.rules.specs.State.{State, held}
 use Rattle.rules.specs.Decision.{Decision, need_else_then_, success, carriedOut, withHandle, issued}
@@ -146,6 +146,18 @@ ladder σ s body =
       passes = passes σ 0 (decided σ s (parse body)) rising;
       unchanged = unchanged σ (decided σ s (parse body));
     }
+
+-- a body succeeds, or changes nothing
+pub succeeds-or-same : (σ : State) (s : ℕ) (body : List ℕ) → (status (serve σ s body) ≡ 0) ⊎ (serve σ s body .state ≡ σ)
+succeeds-or-same σ s body =
+    let n = status (serve σ s body) in
+    ⊎-elim (λ e. inl (eqb-true n 0 e)) (λ e. inr (ladder σ s body .unchanged (λ z. not-both (eq-eqb n 0 z) e))) (either (eqb n 0))
+
+-- where no check fails, the first passes, and no later one fails
+pub none-fails : (b : Bool) (r : Refusal) (rest : Decision) → failing (need b else r then rest) ≡ [] → (b ≡ true) × (failing rest ≡ [])
+unfolding failing
+none-fails true r rest h = (refl, h)
+none-fails false r rest h = absurd (let z : _≡_ {A = ℕ} 0 1 = cc in omega arith)
 
 -- ---- every status is on the list
 

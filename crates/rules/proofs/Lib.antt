@@ -28,6 +28,9 @@ pub mod Released
 pub mod Bound
 pub mod Served
 pub mod Roots
+pub mod Undoing
+pub mod Sending
+pub mod Restoring
 pub mod Throughout
 pub mod Same
 pub mod Rows

@@ -1,10 +1,8 @@
 -- Linked pairs and elevations change only by request 16. Assumes nothing.
 use Prim.Native.Nat.{ℕ}
-use mathlib.Core.Path.{_≡_, refl, ap, _∙_, subst}
+use mathlib.Core.Path.{_≡_, refl, ap, _∙_}
 use mathlib.Core.Logic.{_⊎_, inl, inr, ⊎-elim}
 use mathlib.Core.List.{List}
-use lib.Dec.{eqb}
-use borrow.Author.Tests.{eqb-true, eq-eqb}
 use Rattle.rules.specs.AdjustDefaults as AdjustDefaults
 use Rattle.rules.specs.AdjustGroups as AdjustGroups
 use Rattle.rules.specs.AdjustPrivileges as AdjustPrivileges
@@ -13,10 +11,8 @@ use Rattle.rules.specs.Create as Create
 use Rattle.rules.specs.Decision.{withHandle, issued}
 use Rattle.rules.specs.Duplicate as Duplicate
 use Rattle.rules.specs.Evaluate as Evaluate
-use Rattle.rules.specs.Growth.{Live}
 use Rattle.rules.specs.Impersonate as Impersonate
 use Rattle.rules.specs.Install as Install
-use Rattle.rules.specs.Ladder.{status}
 use Rattle.rules.specs.Link as Link
 use Rattle.rules.specs.Linking.{Links, PairsKept, ElevationKept}
 use Rattle.rules.specs.Number.{Read, got, bad}
@@ -30,15 +26,14 @@ use Rattle.rules.specs.Run.{Serving, servedBy}
 use Rattle.rules.specs.Serve.{rule, decided, decision, serve}
 use Rattle.rules.specs.State.{State, withTokens, withHandles, withStations, changeStation, setToken, setClient, held, putToken, changeToken, usedOn, used, addToken, addHandle, dropHandle, released}
 use Rattle.rules.specs.Token.{Token, withPrivileges, withGroups, withDefaults, withScope, nextModified}
-use Rattle.rules.proofs.Logic.{not-both, either}
+use Rattle.rules.proofs.Logic.{not-both}
 use Rattle.rules.proofs.Tables.{on-if}
-use Rattle.rules.proofs.Changes.{carries-refl, carried}
 use Rattle.rules.proofs.Steps.{Ends, ended, install-marked, client-marked}
-use Rattle.rules.proofs.Carrying.{Lasting, Allows, Allowed, served-alike}
-use Rattle.rules.proofs.Ladder.{ladder}
+use Rattle.rules.proofs.Carrying.{Lasting, Or, Allowed, served-alike}
+use Rattle.rules.proofs.Ladder.{succeeds-or-same}
 use Rattle.rules.proofs.Always.{Onward}
 
--- ---- request 16, or what leaves pairs and elevations alone
+-- ---- request 16, or what leaves pairs alone
 
 pub record IsLink (r : Read Request) : Type 0 where
   pub elevated : ℕ
@@ -51,10 +46,8 @@ pub record IsLink (r : Read Request) : Type 0 where
 served-link : (x : Serving) → IsLink (parse (x .body)) → (servedBy x .state ≡ x .before) ⊎ Links x
 unfolding servedBy
 served-link x r =
-    let answer = status (servedBy x) in
-    ⊎-elim (λ z. inr (record { elevated = r .elevated; filtered = r .filtered; session = r .session; bytes = r .bytes; request = r .is; succeeds = eqb-true answer 0 z }))
-    (λ z. inl (ladder (x .before) (x .station) (x .body) .unchanged (λ q. not-both (eq-eqb answer 0 q) z)))
-    (either (eqb answer 0))
+    ⊎-elim (λ done. inr (record { elevated = r .elevated; filtered = r .filtered; session = r .session; bytes = r .bytes; request = r .is; succeeds = done })) (λ same. inl same)
+    (succeeds-or-same (x .before) (x .station) (x .body))
 
 -- ---- pairs
 
@@ -107,31 +100,19 @@ lasting : Lasting SameElevation
 unfolding SameElevation usedOn withPrivileges
 lasting = record { alike = λ t. refl; onward = λ t u v a b. b ∙ a; marks = λ n t. refl }
 
-elevation-stays : (r : Read Request) → Allowed SameElevation r ⊎ IsLink r
-unfolding Allowed Allows SameElevation AdjustPrivileges.adjustedToken AdjustGroups.adjustedToken AdjustScope.scopedToken AdjustDefaults.adjustedToken withPrivileges withGroups withDefaults withScope nextModified
-elevation-stays bad = inl tt
-elevation-stays (got (Request.openOwn mask) bytes) = inl tt
-elevation-stays (got (Request.close n) bytes) = inl tt
-elevation-stays (got (Request.create u e i p b gs) bytes) = inl tt
-elevation-stays (got (Request.query n class capacity) bytes) = inl tt
-elevation-stays (got (Request.privileges n es) bytes) = inl (λ t. refl)
-elevation-stays (got (Request.groups n es) bytes) = inl (λ t. refl)
-elevation-stays (got (Request.scope n v) bytes) = inl (λ t. refl)
-elevation-stays (got (Request.defaults n o g x dacl) bytes) = inl (λ t. refl)
-elevation-stays (got (Request.duplicate n type level mask) bytes) = inl tt
-elevation-stays (got (Request.restrict n mark removed deny sids) bytes) = inl tt
-elevation-stays (got (Request.install n) bytes) = inl tt
-elevation-stays (got (Request.impersonate n) bytes) = inl tt
-elevation-stays (got Request.revert bytes) = inl tt
-elevation-stays (got (Request.link n m session) bytes) = inr (record { elevated = n; filtered = m; session = session; bytes = bytes; is = refl })
-elevation-stays (got (Request.linked n) bytes) = inl tt
-elevation-stays (got (Request.evaluate n c) bytes) = inl tt
+-- request 16 alone changes it
+elevation-allowed : (x : Serving) → Allowed (Or SameElevation (Links x)) x
+unfolding Or SameElevation AdjustPrivileges.adjustedToken AdjustGroups.adjustedToken AdjustScope.scopedToken AdjustDefaults.adjustedToken withPrivileges withGroups withDefaults withScope nextModified
+elevation-allowed x done r bytes e = record {
+  privileges = λ n es q t k. inl refl;
+  groups = λ n es q t k. inl refl;
+  scope = λ n v q t k. inl refl;
+  defaults = λ n o g x dacl q t k. inl refl;
+  link = λ n m session q.
+      let y : Links x = record { elevated = n; filtered = m; session = session; bytes = bytes; request = e ∙ ap (λ (r : Request). got r bytes) q; succeeds = done } in
+      (λ t k. inr y, λ t k. inr y);
+}
 
 pub elevation-kept : (x : Serving) → Onward x → ElevationKept x
-unfolding ElevationKept Live SameElevation
-elevation-kept x o t u mt mu q =
-    let d = x .before in
-    let alone = carries-refl SameElevation (lasting .alike) (d .tokens) in
-    ⊎-elim (λ k. inl (served-alike SameElevation lasting x (o .facts) (o .station) k t u mt mu q))
-    (λ k. ⊎-elim (λ e. inl (carried SameElevation d d (o .facts .loose) alone t u mt (subst (Live u) e mu) q)) (λ y. inr y) (served-link x k))
-    (elevation-stays (parse (x .body)))
+unfolding ElevationKept SameElevation
+elevation-kept x o = served-alike SameElevation (Links x) lasting x o (elevation-allowed x)

@@ -207,6 +207,50 @@ member-filter f n (x ∷ xs) = go (f x) (eqb n x) refl refl (member-filter f n x
     go false true p q ih = ih ∙ ap (λ (b : Bool). b && member n xs) (same p q) ∙ sym (ap (λ (b : Bool). b && true) (same p q))
     go false false p q ih = ih
 
+-- where all pass, all stay
+filter-all : {A : Type 0} (f : A → Bool) (xs : List A) → ((a : A) → Mem a xs → f a ≡ true) → filter f xs ≡ xs
+unfolding filter
+filter-all f [] h = refl
+filter-all f (x ∷ xs) h = rw (h x (here refl)) (ap (λ ys. x ∷ ys) (filter-all f xs (λ a m. h a (there m))))
+
+distinct-filter : (f : ℕ → Bool) (xs : List ℕ) → distinct xs ≡ true → distinct (filter f xs) ≡ true
+unfolding filter
+distinct-filter f [] d = d
+distinct-filter f (x ∷ xs) d = go (f x) (distinct-filter f xs (distinct-tail x xs d))
+  where
+    go : (b : Bool) → distinct (filter f xs) ≡ true → distinct (if b then x ∷ filter f xs else filter f xs) ≡ true
+    go true k = distinct-cons x (filter f xs) (λ m. distinct-head x xs d (mem-filter f xs m .0)) k
+    go false k = k
+
+unfoldable isNot : ℕ → ℕ → Bool
+isNot k n = not (eqb n k)
+
+-- of distinct numbers, all but one are not k
+but-one : (k : ℕ) (xs : List ℕ) → distinct xs ≡ true → length xs ≤ suc (length (filter (isNot k) xs))
+unfolding filter isNot
+but-one k [] d = omega arith
+but-one k (x ∷ xs) d = go (eqb x k) refl (but-one k xs (distinct-tail x xs d))
+  where
+    others : eqb x k ≡ true → (n : ℕ) → Mem n xs → isNot k n ≡ true
+    others e n m = not-i (eqb n k) (λ q. distinct-head x xs d (rw (eqb-true x k e, ← eqb-true n k q) m))
+
+    go : (b : Bool) → eqb x k ≡ b → length xs ≤ suc (length (filter (isNot k) xs)) → length (x ∷ xs) ≤ suc (length (if not b then x ∷ filter (isNot k) xs else filter (isNot k) xs))
+    go true e h = rw (filter-all (isNot k) xs (others e)) (omega arith)
+    go false e h = omega arith
+
+-- distinct numbers below k are at most k
+pub few : (k : ℕ) (xs : List ℕ) → distinct xs ≡ true → ((n : ℕ) → Mem n xs → n < k) → length xs ≤ k
+unfolding isNot
+few zero [] d h = omega arith
+few zero (x ∷ xs) d h = absurd (omega (arith, h x (here refl)))
+few (suc k) xs d h = omega (arith, but-one k xs d, few k (filter (isNot k) xs) (distinct-filter (isNot k) xs d) below)
+  where
+    below : (n : ℕ) → Mem n (filter (isNot k) xs) → n < k
+    below n m =
+        let r = mem-filter (isNot k) xs m in
+        let ne : n ≡ k → ⊥ = λ e. not-e (eqb n k) (r .1) (eq-eqb n k e) in
+        omega (arith, ne, h n (r .0))
+
 -- the numbers that are not 0
 not-zero : {n : ℕ} → 1 ≤ n → not (eqb n 0) ≡ true
 not-zero {n} h = not-i (eqb n 0) (λ q. let z = eqb-true n 0 q in omega arith)

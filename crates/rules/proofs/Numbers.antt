@@ -11,9 +11,9 @@ use lib.ListN.{length}
 use lib.Pow.{pow-mono, shr-lt}
 use borrow.Author.Tests.{ltb-true, ltb-false, lt-ltb, le-ltb, le-leb, lt-leb, eq-eqb, ne-eqb}
 use Rattle.rules.specs.Basic.{all}
-use Rattle.rules.specs.Number.{encodeIn, lowFirst, encode, Read, got, bad, longer, readNumber}
+use Rattle.rules.specs.Number.{encodeIn, lowFirst, encode, encodeAll, Read, got, bad, longer, readNumber}
 use Rattle.rules.specs.Valid.{isByte}
-use Rattle.rules.proofs.Logic.{and-l, and-r}
+use Rattle.rules.proofs.Logic.{and-l, and-r, and-i, all-append}
 
 pub below-or : (a b : ℕ) → (a < b) ⊎ (b ≤ a)
 below-or a b = go (ltb a b) refl
@@ -69,6 +69,16 @@ by-sevens (suc k) n h =
 -- 14, 16, 32 and 64 bits take at most 2, 3, 5 and 10 bytes
 pub encode-width : (w k n : ℕ) → w ≤ 7 * suc k → n < 2 ^ w → length (encode n) ≤ suc k
 encode-width w k n h l = by-sevens k n (omega (arith, pow-mono h))
+
+-- they are bytes
+encode-bytes : (n : ℕ) → all isByte (encode n) ≡ true
+unfolding all isByte
+encode-bytes = by-bytes (λ n. all isByte (encode n) ≡ true) (λ n l. rw (encode-one n l) (and-i (lt-ltb n 256 (omega arith)) refl)) (λ n l ih. rw (encode-more n l) (and-i (lt-ltb (n % 128 + 128) 256 (omega arith)) ih))
+
+pub all-bytes : (ns : List ℕ) → all isByte (encodeAll ns) ≡ true
+unfolding all encodeAll
+all-bytes [] = refl
+all-bytes (n ∷ ns) = all-append isByte (encode n) (encodeAll ns) (encode-bytes n) (all-bytes ns)
 
 -- ---- read back
 

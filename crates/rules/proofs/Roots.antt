@@ -5,8 +5,8 @@ use mathlib.Core.Path.{_≡_, refl, sym, ap, _∙_}
 use mathlib.Core.Bool.{Bool, true, false}
 use mathlib.Core.Logic.{⊎-elim}
 use mathlib.Core.List.{List, [], _∷_}
-use lib.Dec.{eqb, ltb}
-use borrow.Author.Tests.{eqb-true, eq-eqb, ltb-true, ltb-false}
+use lib.Dec.{ltb}
+use borrow.Author.Tests.{ltb-true, ltb-false}
 use Rattle.rules.specs.AdjustDefaults as AdjustDefaults
 use Rattle.rules.specs.AdjustGroups as AdjustGroups
 use Rattle.rules.specs.AdjustPrivileges as AdjustPrivileges
@@ -39,7 +39,7 @@ use Rattle.rules.specs.Token.{Token, newToken, primaryOf}
 use Rattle.rules.proofs.Logic.{not-both, either, map-mem}
 use Rattle.rules.proofs.Facts.{StateFacts}
 use Rattle.rules.proofs.Steps.{partner-live, Ends, ended, install-marked, client-marked}
-use Rattle.rules.proofs.Ladder.{ladder}
+use Rattle.rules.proofs.Ladder.{succeeds-or-same}
 use Rattle.rules.proofs.Always.{Onward, run-serves}
 use Rattle.rules.proofs.Sources.{Fresh, none-fresh, marked-fresh, made, issues, of-serving}
 use Rattle.rules.proofs.Bound.{found-here, token-here}
@@ -122,10 +122,7 @@ module _ (x : Serving) (o : Onward x) (xs : List Outcome) where
   unfolding servedBy Live Fresh
   no-refusal u m k =
       let d = x .before in
-      let same = ladder d (x .station) (x .body) .unchanged in
-      ⊎-elim (eqb-true (status (servedBy x)) 0)
-      (λ e. none-fresh d (o .facts) (λ u. status (servedBy x) ≡ 0) u (rw (same (λ z. not-both (eq-eqb (status (servedBy x)) 0 z) e)) at m) k)
-      (either (eqb (status (servedBy x)) 0))
+      ⊎-elim (λ done. done) (λ same. none-fresh d (o .facts) (λ u. status (servedBy x) ≡ 0) u (rw same at m) k) (succeeds-or-same d (x .station) (x .body))
 
   copied : (y : Source) (n : ℕ) (b : Bool) → Live (y .token) (x .before) → n ≡ (if b then 0 else y .token .identity .root) → Rooted (x .before) (serves x ∷ xs) n
   copied y n true l e = none e

@@ -22,6 +22,7 @@ use Rattle.rules.proofs.Evaluating.{evaluated}
 use Rattle.rules.proofs.Sources.{no-more}
 use Rattle.rules.proofs.Served.{answers-served, one-by-one}
 use Rattle.rules.proofs.Roots.{creations, roots}
+use Rattle.rules.proofs.Restoring.{privileges-kept, puts-back, can-put-back}
 
 after-append : (cs ds : List Call) (σ : State) → after (cs ++ ds) σ ≡ after ds (after cs σ)
 unfolding after
@@ -65,5 +66,8 @@ throughout σ v cs w =
       copies = no-more cs σ w f;
       creations = creations cs σ w f;
       roots = roots cs σ w f ordered;
+      privileges = λ x m. privileges-kept x (run-serves cs σ w f x m);
+      putsBack = puts-back _ σ τ (run-serves cs σ w f) ordered;
+      canPutBack = λ x m. can-put-back x (run-serves cs σ w f x m);
       fit = all-fit cs σ w f;
     }

@@ -39,6 +39,7 @@ pub mod Growth
 pub mod Acting
 pub mod Linking
 pub mod Evaluating
+pub mod Restore
 pub mod Head
 pub mod Memory
 pub mod Throughout

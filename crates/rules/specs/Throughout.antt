@@ -22,6 +22,7 @@ use Rattle.rules.specs.Growth.{Mem, Live, LiveHandle, Follows, Later, Ha
 use Rattle.rules.specs.Acting.{ActsFor, ClientKept}
 use Rattle.rules.specs.Linking.{Linked, PairsKept, ElevationKept}
 use Rattle.rules.specs.Evaluating.{Evaluating}
+use Rattle.rules.specs.Restore.{PrivilegesKept, PutsBack, CanPutBack}
 
 -- an answer: one valid frame that fits the buffer
 pub record IsAnswer (bytes : List ℕ) : Type 0 where
@@ -100,5 +101,11 @@ pub record Throughout (σ : State) (cs : List Call) : Type 0 where
   -- (`lasting`). So it is 0, or the root of a token that was there, or the number of a created one
   pub creations : (x : Serving) → Mem (serves x) (outcomes (events cs σ) σ) → Creating x
   pub roots : (t : Token) → Live t (after cs σ) → Rooted σ (outcomes (events cs σ) σ) (t .identity .root)
+  -- present, enabled and default privileges of a live token change only by request 5 on it: 'no success of 5 touched that token since'
+  pub privileges : (x : Serving) → Mem (serves x) (outcomes (events cs σ) σ) → PrivilegesKept x
+  -- 'the entries made from the report, one for each privilege that request named, succeed when served, on any live handle of that token with the
+  -- right and for its station, and the token's privilege words but used are those before'; and they can always be sent
+  pub putsBack : PutsBack (outcomes (events cs σ) σ)
+  pub canPutBack : (x : Serving) → Mem (serves x) (outcomes (events cs σ) σ) → CanPutBack x
   -- no answer is longer than 1,024 bytes
   pub fit : (a : List ℕ) → Mem a (answered cs σ) → IsAnswer a

@@ -2,6 +2,7 @@
 
 use std::fmt;
 
+use crate::frame;
 use crate::layout::{MAX_BODY, MAX_DEPTH};
 use crate::names;
 use crate::number;
@@ -142,11 +143,7 @@ impl Condition {
         number::write(REQUEST, &mut body);
         number::write(handle.into(), &mut body);
         body.extend(self.to_bytes()?);
-        let body = at_most(MAX_BODY, body)?;
-        let mut frame = Vec::new();
-        number::write(body.len() as u64, &mut frame);
-        frame.extend(body);
-        Ok(frame)
+        Ok(frame::of(&at_most(MAX_BODY, body)?))
     }
 
     /// Whether it held, by the fields of the answer; `None` unless they are 1 or 0, as those of

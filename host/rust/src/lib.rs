@@ -33,6 +33,7 @@ mod answer;
 mod broker;
 mod condition;
 mod ffi;
+mod frame;
 mod layout;
 mod memory;
 pub mod names;
@@ -40,6 +41,7 @@ pub mod number;
 mod pair;
 mod previous;
 mod refusal;
+mod restore;
 mod view;
 
 pub use answer::Answer;
@@ -52,6 +54,7 @@ pub use layout::{
 pub use pair::Pair;
 pub use previous::{PreviousPrivileges, PrivilegeState};
 pub use refusal::Refusal;
+pub use restore::{Restore, RestoreError};
 pub use view::{
     Client, Elevation, Group, Handle, Level, Privileges, Station, Token, TokenType, NO_CLIENT,
     NO_ROOT,

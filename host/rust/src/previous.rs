@@ -27,7 +27,7 @@ impl fmt::Display for PrivilegeState {
 }
 
 /// The report of request 5: two words of before the change, at the bits of the privileges that the
-/// request named; after a reset, whole.
+/// request named; after a reset, whole. [`Restore`](crate::Restore) puts back what it says.
 ///
 /// ```
 /// use obriska::{Broker, PreviousPrivileges, PrivilegeState};

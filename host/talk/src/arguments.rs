@@ -25,6 +25,11 @@ impl<'a> Arguments<'a> {
         self.word(what)?.number(what, u32::MAX.into())
     }
 
+    /// Whether no word is left.
+    pub fn is_empty(&self) -> bool {
+        self.words.as_slice().is_empty()
+    }
+
     /// The column of the next word, or of the line's end.
     pub fn column(&self) -> usize {
         self.words.as_slice().first().map_or(self.end, |word| word.column)

@@ -4,6 +4,7 @@ use obriska::{LENGTH_BYTES, MAX_BODY};
 
 use crate::arguments::Arguments;
 use crate::hex;
+use crate::reports::Reports;
 use crate::request;
 use crate::words::{Mistake, Word};
 
@@ -22,14 +23,14 @@ pub enum Command {
     Quit,
 }
 
-/// The line's command; none in an empty line or a comment.
-pub fn parse(line: &str) -> Result<Option<Command>, Mistake> {
+/// The line's command, given the reports so far; none in an empty line or a comment.
+pub fn parse(line: &str, reports: &Reports) -> Result<Option<Command>, Mistake> {
     let line = Word::line(line).without_comment().trimmed();
     if line.text.is_empty() {
         return Ok(None);
     }
     match line.split_once(':') {
-        Some((station, rest)) => at_station(station.trimmed(), rest).map(Some),
+        Some((station, rest)) => at_station(station.trimmed(), rest, reports).map(Some),
         None => alone(line).map(Some),
     }
 }
@@ -49,7 +50,7 @@ fn alone(line: Word) -> Result<Command, Mistake> {
 }
 
 /// A line for a station.
-fn at_station(station: Word, rest: Word) -> Result<Command, Mistake> {
+fn at_station(station: Word, rest: Word, reports: &Reports) -> Result<Command, Mistake> {
     let station = station.number("station", u32::MAX.into())? as u32;
     let mut words = rest.words();
     if words.is_empty() {
@@ -65,6 +66,10 @@ fn at_station(station: Word, rest: Word) -> Result<Command, Mistake> {
             return Err(Arguments::new(name, words).missing("the bytes"));
         }
         "bytes" => return Ok(Command::Send { station, bytes: hex::parse(&words)? }),
+        "restore" => {
+            let bytes = reports.put_back(station, name, Arguments::new(name, words))?;
+            return Ok(Command::Send { station, bytes });
+        }
         _ => (),
     }
     let bytes = request::frame(name, Arguments::new(name, words)).ok_or_else(|| {
@@ -79,6 +84,11 @@ fn at_station(station: Word, rest: Word) -> Result<Command, Mistake> {
 #[cfg(test)]
 mod tests {
     use super::*;
+
+    /// A line before there is any report.
+    fn parse(line: &str) -> Result<Option<Command>, Mistake> {
+        super::parse(line, &Reports::default())
+    }
 
     /// The bytes that a line sends at station 0, as text.
     fn sent(line: &str) -> String {
@@ -174,6 +184,8 @@ mod tests {
         assert_eq!(mistake("0: may 3"), (9, "missing: a condition such as 'enabled tcb'".into()));
         assert_eq!(mistake("0: may 3 any(all()"), (19, "missing: ',' or ')'".into()));
         assert_eq!(mistake("0: may 3 group 20 30"), (19, "'30' is one word too many".into()));
+        assert_eq!(mistake("0: restore x"), (12, "'x' is no handle: say a number".into()));
+        assert_eq!(mistake("0: restore 1 2"), (14, "'2' is one word too many".into()));
         assert_eq!(mistake("0: close 4294967296"), (10, "4294967296 is over 4294967295".into()));
         assert_eq!(mistake("0: privileges 1 tcbb=enable").0, 17);
         assert_eq!(mistake("0: privileges 1 tcb=on").0, 21);

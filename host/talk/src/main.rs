@@ -5,6 +5,7 @@ mod arguments;
 mod condition;
 mod hex;
 mod line;
+mod reports;
 mod request;
 mod session;
 mod state;
@@ -115,7 +116,7 @@ impl Talk<'_> {
     /// Takes a line; true if the session goes on.
     fn take(&mut self, number: usize, line: &str) -> io::Result<bool> {
         let mut out = io::stdout().lock();
-        let parsed = line::parse(line);
+        let parsed = line::parse(line, self.session.reports());
         let command = parsed.as_ref().ok().and_then(Option::as_ref);
         if self.echoes {
             self.session.echo(line, command, &mut out)?;

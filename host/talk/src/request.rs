@@ -36,14 +36,14 @@ pub fn frame(name: Word, mut arguments: Arguments) -> Option<Result<Vec<u8>, Mis
         "may" => may,
         _ => return None,
     };
-    Some(layout(&mut arguments).and_then(|body| arguments.finish().map(|()| framed(&body))))
+    Some(layout(&mut arguments).and_then(|body| arguments.finish().map(|()| framed(&body.0))))
 }
 
 /// The body with its length before it.
-fn framed(body: &Body) -> Vec<u8> {
+pub fn framed(body: &[u8]) -> Vec<u8> {
     let mut frame = Vec::new();
-    number::write(body.0.len() as u64, &mut frame);
-    frame.extend(&body.0);
+    number::write(body.len() as u64, &mut frame);
+    frame.extend(body);
     frame
 }
 

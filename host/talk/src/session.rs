@@ -7,21 +7,28 @@ use obriska::Broker;
 use crate::answer;
 use crate::hex;
 use crate::line::Command;
+use crate::reports::Reports;
 use crate::state;
 
 /// The column at which the bytes stand beside the words.
 const BYTES_COLUMN: usize = 65;
 
-/// A broker, and how to show what it says.
+/// A broker, what it has reported, and how to show what it says.
 pub struct Session {
     broker: Broker,
+    reports: Reports,
     shows_bytes: bool,
 }
 
 impl Session {
     /// A broker at its start.
     pub fn new(shows_bytes: bool) -> Self {
-        Session { broker: Broker::start(), shows_bytes }
+        Session { broker: Broker::start(), reports: Reports::default(), shows_bytes }
+    }
+
+    /// What there is to put back.
+    pub fn reports(&self) -> &Reports {
+        &self.reports
     }
 
     /// A script's line, with the bytes that it sends.
@@ -77,6 +84,7 @@ impl Session {
         let bodies = answer::bodies(&stream);
         for (index, answer) in answers.iter().enumerate() {
             let request = bodies.get(index).copied().unwrap_or_default();
+            self.reports.take(station, request, answer);
             let words = answer::words(request, answer);
             self.beside(&format!("   {}", words[0]), '<', answer.bytes(), out)?;
             for line in &words[1..] {

@@ -65,6 +65,12 @@ fn page_conditions_are_document_02s() {
 }
 
 #[test]
+fn putting_back_is_document_02s() {
+    let examples = "../../examples/put-back";
+    writes(&["--hex"], &format!("{examples}.talk"), &format!("{examples}.expected"));
+}
+
+#[test]
 fn all_requests_are_answered_in_words() {
     writes(&[], "tests/requests.talk", "tests/requests.expected");
 }
@@ -82,6 +88,35 @@ fn a_bad_line_is_named_and_nothing_is_sent() {
 }
 
 #[test]
+fn restore_sends_nothing_where_no_report_can_be_put_back() {
+    let lines = [
+        "0: open all",
+        "0: restore",
+        "0: privileges 1 37=enable",
+        "0: restore",
+        "0: privileges 1 tcb=disable shutdown=remove",
+        "0: restore",
+        "0: privileges 1 reset",
+        "0: restore 1",
+        "1: restore",
+    ];
+    let output = talk(&["--hex"], &lines.join("\n"));
+    let sent = text(&output.stdout).lines().filter(|line| line.contains(" > ")).count();
+    assert_eq!(sent, 4); // all but the five that restore
+    let removal = "it was to remove SeShutdownPrivilege 19, and no request gives one back";
+    let reset = "it was a reset, which names no privilege";
+    let expected = [
+        "-:2:4: station 0 has no report to restore".to_string(),
+        "-:4:4: station 0 has no report to restore".to_string(),
+        format!("-:6:4: station 0's last report restores nothing: {removal}"),
+        format!("-:8:4: station 0's last report restores nothing: {reset}"),
+        "-:9:4: station 1 has no report to restore".to_string(),
+    ];
+    assert!(text(&output.stderr).lines().eq(expected));
+    assert_eq!(output.status.code(), Some(1));
+}
+
+#[test]
 fn quit_ends_the_script() {
     let output = talk(&["--hex"], "0: open query\nquit\n0: open query\n");
     assert_eq!(text(&output.stdout).matches("handle").count(), 1);
@@ -93,9 +128,11 @@ fn help_has_an_example_of_each_request_that_is_no_mistake() {
     let help = talk(&[], "help\n");
     let examples: Vec<_> =
         text(&help.stdout).lines().filter(|line| line.starts_with("  0: ")).collect();
-    assert_eq!(examples.len(), 18); // sixteen requests, reconnect, bytes
-    let script: String = examples
+    assert_eq!(examples.len(), 19); // sixteen requests, restore, reconnect, bytes
+    let report = ["0: open all", "0: privileges 1 tcb=disable"]; // for 'restore'
+    let script: String = report
         .iter()
+        .chain(&examples)
         .map(|line| line.trim().split("  ").next().expect("an example").to_string() + "\n")
         .collect();
     let output = talk(&[], &script);

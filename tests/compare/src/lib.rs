@@ -1,10 +1,11 @@
 //! The proved code against the independent model: [`Lent`] makes the calls through the static
-//! library, [`program`] runs the program, [`lists`], [`conditions`] and [`damages`] compare.
+//! library, [`program`] runs the program, [`lists`], [`conditions`], [`put_back`] and [`damages`] compare.
 
 pub mod conditions;
 pub mod damages;
 pub mod lists;
 pub mod program;
+pub mod put_back;
 
 mod broker;
 mod part;

@@ -19,6 +19,12 @@ pub fn condition_body(rng: &mut Rng, model: &Model, station: usize) -> Vec<u8> {
     written(rng, &request)
 }
 
+/// The body of a random request of a list in which what was is put back.
+pub(crate) fn switching_body(rng: &mut Rng, model: &Model, station: usize) -> Vec<u8> {
+    let request = Wish { rng, model, station }.switching();
+    written(rng, &request)
+}
+
 /// The request's bytes, sometimes damaged; a condition's more often, in ways of its own.
 fn written(rng: &mut Rng, request: &Request) -> Vec<u8> {
     let fields = fields(request);

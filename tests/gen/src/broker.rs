@@ -2,7 +2,8 @@
 
 use model::{Bytes, Fed, Memory, Model, Refusal, MAX_LENGTH_BYTES, MORE};
 
-use crate::call::{Call, Script};
+use crate::body::body;
+use crate::call::{Call, DrawBody, Script};
 
 /// What takes feeds and reconnects.
 pub trait Calls {
@@ -103,8 +104,19 @@ pub fn status(answer: &[u8]) -> Option<u8> {
 }
 
 /// Makes so many calls of the seed's script on the model and shows each to `check`.
-pub fn run(seed: u64, mut model: Model, calls: usize, mut check: impl FnMut(&Step)) {
-    let mut script = Script::new(seed);
+pub fn run(seed: u64, model: Model, calls: usize, check: impl FnMut(&Step)) {
+    run_of(body, seed, model, calls, check);
+}
+
+/// The same, with bodies drawn so.
+pub(crate) fn run_of(
+    draw: DrawBody,
+    seed: u64,
+    mut model: Model,
+    calls: usize,
+    mut check: impl FnMut(&Step),
+) {
+    let mut script = Script::of(draw, seed);
     for _ in 0..calls {
         let call = script.next(&model);
         let before = model.clone();

@@ -5,6 +5,9 @@ use model::{framed, Model, MIN_BUFFER, STATIONS};
 use crate::body::body;
 use crate::rng::Rng;
 
+/// Draws the body of a request for a station.
+pub(crate) type DrawBody = fn(&mut Rng, &Model, usize) -> Vec<u8>;
+
 /// One call on the broker.
 #[derive(Clone, Debug, PartialEq, Eq)]
 #[allow(missing_docs)] // named as the arguments of the calls
@@ -19,6 +22,7 @@ pub enum Call {
 #[derive(Clone, Debug)]
 pub struct Script {
     rng: Rng,
+    draw: DrawBody,
     unsent: [Vec<u8>; STATIONS],
 }
 
@@ -31,7 +35,12 @@ const BREAKS: [&[u8]; 6] =
 impl Script {
     /// A script from a seed.
     pub fn new(seed: u64) -> Self {
-        Script { rng: Rng::new(seed), unsent: Default::default() }
+        Script::of(body, seed)
+    }
+
+    /// The same, with bodies drawn so.
+    pub(crate) fn of(draw: DrawBody, seed: u64) -> Self {
+        Script { rng: Rng::new(seed), draw, unsent: Default::default() }
     }
 
     /// The next call, drawn with a view to the state.
@@ -79,7 +88,7 @@ impl Script {
             let next = match self.rng.below(100) {
                 0..=2 => self.rng.pick(&BREAKS).to_vec(),
                 3 => (0..1 + self.rng.below(9)).map(|_| self.rng.word() as u8).collect(),
-                _ => framed(&body(&mut self.rng, model, station)),
+                _ => framed(&(self.draw)(&mut self.rng, model, station)),
             };
             self.unsent[station].extend(next);
         }

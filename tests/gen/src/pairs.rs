@@ -15,9 +15,9 @@ const USERS: [u32; 3] = [50, 18, u32::MAX];
 /// others could be linked too, in another session.
 pub(crate) fn place_pairs(rng: &mut Rng, model: &mut Model) {
     let slots: Vec<usize> = (0..TOKENS).filter(|&slot| is_primary(model, slot)).collect();
-    let mut left = shuffled(rng, &slots);
+    let mut left = rng.shuffled(&slots);
     let most = rng.pick(&[0, 1, 2, PAIRS, PAIRS]).min(left.len() / 2);
-    let sessions = shuffled(rng, &SESSIONS);
+    let sessions = rng.shuffled(&SESSIONS);
     for (place, &session) in places(rng).into_iter().zip(&sessions).take(most) {
         let user = rng.pick(&USERS);
         let [elevated, filtered] = [Elevation::Full, Elevation::Limited].map(|elevation| {
@@ -37,7 +37,7 @@ pub(crate) fn place_pairs(rng: &mut Rng, model: &mut Model) {
 fn places(rng: &mut Rng) -> Vec<usize> {
     let places: Vec<usize> = (0..PAIRS).collect();
     if rng.percent(30) {
-        return shuffled(rng, &places);
+        return rng.shuffled(&places);
     }
     places
 }
@@ -51,12 +51,6 @@ fn become_of(model: &mut Model, slot: usize, user: u32, session: u64, elevation:
 
 fn is_primary(model: &Model, slot: usize) -> bool {
     model.tokens[slot].as_ref().is_some_and(|token| token.kind == TokenType::Primary)
-}
-
-/// All the items in a random order.
-fn shuffled<T: Copy>(rng: &mut Rng, items: &[T]) -> Vec<T> {
-    let mut rest = items.to_vec();
-    (0..items.len()).map(|_| rest.swap_remove(rng.below(rest.len()))).collect()
 }
 
 /// The tokens of [`with_pairs`]: the stations' own, with Tcb held and not, and those to be linked.
@@ -115,7 +109,7 @@ fn link_some(rng: &mut Rng, model: &mut Model) {
     let sessions: Vec<u64> = (FIRST_SESSION..).take(LINKED_SESSIONS).collect();
     let order = places(rng);
     let mut taken = 0;
-    for session in shuffled(rng, &sessions) {
+    for session in rng.shuffled(&sessions) {
         let is_its = |token: &&mut Token| token.session == session && token.number > OWN as u64;
         let mut tokens: Vec<_> = model.tokens.iter_mut().flatten().filter(is_its).collect();
         let alike = |token: &mut Token| Token {

@@ -58,6 +58,12 @@ impl Rng {
         (0..count).map(|_| rest.swap_remove(self.below(rest.len()))).collect()
     }
 
+    /// All the items in a random order.
+    pub fn shuffled<T: Copy>(&mut self, items: &[T]) -> Vec<T> {
+        let mut rest = items.to_vec();
+        (0..items.len()).map(|_| rest.swap_remove(self.below(rest.len()))).collect()
+    }
+
     /// A word with one bit set, of so many low ones.
     pub fn bit(&mut self, bits: u32) -> u64 {
         1 << self.below(bits as usize)

@@ -1,15 +1,25 @@
-//! Requests as numbers, at station 0.
+//! Requests as numbers, at station 0 unless said.
 
 use obriska::{number, Answer, Broker, Refusal};
 
-/// Feeds a body of these numbers and gives its answer.
-pub fn answer(broker: &mut Broker, numbers: &[u64]) -> Answer {
+/// The frame of a body of these numbers.
+pub fn frame(numbers: &[u64]) -> Vec<u8> {
     let mut body = Vec::new();
     numbers.iter().for_each(|&n| number::write(n, &mut body));
     let mut frame = Vec::new();
     number::write(body.len() as u64, &mut frame);
     frame.extend(body);
-    let answers = broker.feed(0, &frame).expect("station 0");
+    frame
+}
+
+/// Feeds a body of these numbers and gives its answer.
+pub fn answer(broker: &mut Broker, numbers: &[u64]) -> Answer {
+    answer_at(broker, 0, &frame(numbers))
+}
+
+/// Feeds a station one request and gives its answer.
+pub fn answer_at(broker: &mut Broker, station: u32, frame: &[u8]) -> Answer {
+    let answers = broker.feed(station, frame).expect("there is such a station");
     assert_eq!(answers.len(), 1);
     answers[0].clone()
 }

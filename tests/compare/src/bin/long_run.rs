@@ -1,7 +1,7 @@
 //! The comparison on as many seeds as asked: `long_run SEEDS [FIRST]`.
 
-use compare::{conditions, damages, lists, program, Lent};
-use gen::{check_cuts, each_seed, Counts};
+use compare::{conditions, damages, lists, program, put_back, Lent};
+use gen::{check_cuts, each_seed, Counts, PutBackCounts};
 use model::Model;
 
 fn main() {
@@ -15,6 +15,9 @@ fn main() {
     println!("{} lists of {} calls\n{counts}", seeds, lists::CALLS);
     conditions::compare_random::<Lent>(part(1), &mut Counts::default());
     println!("{} lists of {} requests, most of them conditions", seeds, lists::FEW_CALLS);
+    let mut put_backs = PutBackCounts::default();
+    put_back::compare::<Lent>(part(4), &mut put_backs);
+    println!("{} lists, {put_backs}", seeds.div_ceil(4));
     let valid = damages::compare_poked::<Lent>(part(1));
     println!("{seeds} changed memories, {valid} of them still valid");
     each_seed(part(4), |seed, _| check_cuts::<Lent>(seed, &Model::start(), lists::CALLS));

@@ -18,6 +18,7 @@ mod pair_memory;
 mod pairs;
 mod privileges;
 mod program;
+mod put_back;
 mod query;
 mod restrictions;
 mod roots;
