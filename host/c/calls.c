@@ -172,6 +172,16 @@ static int answers(const uint8_t *data, size_t len, const uint8_t *expected, siz
            memcmp(answer, expected, expected_len) == 0;
 }
 
+/* As an empty buffer of a C host. */
+static void a_null_pointer_may_stand_before_a_length_of_0(void)
+{
+    EXPECT(obriska_memory_start(&memory) == 0);
+    before = memory;
+    EXPECT(is(feed(0, NULL, 0), 0, 0, 0));
+    EXPECT(is(obriska_memory_feed(&memory, 0, NULL, 0, NULL, 0), OBRISKA_REFUSED_BUFFER, 0, 0));
+    EXPECT(unchanged());
+}
+
 static void request_5_tells_absent_disabled_and_enabled_apart(void)
 {
     static const uint8_t disable_tcb[] = {0x05, 0x05, 0x01, 0x01, 0x07, 0x00};
@@ -525,6 +535,7 @@ int main(void)
     a_free_handle_slot_is_zero_in_every_byte();
     the_lowest_of_11_to_13_refuses_a_call_and_nothing_is_written();
     a_feed_ends_at_the_first_request();
+    a_null_pointer_may_stand_before_a_length_of_0();
     request_5_tells_absent_disabled_and_enabled_apart();
     class_9_tells_the_root_which_an_anonymous_copy_has_not();
     a_root_above_the_tokens_number_is_refused();
