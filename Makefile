@@ -10,7 +10,7 @@ cargo = OBRISKA_LIB_DIR=$(abspath $(libdir)) cargo
 host = --offline --release --manifest-path host/Cargo.toml
 
 # The kit that the proofs were made with, as `rt version` says it.
-KIT = rattle-kit-5 logic 064da1ca440f63e7
+KIT = rattle-kit-5b-plain logic 097e4c862dff5811
 
 # $(call need,TOOL,WHAT FOR): ends a target at once where a tool is missing.
 need = @command -v $(1) >/dev/null || { echo "$(strip make $(MAKECMDGOALS)): $(1) is missing, which $(2)" >&2; exit 1; }
