@@ -1,4 +1,5 @@
 //! Links libobriska.a: from OBRISKA_LIB_DIR if that is set, else built here by `rt staticlib broker`.
+//! The codec alone needs none.
 
 use std::path::{Path, PathBuf};
 use std::process::Command;
@@ -6,6 +7,9 @@ use std::{env, fs};
 
 fn main() {
     println!("cargo:rerun-if-env-changed=OBRISKA_LIB_DIR");
+    if env::var_os("CARGO_FEATURE_STD").is_none() {
+        return;
+    }
     let directory = match env::var_os("OBRISKA_LIB_DIR") {
         Some(directory) => given(PathBuf::from(directory)),
         None => built(),

@@ -4,11 +4,21 @@ use std::fmt;
 
 use crate::answer::Answer;
 use crate::ffi;
-use crate::layout::{control_word, MAX_ANSWER, STATIONS};
+use crate::layout::control_word;
+use crate::limits::{MAX_ANSWER, STATIONS};
 use crate::memory::Memory;
 use crate::pair::Pair;
 use crate::refusal::Refusal;
 use crate::view::{Handle, Station, Token};
+
+/// What a part of a chunk did: [`Broker::feed_into`].
+#[derive(Clone, Copy, Debug, PartialEq, Eq)]
+pub struct Fed<'b> {
+    /// How many bytes of the chunk were used: all of them, or those up to the answer.
+    pub used: usize,
+    /// The answer's whole frame, in the buffer, if there is one.
+    pub answer: Option<&'b [u8]>,
+}
 
 /// The broker, with the memory that it works on.
 ///
@@ -58,16 +68,49 @@ impl Broker {
         let mut rest = data;
         // A refusal comes at the first call or never: valid memory stays valid.
         loop {
-            let fed = ffi::feed(&mut self.memory, station, rest, &mut buffer);
-            accepted(fed.refusal)?;
-            if fed.answered > 0 {
-                answers.push(Answer::new(&buffer[..fed.answered]));
-            }
+            let fed = self.feed_into(station, rest, &mut buffer)?;
+            answers.extend(fed.answer.map(Answer::new));
             rest = &rest[fed.used..];
             if rest.is_empty() {
                 return Ok(answers);
             }
         }
+    }
+
+    /// Feeds a chunk of a station's stream up to its first answer, without an allocation: the
+    /// answer stands at the begin of the buffer. Feed the rest of the chunk until all of it is used;
+    /// of one that is not empty, a byte is used at least.
+    ///
+    /// ```
+    /// # let mut broker = obriska::Broker::start();
+    /// let mut buffer = [0; obriska::MAX_ANSWER];
+    /// let mut rest = &[0x02, 0x01, 0x08, 0x02, 0x01, 0x28, 0x02][..]; // two requests and a part
+    /// let mut sent: Vec<u8> = Vec::new();
+    /// while !rest.is_empty() {
+    ///     let fed = broker.feed_into(0, rest, &mut buffer)?;
+    ///     if let Some(answer) = fed.answer {
+    ///         sent.extend(answer);
+    ///     }
+    ///     rest = &rest[fed.used..];
+    /// }
+    /// assert_eq!(sent, [0x02, 0x00, 0x01, 0x02, 0x00, 0x02]);
+    /// # Ok::<(), obriska::Refusal>(())
+    /// ```
+    ///
+    /// # Errors
+    ///
+    /// [`Refusal::Station`] for a station above 7, [`Refusal::Buffer`] for a buffer of less than
+    /// [`MAX_ANSWER`] bytes. Then nothing was fed.
+    pub fn feed_into<'b>(
+        &mut self,
+        station: u32,
+        data: &[u8],
+        buffer: &'b mut [u8],
+    ) -> Result<Fed<'b>, Refusal> {
+        let fed = ffi::feed(&mut self.memory, station, data, buffer);
+        accepted(fed.refusal)?;
+        let answer = (fed.answered > 0).then_some(&buffer[..fed.answered]);
+        Ok(Fed { used: fed.used, answer })
     }
 
     /// Drops the station's part of a request and its break, and nothing else.

@@ -1,7 +1,8 @@
 //! The memory that a broker works on, and its form as bytes.
 
 use crate::ffi::Handle;
-use crate::layout::{CONTROL_LEN, DACLS_LEN, HANDLES, MEMORY_BYTES, PENDING_LEN, TOKENS_LEN};
+use crate::layout::{CONTROL_LEN, DACLS_LEN, MEMORY_BYTES, PENDING_LEN, TOKENS_LEN};
+use crate::limits::HANDLES;
 
 /// The five arrays of docs/MEMORY.md.
 #[derive(Clone, PartialEq, Eq)]

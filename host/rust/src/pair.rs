@@ -1,6 +1,7 @@
 //! Linked pairs, as requests 16 and 17 have them.
 
-use crate::layout::{control_word, pair_word, PAIRS, PAIR_WORDS};
+use crate::layout::{control_word, pair_word, PAIR_WORDS};
+use crate::limits::PAIRS;
 use crate::memory::Memory;
 
 /// A linked pair: a session's elevated and filtered token, which it keeps alive.

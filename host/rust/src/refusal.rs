@@ -1,6 +1,6 @@
 //! The refusals, by name and number.
 
-use std::fmt;
+use core::fmt;
 
 /// Why the broker said no.
 ///
@@ -45,7 +45,7 @@ pub enum Refusal {
     Broken = 10,
     /// There is no such station.
     Station = 11,
-    /// The answer buffer is too short; [`Broker`](crate::Broker) lends one that never is.
+    /// The answer buffer is too short.
     Buffer = 12,
     /// The memory is not valid.
     Memory = 13,
@@ -113,4 +113,5 @@ impl fmt::Display for Refusal {
     }
 }
 
+#[cfg(feature = "std")]
 impl std::error::Error for Refusal {}

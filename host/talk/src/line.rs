@@ -1,7 +1,5 @@
 //! A line: what it asks for, or what is wrong with it.
 
-use obriska::{LENGTH_BYTES, MAX_BODY};
-
 use crate::arguments::Arguments;
 use crate::hex;
 use crate::reports::Reports;
@@ -51,7 +49,7 @@ fn alone(line: Word) -> Result<Command, Mistake> {
 
 /// A line for a station.
 fn at_station(station: Word, rest: Word, reports: &Reports) -> Result<Command, Mistake> {
-    let station = station.number("station", u32::MAX.into())? as u32;
+    let station = station.u32("station")?;
     let mut words = rest.words();
     if words.is_empty() {
         return Err(rest.mistake("missing: a request"));
@@ -75,9 +73,6 @@ fn at_station(station: Word, rest: Word, reports: &Reports) -> Result<Command, M
     let bytes = request::frame(name, Arguments::new(name, words)).ok_or_else(|| {
         name.mistake(format_args!("'{}' is no request; 'help' lists them", name.text))
     })??;
-    if bytes.len() > LENGTH_BYTES + MAX_BODY {
-        return Err(name.mistake(format_args!("the request is over {MAX_BODY} bytes")));
-    }
     Ok(Command::Send { station, bytes })
 }
 

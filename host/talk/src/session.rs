@@ -81,9 +81,9 @@ impl Session {
             Ok(answers) => answers,
             Err(refusal) => return writeln!(out, "   {refusal}"),
         };
-        let bodies = answer::bodies(&stream);
+        let requests = answer::frames(&stream);
         for (index, answer) in answers.iter().enumerate() {
-            let request = bodies.get(index).copied().unwrap_or_default();
+            let request = requests.get(index).copied().unwrap_or_default();
             self.reports.take(station, request, answer);
             let words = answer::words(request, answer);
             self.beside(&format!("   {}", words[0]), '<', answer.bytes(), out)?;

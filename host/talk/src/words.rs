@@ -121,6 +121,11 @@ impl<'a> Word<'a> {
         Ok(number)
     }
 
+    /// The number of 32 bits that this word is.
+    pub fn u32(self, what: &str) -> Result<u32, Mistake> {
+        self.number(what, u32::MAX.into()).map(|number| number as u32)
+    }
+
     /// The word in quotes, or 'nothing'.
     pub fn quoted(self) -> String {
         if self.text.is_empty() {
