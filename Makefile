@@ -1,7 +1,7 @@
 # Builds the proved broker for hosts, installs it, plays the first minute and tests the hosts.
 # The proofs and all tests are .ci/run.
 
-VERSION = 0.1.0
+VERSION = 0.2.0
 PREFIX ?= /usr/local
 DESTDIR ?=
 CFLAGS ?= -O2
@@ -66,8 +66,8 @@ $(library): crates.txt $(sources)
 	@kit=$$(rt version); echo "== kit: $$kit"; \
 	    [ "$$kit" = "$(KIT)" ] || echo "warning: another kit than $(KIT)" >&2
 	@echo "== proving and compiling the broker (the first time takes minutes)"
-	rt staticlib broker
 	@mkdir -p $(libdir)
+	@host/progress $(libdir)/proofs.log rt staticlib broker
 	cp target/staticlib/libbroker.a $@
 	@echo "== sha256 $$(sha256sum $@)"
 endif

@@ -40,6 +40,17 @@
 extern "C" {
 #endif
 
+/* ---- the edition ---------------------------------------------------------------------------- */
+
+#define OBRISKA_VERSION "0.2.0"
+#define OBRISKA_VERSION_MAJOR 0
+#define OBRISKA_VERSION_MINOR 2
+#define OBRISKA_VERSION_PATCH 0
+
+/* The layout of the lent memory, raised whenever that changes. Store it with memory that is to be lent
+ * again later, and start anew where it differs: docs/MEMORY.md has the form and all layouts. */
+#define OBRISKA_LAYOUT 5
+
 /* ---- limits --------------------------------------------------------------------------------- */
 
 #define OBRISKA_STATIONS 8 /* stations 0 to 7 */

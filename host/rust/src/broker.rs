@@ -4,6 +4,7 @@ use std::fmt;
 
 use crate::answer::Answer;
 use crate::ffi;
+use crate::kept::{self, KeptError};
 use crate::layout::control_word;
 use crate::limits::{MAX_ANSWER, STATIONS};
 use crate::memory::Memory;
@@ -13,6 +14,7 @@ use crate::view::{Handle, Station, Token};
 
 /// What a part of a chunk did: [`Broker::feed_into`].
 #[derive(Clone, Copy, Debug, PartialEq, Eq)]
+#[non_exhaustive]
 pub struct Fed<'b> {
     /// How many bytes of the chunk were used: all of them, or those up to the answer.
     pub used: usize,
@@ -165,8 +167,9 @@ impl Broker {
     /// broker.feed(0, &[0x06, 0x0A, 0x01, 0x00, 0x00, 0x00, 0x00])?; // a copy of it, token 3
     /// let answers = broker.feed(0, &[0x04, 0x10, 0x01, 0x02, 0x07])?; // they are linked
     /// assert_eq!(answers[0].bytes(), [0x01, 0x00]);
-    /// let pair = obriska::Pair { session: 7, elevated: 2, filtered: 3 };
-    /// assert!(broker.pairs().eq([pair]));
+    /// let pair = broker.pairs().next().expect("it was just made");
+    /// assert_eq!((pair.session, pair.elevated, pair.filtered), (7, 2, 3));
+    /// assert_eq!([2, 3, 4].map(|token| pair.partner(token)), [Some(3), Some(2), None]);
     /// # Ok::<(), obriska::Refusal>(())
     /// ```
     pub fn pairs(&self) -> impl Iterator<Item = Pair> + '_ {
@@ -183,8 +186,8 @@ impl Broker {
         self.memory.control[control_word::NEXT_HANDLE] as u32
     }
 
-    /// All that the broker keeps, to be stored across a restart: [`MEMORY_BYTES`] bytes, the same
-    /// as a C host has in `struct obriska_memory` (docs/MEMORY.md).
+    /// All that the broker keeps, to be stored across a restart: [`KEPT_BYTES`] bytes, a head that
+    /// names the layout and then what a C host has in `struct obriska_memory` (docs/MEMORY.md).
     ///
     /// ```
     /// use obriska::Broker;
@@ -194,23 +197,32 @@ impl Broker {
     ///
     /// let mut later = Broker::from_bytes(&kept)?;
     /// assert!(later.handle(0, 1).is_some());
-    /// # Ok::<(), obriska::Refusal>(())
+    /// # Ok::<(), Box<dyn std::error::Error>>(())
     /// ```
     ///
-    /// [`MEMORY_BYTES`]: crate::MEMORY_BYTES
+    /// [`KEPT_BYTES`]: crate::KEPT_BYTES
     pub fn to_bytes(&self) -> Vec<u8> {
-        self.memory.to_bytes()
+        kept::write(&self.memory)
     }
 
     /// The broker that these bytes were kept of.
     ///
+    /// ```
+    /// use obriska::{Broker, KeptError};
+    /// let mut kept = Broker::start().to_bytes();
+    /// kept[8] = 4; // as another edition kept it
+    /// let error = Broker::from_bytes(&kept).expect_err("start anew");
+    /// assert_eq!(error, KeptError::Layout(4));
+    /// assert_eq!(error.to_string(), "kept memory of another edition: its layout is 4, not 5");
+    /// ```
+    ///
     /// # Errors
     ///
-    /// [`Refusal::Memory`] when they are not valid memory, by the proved test of every call.
-    pub fn from_bytes(bytes: &[u8]) -> Result<Self, Refusal> {
-        let memory = Memory::from_bytes(bytes).ok_or(Refusal::Memory)?;
-        let mut broker = Broker { memory };
-        broker.feed(0, &[])?; // an empty chunk changes nothing
+    /// Where they are something else, of another edition, cut short, or not valid memory by the
+    /// proved test of every call.
+    pub fn from_bytes(bytes: &[u8]) -> Result<Self, KeptError> {
+        let mut broker = Broker { memory: kept::read(bytes)? };
+        broker.feed(0, &[]).map_err(KeptError::Refused)?; // an empty chunk changes nothing
         Ok(broker)
     }
 }

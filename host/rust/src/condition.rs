@@ -38,6 +38,7 @@ const MAX_BYTES: usize = MAX_BODY - 2;
 /// # Ok::<(), Box<dyn std::error::Error>>(())
 /// ```
 #[derive(Clone, Debug, PartialEq, Eq, Hash)]
+#[non_exhaustive]
 pub enum Condition {
     /// Each of them holds; of none, it does.
     All(Vec<Condition>),
@@ -54,6 +55,7 @@ pub enum Condition {
 
 /// Why no request has a condition.
 #[derive(Clone, Copy, Debug, PartialEq, Eq)]
+#[non_exhaustive]
 pub enum ConditionError {
     /// It is deeper than [`MAX_DEPTH`].
     TooDeep,

@@ -81,8 +81,17 @@ pub(crate) const DACLS_LEN: usize = TOKENS * DACL_BYTES;
 pub(crate) const CONTROL_LEN: usize = control_word::FIRST_PAIR + PAIRS * PAIR_WORDS;
 pub(crate) const PENDING_LEN: usize = STATIONS * PENDING_BYTES;
 
-/// How many bytes [`Broker::to_bytes`](crate::Broker::to_bytes) gives.
+/// How many bytes the five arrays have together.
 pub const MEMORY_BYTES: usize = (TOKENS_LEN + CONTROL_LEN) * size_of::<u64>()
     + DACLS_LEN
     + HANDLES * HANDLE_BYTES
     + PENDING_LEN;
+
+/// The arrays in their order, with their bytes.
+pub(crate) const PARTS: [(&str, u32); 5] = [
+    ("tokens", (TOKENS_LEN * size_of::<u64>()) as u32),
+    ("dacls", DACLS_LEN as u32),
+    ("handles", (HANDLES * HANDLE_BYTES) as u32),
+    ("control", (CONTROL_LEN * size_of::<u64>()) as u32),
+    ("pending", PENDING_LEN as u32),
+];

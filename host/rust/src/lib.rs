@@ -50,6 +50,8 @@ mod condition;
 #[cfg(feature = "std")]
 mod ffi;
 #[cfg(feature = "std")]
+mod kept;
+#[cfg(feature = "std")]
 mod layout;
 mod limits;
 #[cfg(feature = "std")]
@@ -63,6 +65,7 @@ mod refusal;
 #[cfg(feature = "alloc")]
 mod restore;
 mod terms;
+mod version;
 #[cfg(feature = "std")]
 mod view;
 
@@ -72,6 +75,8 @@ pub use answer::Answer;
 pub use broker::{Broker, Fed};
 #[cfg(feature = "alloc")]
 pub use condition::{Condition, ConditionError};
+#[cfg(feature = "std")]
+pub use kept::{KeptError, KEPT_BYTES};
 #[cfg(feature = "std")]
 pub use layout::MEMORY_BYTES;
 pub use limits::{
@@ -85,5 +90,6 @@ pub use refusal::Refusal;
 #[cfg(feature = "alloc")]
 pub use restore::{Restore, RestoreError};
 pub use terms::{Client, Elevation, Group, Level, Privileges, TokenType, NO_CLIENT, NO_ROOT};
+pub use version::{LAYOUT, VERSION};
 #[cfg(feature = "std")]
 pub use view::{Handle, Station, Token};

@@ -25,10 +25,9 @@ impl Memory {
         })
     }
 
-    /// The arrays one after the other, little-endian, as a C host has them in
+    /// Appends the arrays one after the other, little-endian, as a C host has them in
     /// `struct obriska_memory`.
-    pub(crate) fn to_bytes(&self) -> Vec<u8> {
-        let mut bytes = Vec::with_capacity(MEMORY_BYTES);
+    pub(crate) fn write(&self, bytes: &mut Vec<u8>) {
         bytes.extend(self.tokens.iter().flat_map(|word| word.to_le_bytes()));
         bytes.extend(self.dacls);
         for handle in &self.handles {
@@ -39,7 +38,6 @@ impl Memory {
         }
         bytes.extend(self.control.iter().flat_map(|word| word.to_le_bytes()));
         bytes.extend(self.pending);
-        bytes
     }
 
     /// The memory that these bytes hold; `None` when their number is wrong.

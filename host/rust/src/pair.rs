@@ -10,6 +10,7 @@ use crate::memory::Memory;
 /// [`Full`](crate::Elevation::Full) and [`Limited`](crate::Elevation::Limited). They keep it when
 /// another pair replaces this one, so it does not tell whether a token is in a pair.
 #[derive(Clone, Copy, Debug, PartialEq, Eq)]
+#[non_exhaustive]
 pub struct Pair {
     /// Whose pair it is; no two have the same.
     pub session: u64,
@@ -37,11 +38,6 @@ impl Pair {
     }
 
     /// The pair's other token, if this is the number of one of the two.
-    ///
-    /// ```
-    /// let pair = obriska::Pair { session: 5, elevated: 2, filtered: 3 };
-    /// assert_eq!([2, 3, 4].map(|token| pair.partner(token)), [Some(3), Some(2), None]);
-    /// ```
     pub fn partner(&self, token: u64) -> Option<u64> {
         match token {
             _ if token == self.elevated => Some(self.filtered),

@@ -17,6 +17,7 @@ use core::fmt;
 /// ```
 #[derive(Clone, Copy, Debug, PartialEq, Eq, Hash)]
 #[repr(u32)]
+#[non_exhaustive]
 pub enum Refusal {
     /// Unknown request, or a body not in its layout, or bytes left over; a condition deeper than
     /// [`MAX_DEPTH`](crate::MAX_DEPTH).

@@ -42,6 +42,7 @@ pub struct Restore {
 
 /// Why nothing is put back by a request and its answer.
 #[derive(Clone, Copy, Debug, PartialEq, Eq)]
+#[non_exhaustive]
 pub enum RestoreError {
     /// The first bytes are not one whole request 5 that may succeed.
     Request,

@@ -11,6 +11,7 @@ use crate::terms::{Client, Elevation, Group, Level, Privileges, TokenType, NO_CL
 
 /// A live token.
 #[derive(Clone, Debug, PartialEq, Eq)]
+#[non_exhaustive]
 pub struct Token {
     /// Its own number, from 1.
     pub number: u64,
@@ -104,6 +105,7 @@ fn group(word: u64) -> Group {
 
 /// A live handle.
 #[derive(Clone, Copy, Debug, PartialEq, Eq)]
+#[non_exhaustive]
 pub struct Handle {
     /// Whose it is.
     pub station: u32,
@@ -128,6 +130,7 @@ impl Handle {
 
 /// A station and its stream.
 #[derive(Clone, Debug, PartialEq, Eq)]
+#[non_exhaustive]
 pub struct Station {
     /// The number of its primary token.
     pub token: u64,

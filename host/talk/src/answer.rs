@@ -87,7 +87,7 @@ fn groups_text(previous: PreviousGroups) -> String {
 }
 
 /// A query's report.
-fn report_lines(report: Report) -> Vec<String> {
+pub fn report_lines(report: Report) -> Vec<String> {
     vec![match report {
         Report::User(sid) => format!("user {}", vocabulary::sid_text(sid.into())),
         Report::Groups(groups) => return group_lines(groups),

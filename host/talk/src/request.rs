@@ -1,7 +1,7 @@
 //! The requests: from the words after the station to the bytes of a frame.
 
 use obriska::codec::{GroupEntry, PrivilegeEntry, Request, WriteError, KEEP};
-use obriska::{Group, MAX_ANSWER};
+use obriska::{Group, TokenType, MAX_ANSWER};
 
 use crate::arguments::Arguments;
 use crate::condition;
@@ -158,7 +158,15 @@ fn duplicate(arguments: &mut Arguments) -> Parsed {
     let options = arguments.options(&["type", "level", "rights"], &[])?;
     let given = |key: &str| options.get(key).ok_or_else(|| arguments.missing(&format!("{key}=..")));
     let token_type = vocabulary::number(given("type")?, "type", &TYPES)?;
-    let level = options.parsed("level", |word| vocabulary::number(word, "level", &LEVELS))?;
+    let level = match options.get("level") {
+        Some(word) => vocabulary::number(word, "level", &LEVELS)?,
+        None if token_type == TokenType::Impersonation.number() => {
+            return Err(
+                arguments.missing(&format!("level=.., one of {}", vocabulary::names(&LEVELS)))
+            );
+        }
+        None => 0,
+    };
     let mask = vocabulary::rights(given("rights")?)?;
     Ok(Request::Duplicate { handle, token_type, level, mask }.to_bytes())
 }

@@ -40,9 +40,13 @@ pub fn number(word: Word, what: &str, names: &[Named]) -> Result<u32, Mistake> {
     }
     let found = names.iter().find(|named| normal(named.1) == normal(word.text));
     found.map(|named| named.0).ok_or_else(|| {
-        let names: Vec<_> = names.iter().map(|named| named.1).collect();
-        word.mistake(format_args!("{} is no {what}: {}", word.quoted(), names.join(", ")))
+        word.mistake(format_args!("{} is no {what}: {}", word.quoted(), self::names(names)))
     })
+}
+
+/// The names alone.
+pub fn names(names: &[Named]) -> String {
+    names.iter().map(|named| named.1).collect::<Vec<_>>().join(", ")
 }
 
 /// The number of a privilege: tcb, SeTcbPrivilege and 7 are the same.
@@ -56,9 +60,18 @@ pub fn privilege(word: Word) -> Result<u32, Mistake> {
     })
 }
 
-/// A SID.
+/// A SID: a number, or one of the few names.
 pub fn sid(word: Word) -> Result<u32, Mistake> {
-    number(word, "SID", &names::SIDS)
+    number(word, "SID", &names::SIDS).map_err(|mistake| Mistake {
+        message: match word.as_number() {
+            Some(_) => mistake.message,
+            None => {
+                let names = names(&names::SIDS);
+                format!("{} is no SID: say a number such as 1000, or {names}", word.quoted())
+            }
+        },
+        ..mistake
+    })
 }
 
 /// The numbers of some names, joined.
@@ -190,6 +203,18 @@ mod tests {
         assert_eq!(privilege(Word::line("create-token")), Ok(2));
         assert_eq!(privilege(Word::line("37")), Ok(37));
         assert!(privilege(Word::line("tcbb")).is_err());
+    }
+
+    #[test]
+    fn a_sid_is_a_number_or_a_name() {
+        assert_eq!(sid(Word::line("1000")), Ok(1000));
+        assert_eq!(sid(Word::line("system")), Ok(18));
+        let message = |text| sid(Word::line(text)).unwrap_err().message;
+        assert_eq!(
+            message("bob"),
+            "'bob' is no SID: say a number such as 1000, or Anonymous, SYSTEM"
+        );
+        assert_eq!(message("4294967296"), "4294967296 is over 4294967295");
     }
 
     #[test]
