@@ -1,13 +1,19 @@
 # Builds the proved broker for hosts, installs it, plays the first minute and tests the hosts.
 # The proofs and all tests are .ci/run.
 
-VERSION = 0.1.0
+VERSION = 0.2.0
 PREFIX ?= /usr/local
 DESTDIR ?=
 CFLAGS ?= -O2
 warnings = -Wall -Wextra -Wconversion -Wpedantic -Werror
 cargo = OBRISKA_LIB_DIR=$(abspath $(libdir)) cargo
 host = --offline --release --manifest-path host/Cargo.toml
+
+# The kit that the proofs were made with, as `rt version` says it.
+KIT = rattle-kit-5b-plain logic 097e4c862dff5811
+
+# $(call need,TOOL,WHAT FOR): ends a target at once where a tool is missing.
+need = @command -v $(1) >/dev/null || { echo "$(strip make $(MAKECMDGOALS)): $(1) is missing, which $(2)" >&2; exit 1; }
 
 # A library that is there already can be named by its directory; else the proved one is built.
 ifdef OBRISKA_LIB_DIR
@@ -18,6 +24,7 @@ endif
 library = $(libdir)/libobriska.a
 
 .PHONY: lib help play talk example install check-hosts check-c bench-numbers clean
+.PHONY: need-cargo need-cc need-checks need-benches
 lib: $(library)
 
 help:
@@ -25,50 +32,76 @@ help:
 	@echo "make play                plays examples/first-minute.talk, with the bytes beside"
 	@echo "make talk                talk to a broker at the prompt"
 	@echo "make example             build/first_minute, the example host in C"
-	@echo "make install PREFIX=..   header, library and pkg-config file (DESTDIR is honoured)"
-	@echo "make check-hosts         tests of the C header and example, the Rust crate and talk"
+	@echo "make install PREFIX=..   headers, library and pkg-config file (DESTDIR is honoured)"
+	@echo "make check-hosts         tests of the C headers and example, the Rust crate and talk"
 	@echo "make bench-numbers       times the number reader beside the one before it"
 	@echo "make clean               removes build/ and host/target/"
 
-ifndef OBRISKA_LIB_DIR
+# These stand before $(library) in a target that needs them, so that nothing is proved in vain.
+need-cargo:
+	$(call need,cargo,builds the Rust crate and obriska-talk)
+
+need-cc:
+	$(call need,$(firstword $(CC)),compiles the example)
+
+need-checks:
+	$(call need,cc,compiles the tests of the C headers)
+	$(call need,c++,compiles the tests of the headers in C++)
+	$(call need,nm,tells what the library needs)
+	$(call need,pkg-config,finds the installed copy that is tested)
+
+need-benches:
+	$(call need,rt,compiles what is timed)
+	$(call need,cargo,builds the benchmark)
+
+ifdef OBRISKA_LIB_DIR
+$(library):
+	@echo "OBRISKA_LIB_DIR names a directory without libobriska.a: $(libdir)" >&2
+	@exit 1
+else
+# From the same sources and kit the archive is the same byte for byte, so its sha256 is told.
 sources = $(shell find crates -type f -not -path '*/must-fail/*')
 $(library): crates.txt $(sources)
+	$(call need,rt,proves and compiles the broker: $(KIT); OBRISKA_LIB_DIR=.. takes a library that is there)
+	@kit=$$(rt version); echo "== kit: $$kit"; \
+	    [ "$$kit" = "$(KIT)" ] || echo "warning: another kit than $(KIT)" >&2
 	@echo "== proving and compiling the broker (the first time takes minutes)"
-	rt staticlib broker
 	@mkdir -p $(libdir)
+	@host/progress $(libdir)/proofs.log rt staticlib broker
 	cp target/staticlib/libbroker.a $@
+	@echo "== sha256 $$(sha256sum $@)"
 endif
 
-play: $(library)
+play: need-cargo $(library)
 	@echo "== building obriska-talk"
 	$(cargo) build $(host) --package obriska-talk
 	@echo "== playing examples/first-minute.talk"
 	@host/target/release/obriska-talk --hex examples/first-minute.talk
 
-talk: $(library)
+talk: need-cargo $(library)
 	@$(cargo) build $(host) --package obriska-talk
 	@host/target/release/obriska-talk
 
-example: build/first_minute
+example: need-cc build/first_minute
 
-build/first_minute: examples/c/first_minute.c include/obriska.h $(library)
+build/first_minute: examples/c/first_minute.c include/obriska.h include/obriska_codec.h $(library)
 	@mkdir -p build
 	$(CC) -std=c11 $(warnings) $(CFLAGS) -Iinclude $< $(library) -o $@
 
 install: $(library)
 	install -d $(DESTDIR)$(PREFIX)/include $(DESTDIR)$(PREFIX)/lib/pkgconfig
-	install -m 644 include/obriska.h $(DESTDIR)$(PREFIX)/include/obriska.h
+	install -m 644 include/obriska.h include/obriska_codec.h $(DESTDIR)$(PREFIX)/include
 	install -m 644 $(library) $(DESTDIR)$(PREFIX)/lib/libobriska.a
 	sed -e 's|@PREFIX@|$(PREFIX)|' -e 's|@VERSION@|$(VERSION)|' include/obriska.pc.in \
 	    > $(DESTDIR)$(PREFIX)/lib/pkgconfig/obriska.pc
 
-check-c: $(library)
+check-c: need-checks $(library)
 	@OBRISKA_LIB_DIR=$(abspath $(libdir)) host/c/check
 
-check-hosts: check-c
+check-hosts: need-cargo check-c
 	$(cargo) test $(host)
 
-bench-numbers:
+bench-numbers: need-benches
 	tests/numbers/libraries
 	OBRISKA_LIB_DIR=$(abspath target/numbers) cargo run --release --offline --manifest-path tests/Cargo.toml --package numbers
 

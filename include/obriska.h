@@ -1,12 +1,13 @@
 /*
- * obriska.h: the rights broker, for hosts in C and C++ (x86-64).
+ * obriska.h: the rights broker, for hosts in C and C++ (x86-64). What stations send and get is built and
+ * read by obriska_codec.h.
  *
  * The host lends the broker its memory, as five arrays, on each call. The broker keeps nothing
  * anywhere else, allocates nothing, never calls back and always returns. A host
  *
  *   1. sets aside a `struct obriska_memory` (OBRISKA_MEMORY_BYTES) and starts it once;
  *   2. feeds each station's bytes as they come, in chunks of any length, until the chunk is used
- *      up, and sends each answer to that station;
+ *      up, and sends each answer, where there is one, to that station;
  *   3. reconnects a station when its line was cut.
  *
  * What every call returns and every lent byte after it are proved for any input, refusals too
@@ -18,6 +19,16 @@
  *   - one call at a time on one memory, and nobody else writes the arrays during a call.
  *
  * Nothing is asked of what the arrays hold: memory that is not valid is refused by 13.
+ *
+ * What the library is:
+ *
+ *   - an object for x86-64 and the System V calling convention (ELF); not yet for other processors;
+ *   - nothing is linked to it but memcpy and memset (`nm -u libobriska.a`);
+ *   - it has no writable data: separate memories may be used in parallel, by any threads;
+ *   - a call takes less than 8 KiB of stack, beside what the host's memcpy and memset take. The largest
+ *     requests on full tables, with conditions eight deep, touch 5.7 KiB (host/c/stack.c); the frames of
+ *     the compiled code add up to 6.5 KiB on the deepest path;
+ *   - it has no unwind tables: a backtrace ends in a call, and nothing may be thrown through one.
  */
 #ifndef OBRISKA_H
 #define OBRISKA_H
@@ -28,6 +39,17 @@
 #ifdef __cplusplus
 extern "C" {
 #endif
+
+/* ---- the edition ---------------------------------------------------------------------------- */
+
+#define OBRISKA_VERSION "0.2.0"
+#define OBRISKA_VERSION_MAJOR 0
+#define OBRISKA_VERSION_MINOR 2
+#define OBRISKA_VERSION_PATCH 0
+
+/* The layout of the lent memory, raised whenever that changes. Store it with memory that is to be lent
+ * again later, and start anew where it differs: docs/MEMORY.md has the form and all layouts. */
+#define OBRISKA_LAYOUT 5
 
 /* ---- limits --------------------------------------------------------------------------------- */
 
@@ -199,7 +221,8 @@ enum obriska_refusal {
 
 /* ---- answers -------------------------------------------------------------------------------- */
 
-/* After the length and the status 0 an answer has its request's fields, as numbers of seven bits a
+/* The length takes one byte where the body has less than 128, else two; the status is the byte after it.
+ * After the length and the status 0 an answer has its request's fields, as numbers of seven bits a
  * byte, low bits first, the top bit set on all bytes but the last:
  *
  *   1, 3, 9, 10, 17
@@ -341,13 +364,17 @@ static inline uint32_t obriska_memory_start(struct obriska_memory *m)
                          OBRISKA_PENDING_LEN);
 }
 
+/* Here a pointer may be null before a length of 0, as an empty buffer's often is in C. */
 static inline struct obriska_fed obriska_memory_feed(struct obriska_memory *m, uint32_t station,
                                                      const uint8_t *data, size_t data_len,
                                                      uint8_t *answer, size_t answer_len)
 {
-    return obriska_feed(station, data, data_len, answer, answer_len, m->tokens, OBRISKA_TOKENS_LEN,
-                        m->dacls, OBRISKA_DACLS_LEN, m->handles, OBRISKA_HANDLES_LEN, m->control,
-                        OBRISKA_CONTROL_LEN, m->pending, OBRISKA_PENDING_LEN);
+    uint8_t nothing = 0;
+    return obriska_feed(station, data_len == 0 ? &nothing : data, data_len,
+                        answer_len == 0 ? &nothing : answer, answer_len, m->tokens,
+                        OBRISKA_TOKENS_LEN, m->dacls, OBRISKA_DACLS_LEN, m->handles,
+                        OBRISKA_HANDLES_LEN, m->control, OBRISKA_CONTROL_LEN, m->pending,
+                        OBRISKA_PENDING_LEN);
 }
 
 static inline uint32_t obriska_memory_reconnect(struct obriska_memory *m, uint32_t station)

@@ -1,5 +1,5 @@
 /*
- * A host in C: it plays the first minute at station 0 and writes each chunk and each answer.
+ * A host and a screen in C: plays the first minute and writes each chunk, each answer and what it says.
  *
  *     cc -std=c11 first_minute.c $(pkg-config --cflags --libs obriska) -o first_minute
  */
@@ -9,27 +9,13 @@
 #include <stdlib.h>
 
 #include "obriska.h"
+#include "obriska_codec.h"
 
-static const char *refusal_text(uint32_t refusal)
-{
-    switch (refusal) {
-    case OBRISKA_REFUSED_LAYOUT: return "unknown request, or not in its layout";
-    case OBRISKA_REFUSED_HANDLE: return "not a live handle of this station";
-    case OBRISKA_REFUSED_RIGHT: return "the handle lacks the right";
-    case OBRISKA_REFUSED_PRIVILEGE: return "a privilege is not held";
-    case OBRISKA_REFUSED_FIELD: return "a field or entry is bad";
-    case OBRISKA_REFUSED_PROTECTED: return "a mandatory, deny-only or logon group, or disabling the user's";
-    case OBRISKA_REFUSED_MISMATCH: return "another user or session, or only the own token is restricted";
-    case OBRISKA_REFUSED_FULL: return "no room left";
-    case OBRISKA_REFUSED_CAPACITY: return "the report is larger than the capacity";
-    case OBRISKA_REFUSED_BROKEN: return "the stream is broken";
-    case OBRISKA_REFUSED_STATION: return "no such station";
-    case OBRISKA_REFUSED_BUFFER: return "the answer buffer is too short";
-    case OBRISKA_REFUSED_MEMORY: return "the memory is not valid";
-    case OBRISKA_REFUSED_NOT_LINKED: return "the token is in no linked pair";
-    default: return "unknown refusal";
-    }
-}
+/* ---- the host -------------------------------------------------------------------------------- */
+
+static struct obriska_memory memory;         /* all that the broker keeps */
+static uint8_t answered[OBRISKA_ANSWER_LEN]; /* the bytes of the last answer */
+static struct obriska_answer answer;         /* and how they read */
 
 /* Bytes of a long chunk that are written. */
 enum { SHOWN = 24 };
@@ -42,53 +28,54 @@ static void print_bytes(const uint8_t *bytes, size_t len)
         printf(" .. (%zu bytes)", len);
 }
 
-/* Answers here are short, so their length is one byte and the status is the second. */
-static void print_answer(const uint8_t *answer, size_t len)
+static bool take_answer(size_t len)
 {
     printf("   <");
-    print_bytes(answer, len);
-    if (answer[1] != 0)
-        printf("   refused %u: %s", (unsigned)answer[1], refusal_text(answer[1]));
+    print_bytes(answered, len);
+    bool whole = obriska_read_answer(&answer, answered, len);
+    if (!whole)
+        printf("   %s, at byte %zu", obriska_error_text(answer.error), answer.place);
+    else if (answer.status != 0)
+        printf("   refused %" PRIu32 ": %s", answer.status, obriska_refusal_text(answer.status));
     printf("\n");
+    return whole;
 }
 
 /* Feeds a station's chunk until it is used up. False if the broker refused the call. */
-static bool send_chunk(struct obriska_memory *memory, uint32_t station, const uint8_t *data,
-                       size_t len)
+static bool send_chunk(uint32_t station, const uint8_t *data, size_t len)
 {
-    uint8_t answer[OBRISKA_ANSWER_LEN];
     printf("   %" PRIu32 " >", station);
     print_bytes(data, len);
     printf("\n");
     while (len > 0) {
         struct obriska_fed fed =
-            obriska_memory_feed(memory, station, data, len, answer, sizeof answer);
+            obriska_memory_feed(&memory, station, data, len, answered, sizeof answered);
         if (fed.refusal != 0) {
-            printf("   call refused %" PRIu32 ": %s\n", fed.refusal, refusal_text(fed.refusal));
+            printf("   call refused %" PRIu32 ": %s\n", fed.refusal, obriska_refusal_text(fed.refusal));
             return false;
         }
-        if (fed.answered > 0)
-            print_answer(answer, fed.answered);
+        if (fed.answered > 0 && !take_answer(fed.answered)) /* 0: the request is not whole yet */
+            return false;
         data += fed.used;
         len -= fed.used;
     }
     return true;
 }
 
-static bool reconnect(struct obriska_memory *memory, uint32_t station)
+static bool reconnect(uint32_t station)
 {
-    uint32_t refusal = obriska_memory_reconnect(memory, station);
+    uint32_t refusal = obriska_memory_reconnect(&memory, station);
     if (refusal != 0) {
-        printf("   call refused %" PRIu32 ": %s\n", refusal, refusal_text(refusal));
+        printf("   call refused %" PRIu32 ": %s\n", refusal, obriska_refusal_text(refusal));
         return false;
     }
     printf("   %" PRIu32 " reconnected\n", station);
     return true;
 }
 
-static void print_handle(const struct obriska_memory *memory, uint32_t station, uint32_t number)
+static void print_handle(uint32_t station, uint32_t number)
 {
-    const struct obriska_handle *handle = obriska_memory_find(memory, station, number);
+    const struct obriska_handle *handle = obriska_memory_find(&memory, station, number);
     printf("   handle %" PRIu32 " of station %" PRIu32 ": ", number, station);
     if (handle == NULL)
         printf("none\n");
@@ -96,80 +83,117 @@ static void print_handle(const struct obriska_memory *memory, uint32_t station, 
         printf("token %" PRIu64 ", mask 0x%" PRIX16 "\n", handle->token, handle->mask);
 }
 
-/* Bytes of the longest chunk in the list below. */
-enum { LONGEST_STEP = 7 };
+/* ---- a screen: requests by their fields, answers by theirs ----------------------------------- */
 
-struct step {
-    const char *title;
-    uint32_t station;
-    size_t len;
-    uint8_t data[LONGEST_STEP];
-};
+static uint8_t frame[OBRISKA_FRAME_LEN];
 
-static const struct step first_steps[] = {
-    {"A: open the own token, for query and adjust-privileges", 0, 3, {0x02, 0x01, 0x28}},
-    {"B: disable Tcb; it was enabled", 0, 6, {0x05, 0x05, 0x01, 0x01, 0x07, 0x00}},
-    {"C: query the privileges", 0, 5, {0x04, 0x04, 0x01, 0x03, 0x40}},
-    {"D: capacity 18 is one too small", 0, 5, {0x04, 0x04, 0x01, 0x03, 0x12}},
-    {"D: capacity 19 is enough", 0, 5, {0x04, 0x04, 0x01, 0x03, 0x13}},
-    {"G: handle 1 is not station 1's", 1, 5, {0x04, 0x04, 0x01, 0x03, 0x40}},
-    {"H: two requests in one chunk; mask 0x1EF opens, 0x10 is bad", 0, 7,
-     {0x03, 0x01, 0xEF, 0x03, 0x02, 0x01, 0x10}},
-    {"I: privilege 36 exists", 0, 6, {0x05, 0x05, 0x01, 0x01, 0x24, 0x00}},
-    {"I: privilege 37 does not", 0, 6, {0x05, 0x05, 0x01, 0x01, 0x25, 0x00}},
-    {"K: 80 00 is not the shortest form of 0", 0, 4, {0x03, 0x01, 0x80, 0x00}},
-    {"F: length 2,049 breaks the stream; what follows is passed over", 0, 5,
-     {0x81, 0x10, 0x02, 0x01, 0x08}},
-};
-
-static bool play_steps(struct obriska_memory *memory)
+/* Opens the station's own token; gives the handle, or 0. */
+static uint32_t open_own(uint32_t station, uint32_t mask)
 {
-    for (size_t i = 0; i < sizeof first_steps / sizeof first_steps[0]; i++) {
-        const struct step *step = &first_steps[i];
-        printf("%s\n", step->title);
-        if (!send_chunk(memory, step->station, step->data, step->len))
-            return false;
-    }
-    return reconnect(memory, 0);
+    uint32_t handle = 0;
+    size_t len = obriska_build_open_own(frame, sizeof frame, mask);
+    if (!send_chunk(station, frame, len) || !obriska_read_handle(&answer, &handle))
+        return 0;
+    printf("   handle %" PRIu32 "\n", handle);
+    return handle;
 }
 
-static bool play_longest_request(struct obriska_memory *memory)
+/* Disables a privilege, and says what it was. */
+static bool disable(uint32_t station, uint32_t handle, uint32_t privilege)
 {
-    static const uint8_t longest[OBRISKA_LENGTH_BYTES + OBRISKA_MAX_BODY] = {0x80, 0x10};
+    static const char *const was[] = {"absent", "disabled", "enabled"};
+    const struct obriska_privilege_entry entry = {privilege, OBRISKA_DISABLE};
+    struct obriska_privileges_before before;
+    size_t len = obriska_build_privileges(frame, sizeof frame, handle, &entry, 1);
+    if (!send_chunk(station, frame, len))
+        return false;
+    if (obriska_read_privileges_before(&answer, &before))
+        printf("   it was %s\n", was[obriska_privilege_was(&before, privilege)]);
+    return true;
+}
+
+/* Asks for the privileges, and says whether Tcb is enabled or how large the report is. */
+static bool query_privileges(uint32_t station, uint32_t handle, uint32_t capacity)
+{
+    struct obriska_privileges privileges;
+    uint32_t size;
+    size_t len = obriska_build_query(frame, sizeof frame, handle, OBRISKA_CLASS_PRIVILEGES, capacity);
+    if (!send_chunk(station, frame, len))
+        return false;
+    if (obriska_read_privileges(&answer, &privileges))
+        printf("   Tcb is %s\n",
+               privileges.enabled >> OBRISKA_PRIVILEGE_TCB & 1 ? "enabled" : "disabled");
+    else if (obriska_read_refusal(&answer, &size) && answer.status == OBRISKA_STATUS_CAPACITY)
+        printf("   it has %" PRIu32 " bytes\n", size);
+    return true;
+}
+
+static bool close_handle(uint32_t station, uint32_t handle)
+{
+    return send_chunk(station, frame, obriska_build_close(frame, sizeof frame, handle));
+}
+
+/* ---- the first minute ------------------------------------------------------------------------ */
+
+static bool play_requests(void)
+{
+    printf("A: open the own token, for query and adjust-privileges\n");
+    uint32_t handle = open_own(0, OBRISKA_RIGHT_QUERY | OBRISKA_RIGHT_ADJUST_PRIVILEGES);
+    if (handle == 0)
+        return false;
+    printf("B: disable Tcb\n");
+    bool good = disable(0, handle, OBRISKA_PRIVILEGE_TCB);
+    printf("C: query the privileges\n");
+    good = good && query_privileges(0, handle, 64);
+    printf("D: capacity 18 is one too small, 19 is enough\n");
+    good = good && query_privileges(0, handle, 18) && query_privileges(0, handle, 19);
+    printf("G: handle %" PRIu32 " is not station 1's\n", handle);
+    good = good && query_privileges(1, handle, 64);
+    printf("I: privilege 36 exists, 37 does not\n");
+    return good && disable(0, handle, 36) && disable(0, handle, 37);
+}
+
+static bool play_chunks(void)
+{
+    static const uint8_t not_shortest[] = {0x03, 0x01, 0x80, 0x00};
+    static const uint8_t breaking[] = {0x81, 0x10, 0x02, 0x01, 0x08};
+    static const uint8_t longest[OBRISKA_FRAME_LEN] = {0x80, 0x10};
+    printf("H: two requests in one chunk; mask 0x1EF opens, 0x10 is bad\n");
+    size_t len = obriska_build_open_own(frame, sizeof frame, OBRISKA_RIGHT_ALL);
+    len += obriska_build_open_own(frame + len, sizeof frame - len, 0x10);
+    bool good = send_chunk(0, frame, len);
+    printf("K: 80 00 is not the shortest form of 0\n");
+    good = good && send_chunk(0, not_shortest, sizeof not_shortest);
+    printf("F: length 2,049 breaks the stream; what follows is passed over\n");
+    good = good && send_chunk(0, breaking, sizeof breaking) && reconnect(0);
     printf("E: length 2,048 is whole; request 0 is unknown\n");
-    return send_chunk(memory, 0, longest, sizeof longest);
-}
-
-/* A request that comes in two chunks is answered at its last byte. */
-static bool play_two_chunks(struct obriska_memory *memory)
-{
-    static const uint8_t open_query[] = {0x02, 0x01, 0x08};
-    printf("A request in two chunks\n");
-    return send_chunk(memory, 0, open_query, 1) && send_chunk(memory, 0, open_query + 1, 2);
+    good = good && send_chunk(0, longest, sizeof longest);
+    printf("A request in two chunks is answered at its last byte\n");
+    len = obriska_build_open_own(frame, sizeof frame, OBRISKA_RIGHT_QUERY);
+    return good && send_chunk(0, frame, 1) && send_chunk(0, frame + 1, len - 1);
 }
 
 int main(void)
 {
-    static struct obriska_memory memory;
     uint32_t refusal = obriska_memory_start(&memory);
     if (refusal != 0) {
-        fprintf(stderr, "start refused %" PRIu32 ": %s\n", refusal, refusal_text(refusal));
+        fprintf(stderr, "start refused %" PRIu32 ": %s\n", refusal, obriska_refusal_text(refusal));
         return EXIT_FAILURE;
     }
-    if (!play_steps(&memory) || !play_longest_request(&memory) || !play_two_chunks(&memory)) {
+    if (!play_requests() || !play_chunks()) {
         fprintf(stderr, "the broker refused a call\n");
         return EXIT_FAILURE;
     }
 
+    printf("Close handle 3\n");
+    bool good = close_handle(0, 3);
     printf("Handles\n");
-    print_handle(&memory, 0, 1);
-    print_handle(&memory, 0, 2);
-    print_handle(&memory, 1, 1);
-
+    print_handle(0, 1);
+    print_handle(0, 2);
+    print_handle(0, 3);
+    print_handle(1, 1);
     printf("There is no station %d\n", OBRISKA_STATIONS);
-    bool refused =
-        !send_chunk(&memory, OBRISKA_STATIONS, first_steps[0].data, first_steps[0].len);
-    if (!refused || fflush(stdout) != 0 || ferror(stdout))
+    if (!good || close_handle(OBRISKA_STATIONS, 1) || fflush(stdout) != 0 || ferror(stdout))
         return EXIT_FAILURE;
     return EXIT_SUCCESS;
 }

@@ -42,8 +42,10 @@ static uint64_t *station_word(size_t station, enum obriska_station_word word)
 enum { ARRAYS = 5 };
 
 /* docs/MEMORY.md, the first table. */
-static void the_memory_has_the_sizes_of_the_docs(void)
+/* Whoever changes a size raises the layout too. */
+static void the_memory_has_the_layout_and_the_sizes_of_the_docs(void)
 {
+    EXPECT(OBRISKA_LAYOUT == 5);
     EXPECT(sizeof memory.tokens == 12928 && sizeof memory.dacls == 4096);
     EXPECT(sizeof memory.handles == 512 && sizeof memory.control == 432);
     EXPECT(sizeof memory.pending == 16400 && sizeof memory == 34368);
@@ -170,6 +172,16 @@ static int answers(const uint8_t *data, size_t len, const uint8_t *expected, siz
 {
     return is(feed(0, data, len), 0, len, expected_len) &&
            memcmp(answer, expected, expected_len) == 0;
+}
+
+/* As an empty buffer of a C host. */
+static void a_null_pointer_may_stand_before_a_length_of_0(void)
+{
+    EXPECT(obriska_memory_start(&memory) == 0);
+    before = memory;
+    EXPECT(is(feed(0, NULL, 0), 0, 0, 0));
+    EXPECT(is(obriska_memory_feed(&memory, 0, NULL, 0, NULL, 0), OBRISKA_REFUSED_BUFFER, 0, 0));
+    EXPECT(unchanged());
 }
 
 static void request_5_tells_absent_disabled_and_enabled_apart(void)
@@ -517,14 +529,24 @@ static void a_copy_goes_on_where_the_memory_was(void)
     EXPECT(obriska_memory_find(&copy, 0, 1) != NULL && obriska_memory_find(&memory, 0, 1) == NULL);
 }
 
+static void the_version_is_made_of_its_parts(void)
+{
+    char version[32];
+    snprintf(version, sizeof version, "%d.%d.%d", OBRISKA_VERSION_MAJOR, OBRISKA_VERSION_MINOR,
+             OBRISKA_VERSION_PATCH);
+    EXPECT(strcmp(version, OBRISKA_VERSION) == 0);
+}
+
 int main(void)
 {
-    the_memory_has_the_sizes_of_the_docs();
+    the_version_is_made_of_its_parts();
+    the_memory_has_the_layout_and_the_sizes_of_the_docs();
     start_asks_for_the_sizes_only();
     every_byte_is_the_same_whatever_was_there_before();
     a_free_handle_slot_is_zero_in_every_byte();
     the_lowest_of_11_to_13_refuses_a_call_and_nothing_is_written();
     a_feed_ends_at_the_first_request();
+    a_null_pointer_may_stand_before_a_length_of_0();
     request_5_tells_absent_disabled_and_enabled_apart();
     class_9_tells_the_root_which_an_anonymous_copy_has_not();
     a_root_above_the_tokens_number_is_refused();

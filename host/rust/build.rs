@@ -1,4 +1,5 @@
 //! Links libobriska.a: from OBRISKA_LIB_DIR if that is set, else built here by `rt staticlib broker`.
+//! The codec alone needs none.
 
 use std::path::{Path, PathBuf};
 use std::process::Command;
@@ -6,19 +7,33 @@ use std::{env, fs};
 
 fn main() {
     println!("cargo:rerun-if-env-changed=OBRISKA_LIB_DIR");
+    if env::var_os("CARGO_FEATURE_STD").is_none() {
+        return;
+    }
     let directory = match env::var_os("OBRISKA_LIB_DIR") {
-        Some(directory) => given(PathBuf::from(directory)),
+        Some(directory) => given(Path::new(&directory)),
         None => built(),
     };
     println!("cargo:rustc-link-search=native={}", directory.display());
     println!("cargo:rustc-link-lib=static=obriska");
 }
 
-fn given(directory: PathBuf) -> PathBuf {
-    let library = directory.join("libobriska.a");
-    assert!(library.is_file(), "OBRISKA_LIB_DIR: there is no {}", library.display());
-    println!("cargo:rerun-if-changed={}", library.display());
-    directory
+/// The directory with the library. A relative one is looked for from this package, from where cargo
+/// was called and from the repository's root.
+fn given(directory: &Path) -> PathBuf {
+    let package = Path::new(env!("CARGO_MANIFEST_DIR"));
+    let mut places = vec![package.join(directory)];
+    if directory.is_relative() {
+        println!("cargo:rerun-if-env-changed=PWD");
+        places.extend(env::var_os("PWD").map(|called| Path::new(&called).join(directory)));
+        places.push(package.join("../..").join(directory));
+    }
+    let found = places.iter().find(|place| place.join("libobriska.a").is_file());
+    let Some(found) = found else {
+        panic!("OBRISKA_LIB_DIR: there is no libobriska.a in {places:?}");
+    };
+    println!("cargo:rerun-if-changed={}", found.join("libobriska.a").display());
+    found.clone()
 }
 
 /// Proves and compiles the broker; its library's own name is libbroker.a.

@@ -1,5 +1,6 @@
 //! An answer to a request, or to the byte that broke a stream.
 
+use crate::codec::{ReadError, Reply, Request};
 use crate::number;
 use crate::refusal::Refusal;
 
@@ -40,9 +41,17 @@ impl Answer {
         self.body().first().and_then(|&status| Refusal::from_number(status.into()))
     }
 
-    /// The bytes after the status: a success's fields, or the size that refusal 9 gives. Those of
-    /// request 5 are a [`PreviousPrivileges`](crate::PreviousPrivileges), and request 18's are read by
-    /// [`Condition::read_answer`](crate::Condition::read_answer).
+    /// What it says, as the answer to this request.
+    ///
+    /// # Errors
+    ///
+    /// Where it is the answer to another one.
+    pub fn reply(&self, request: &Request) -> Result<Reply<'_>, ReadError> {
+        Reply::read(request, &self.bytes)
+    }
+
+    /// The bytes after the status: a success's fields, or the size that refusal 9 gives.
+    /// [`Answer::reply`] reads them.
     pub fn fields(&self) -> &[u8] {
         self.body().get(1..).unwrap_or_default()
     }

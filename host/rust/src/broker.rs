@@ -4,11 +4,23 @@ use std::fmt;
 
 use crate::answer::Answer;
 use crate::ffi;
-use crate::layout::{control_word, MAX_ANSWER, STATIONS};
+use crate::kept::{self, KeptError};
+use crate::layout::control_word;
+use crate::limits::{MAX_ANSWER, STATIONS};
 use crate::memory::Memory;
 use crate::pair::Pair;
 use crate::refusal::Refusal;
 use crate::view::{Handle, Station, Token};
+
+/// What a part of a chunk did: [`Broker::feed_into`].
+#[derive(Clone, Copy, Debug, PartialEq, Eq)]
+#[non_exhaustive]
+pub struct Fed<'b> {
+    /// How many bytes of the chunk were used: all of them, or those up to the answer.
+    pub used: usize,
+    /// The answer's whole frame, in the buffer, if there is one.
+    pub answer: Option<&'b [u8]>,
+}
 
 /// The broker, with the memory that it works on.
 ///
@@ -58,16 +70,49 @@ impl Broker {
         let mut rest = data;
         // A refusal comes at the first call or never: valid memory stays valid.
         loop {
-            let fed = ffi::feed(&mut self.memory, station, rest, &mut buffer);
-            accepted(fed.refusal)?;
-            if fed.answered > 0 {
-                answers.push(Answer::new(&buffer[..fed.answered]));
-            }
+            let fed = self.feed_into(station, rest, &mut buffer)?;
+            answers.extend(fed.answer.map(Answer::new));
             rest = &rest[fed.used..];
             if rest.is_empty() {
                 return Ok(answers);
             }
         }
+    }
+
+    /// Feeds a chunk of a station's stream up to its first answer, without an allocation: the
+    /// answer stands at the begin of the buffer. Feed the rest of the chunk until all of it is used;
+    /// of one that is not empty, a byte is used at least.
+    ///
+    /// ```
+    /// # let mut broker = obriska::Broker::start();
+    /// let mut buffer = [0; obriska::MAX_ANSWER];
+    /// let mut rest = &[0x02, 0x01, 0x08, 0x02, 0x01, 0x28, 0x02][..]; // two requests and a part
+    /// let mut sent: Vec<u8> = Vec::new();
+    /// while !rest.is_empty() {
+    ///     let fed = broker.feed_into(0, rest, &mut buffer)?;
+    ///     if let Some(answer) = fed.answer {
+    ///         sent.extend(answer);
+    ///     }
+    ///     rest = &rest[fed.used..];
+    /// }
+    /// assert_eq!(sent, [0x02, 0x00, 0x01, 0x02, 0x00, 0x02]);
+    /// # Ok::<(), obriska::Refusal>(())
+    /// ```
+    ///
+    /// # Errors
+    ///
+    /// [`Refusal::Station`] for a station above 7, [`Refusal::Buffer`] for a buffer of less than
+    /// [`MAX_ANSWER`] bytes. Then nothing was fed.
+    pub fn feed_into<'b>(
+        &mut self,
+        station: u32,
+        data: &[u8],
+        buffer: &'b mut [u8],
+    ) -> Result<Fed<'b>, Refusal> {
+        let fed = ffi::feed(&mut self.memory, station, data, buffer);
+        accepted(fed.refusal)?;
+        let answer = (fed.answered > 0).then_some(&buffer[..fed.answered]);
+        Ok(Fed { used: fed.used, answer })
     }
 
     /// Drops the station's part of a request and its break, and nothing else.
@@ -122,8 +167,9 @@ impl Broker {
     /// broker.feed(0, &[0x06, 0x0A, 0x01, 0x00, 0x00, 0x00, 0x00])?; // a copy of it, token 3
     /// let answers = broker.feed(0, &[0x04, 0x10, 0x01, 0x02, 0x07])?; // they are linked
     /// assert_eq!(answers[0].bytes(), [0x01, 0x00]);
-    /// let pair = obriska::Pair { session: 7, elevated: 2, filtered: 3 };
-    /// assert!(broker.pairs().eq([pair]));
+    /// let pair = broker.pairs().next().expect("it was just made");
+    /// assert_eq!((pair.session, pair.elevated, pair.filtered), (7, 2, 3));
+    /// assert_eq!([2, 3, 4].map(|token| pair.partner(token)), [Some(3), Some(2), None]);
     /// # Ok::<(), obriska::Refusal>(())
     /// ```
     pub fn pairs(&self) -> impl Iterator<Item = Pair> + '_ {
@@ -140,8 +186,8 @@ impl Broker {
         self.memory.control[control_word::NEXT_HANDLE] as u32
     }
 
-    /// All that the broker keeps, to be stored across a restart: [`MEMORY_BYTES`] bytes, the same
-    /// as a C host has in `struct obriska_memory` (docs/MEMORY.md).
+    /// All that the broker keeps, to be stored across a restart: [`KEPT_BYTES`] bytes, a head that
+    /// names the layout and then what a C host has in `struct obriska_memory` (docs/MEMORY.md).
     ///
     /// ```
     /// use obriska::Broker;
@@ -151,23 +197,32 @@ impl Broker {
     ///
     /// let mut later = Broker::from_bytes(&kept)?;
     /// assert!(later.handle(0, 1).is_some());
-    /// # Ok::<(), obriska::Refusal>(())
+    /// # Ok::<(), Box<dyn std::error::Error>>(())
     /// ```
     ///
-    /// [`MEMORY_BYTES`]: crate::MEMORY_BYTES
+    /// [`KEPT_BYTES`]: crate::KEPT_BYTES
     pub fn to_bytes(&self) -> Vec<u8> {
-        self.memory.to_bytes()
+        kept::write(&self.memory)
     }
 
     /// The broker that these bytes were kept of.
     ///
+    /// ```
+    /// use obriska::{Broker, KeptError};
+    /// let mut kept = Broker::start().to_bytes();
+    /// kept[8] = 4; // as another edition kept it
+    /// let error = Broker::from_bytes(&kept).expect_err("start anew");
+    /// assert_eq!(error, KeptError::Layout(4));
+    /// assert_eq!(error.to_string(), "kept memory of another edition: its layout is 4, not 5");
+    /// ```
+    ///
     /// # Errors
     ///
-    /// [`Refusal::Memory`] when they are not valid memory, by the proved test of every call.
-    pub fn from_bytes(bytes: &[u8]) -> Result<Self, Refusal> {
-        let memory = Memory::from_bytes(bytes).ok_or(Refusal::Memory)?;
-        let mut broker = Broker { memory };
-        broker.feed(0, &[])?; // an empty chunk changes nothing
+    /// Where they are something else, of another edition, cut short, or not valid memory by the
+    /// proved test of every call.
+    pub fn from_bytes(bytes: &[u8]) -> Result<Self, KeptError> {
+        let mut broker = Broker { memory: kept::read(bytes)? };
+        broker.feed(0, &[]).map_err(KeptError::Refused)?; // an empty chunk changes nothing
         Ok(broker)
     }
 }

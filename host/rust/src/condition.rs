@@ -1,25 +1,16 @@
 //! Conditions on a token, as request 18 has them.
 
-use std::fmt;
+use alloc::{boxed::Box, vec::Vec};
+use core::fmt;
 
-use crate::frame;
-use crate::layout::{MAX_BODY, MAX_DEPTH};
+use crate::codec::condition::kind;
+use crate::codec::{Request, WriteError};
+use crate::limits::{MAX_BODY, MAX_DEPTH};
 use crate::names;
 use crate::number;
 
-/// The number of the request that evaluates a condition.
-const REQUEST: u64 = 18;
 /// The longest condition: a body has the request's number and a handle before it.
 const MAX_BYTES: usize = MAX_BODY - 2;
-
-/// The number that a condition begins with.
-mod kind {
-    pub const ALL: u64 = 1;
-    pub const ANY: u64 = 2;
-    pub const NOT: u64 = 3;
-    pub const ENABLED: u64 = 4;
-    pub const GROUP: u64 = 5;
-}
 
 /// A condition on a token: what it takes to see a page of a screen, say.
 ///
@@ -47,6 +38,7 @@ mod kind {
 /// # Ok::<(), Box<dyn std::error::Error>>(())
 /// ```
 #[derive(Clone, Debug, PartialEq, Eq, Hash)]
+#[non_exhaustive]
 pub enum Condition {
     /// Each of them holds; of none, it does.
     All(Vec<Condition>),
@@ -63,6 +55,7 @@ pub enum Condition {
 
 /// Why no request has a condition.
 #[derive(Clone, Copy, Debug, PartialEq, Eq)]
+#[non_exhaustive]
 pub enum ConditionError {
     /// It is deeper than [`MAX_DEPTH`].
     TooDeep,
@@ -128,7 +121,10 @@ impl Condition {
         }
         let mut bytes = Vec::new();
         self.write(&mut bytes);
-        at_most(MAX_BYTES, bytes)
+        if bytes.len() > MAX_BYTES {
+            return Err(ConditionError::TooLong);
+        }
+        Ok(bytes)
     }
 
     /// The request that evaluates it on a handle's token, with its length before it.
@@ -139,11 +135,11 @@ impl Condition {
     /// # Ok::<(), obriska::ConditionError>(())
     /// ```
     pub fn request(&self, handle: u32) -> Result<Vec<u8>, ConditionError> {
-        let mut body = Vec::new();
-        number::write(REQUEST, &mut body);
-        number::write(handle.into(), &mut body);
-        body.extend(self.to_bytes()?);
-        Ok(frame::of(&at_most(MAX_BODY, body)?))
+        let request = Request::Evaluate { handle, condition: self.into() };
+        request.to_bytes().map_err(|error| match error {
+            WriteError::TooDeep => ConditionError::TooDeep,
+            _ => ConditionError::TooLong,
+        })
     }
 
     /// Whether it held, by the fields of the answer; `None` unless they are 1 or 0, as those of
@@ -156,7 +152,7 @@ impl Condition {
         }
     }
 
-    fn write(&self, bytes: &mut Vec<u8>) {
+    pub(crate) fn write(&self, bytes: &mut impl Extend<u8>) {
         match self {
             Condition::All(inner) => write_list(kind::ALL, inner, bytes),
             Condition::Any(inner) => write_list(kind::ANY, inner, bytes),
@@ -172,20 +168,13 @@ impl Condition {
     }
 }
 
-fn write_list(kind: u64, conditions: &[Condition], bytes: &mut Vec<u8>) {
+fn write_list(kind: u64, conditions: &[Condition], bytes: &mut impl Extend<u8>) {
     write_pair([kind, conditions.len() as u64], bytes);
     conditions.iter().for_each(|condition| condition.write(bytes));
 }
 
-fn write_pair(numbers: [u64; 2], bytes: &mut Vec<u8>) {
+fn write_pair(numbers: [u64; 2], bytes: &mut impl Extend<u8>) {
     numbers.iter().for_each(|&number| number::write(number, bytes));
-}
-
-fn at_most(longest: usize, bytes: Vec<u8>) -> Result<Vec<u8>, ConditionError> {
-    if bytes.len() > longest {
-        return Err(ConditionError::TooLong);
-    }
-    Ok(bytes)
 }
 
 impl fmt::Display for Condition {
@@ -221,6 +210,7 @@ impl fmt::Display for ConditionError {
     }
 }
 
+#[cfg(feature = "std")]
 impl std::error::Error for ConditionError {}
 
 #[cfg(test)]

@@ -1,29 +1,8 @@
-//! Limits, places and sizes, by the names that include/obriska.h has them under.
+//! Places and sizes, by the names that include/obriska.h has them under.
 
-/// How many stations there are: 0 to 7.
-pub const STATIONS: usize = 8;
-/// How many tokens live at most.
-pub const TOKENS: usize = 16;
-/// How many handles live at most, of all stations together.
-pub const HANDLES: usize = 32;
-/// How many linked pairs there are at most, each of another session.
-pub const PAIRS: usize = 4;
-
-/// How many groups a token has at most.
-pub const MAX_GROUPS: usize = 64;
-/// How many restricting SIDs a token has at most.
-pub const MAX_RESTRICTING: usize = 16;
-/// The longest default DACL in bytes.
-pub const MAX_DACL: usize = 256;
-/// How deep a condition is at most.
-pub const MAX_DEPTH: usize = 8;
-
-/// The longest answer in bytes.
-pub const MAX_ANSWER: usize = 1024;
-/// The longest body of a request in bytes.
-pub const MAX_BODY: usize = 2048;
-/// The most bytes that say a body's length.
-pub const LENGTH_BYTES: usize = 2;
+use crate::limits::{
+    HANDLES, MAX_DACL, MAX_FRAME, MAX_GROUPS, MAX_RESTRICTING, PAIRS, STATIONS, TOKENS,
+};
 
 /// Words of a token slot.
 pub(crate) mod token_word {
@@ -94,7 +73,7 @@ pub(crate) const STATION_WORDS: usize = station_word::CLIENT_LEVEL + 1;
 /// Words of a pair slot.
 pub(crate) const PAIR_WORDS: usize = pair_word::FILTERED + 1;
 /// Bytes of a station's pending part.
-pub(crate) const PENDING_BYTES: usize = LENGTH_BYTES + MAX_BODY;
+pub(crate) const PENDING_BYTES: usize = MAX_FRAME;
 
 /// Elements of the arrays.
 pub(crate) const TOKENS_LEN: usize = TOKENS * TOKEN_WORDS;
@@ -102,8 +81,17 @@ pub(crate) const DACLS_LEN: usize = TOKENS * DACL_BYTES;
 pub(crate) const CONTROL_LEN: usize = control_word::FIRST_PAIR + PAIRS * PAIR_WORDS;
 pub(crate) const PENDING_LEN: usize = STATIONS * PENDING_BYTES;
 
-/// How many bytes [`Broker::to_bytes`](crate::Broker::to_bytes) gives.
+/// How many bytes the five arrays have together.
 pub const MEMORY_BYTES: usize = (TOKENS_LEN + CONTROL_LEN) * size_of::<u64>()
     + DACLS_LEN
     + HANDLES * HANDLE_BYTES
     + PENDING_LEN;
+
+/// The arrays in their order, with their bytes.
+pub(crate) const PARTS: [(&str, u32); 5] = [
+    ("tokens", (TOKENS_LEN * size_of::<u64>()) as u32),
+    ("dacls", DACLS_LEN as u32),
+    ("handles", (HANDLES * HANDLE_BYTES) as u32),
+    ("control", (CONTROL_LEN * size_of::<u64>()) as u32),
+    ("pending", PENDING_LEN as u32),
+];

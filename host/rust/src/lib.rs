@@ -2,9 +2,9 @@
 //!
 //! Eight stations send bytes to one [`Broker`], which keeps access tokens and answers requests to
 //! open, close, create, query, adjust, duplicate, restrict, install and link them, to evaluate a
-//! [`Condition`] on one, to act for one and to revert. The code behind it is proved to do for every input what its
-//! rules say; this crate owns the memory that it works on and makes its calls safe. It has no
-//! dependencies.
+//! [`Condition`] on one, to act for one and to revert. The code behind it is proved to do for every
+//! input what its rules say; this crate owns the memory that it works on and makes its calls safe.
+//! It has no dependencies.
 //!
 //! ```
 //! use obriska::Broker;
@@ -24,38 +24,72 @@
 //! # Ok::<(), obriska::Refusal>(())
 //! ```
 //!
+//! [`codec`] has requests and answers as typed values; [`Broker::feed_into`] hands answers out
+//! without an allocation.
+//!
 //! # Building
 //!
 //! The build script links `libobriska.a` from the directory that `OBRISKA_LIB_DIR` names. If that
 //! is not set, it proves and compiles the broker by `rt staticlib broker`.
+//!
+//! Without the feature `std`, which is on by default, there is no broker and nothing is linked: the
+//! codec is left, for `no_std`; with the feature `alloc`, conditions and putting back too.
 
+#![cfg_attr(not(any(test, feature = "std")), no_std)]
+
+#[cfg(feature = "alloc")]
+extern crate alloc;
+
+#[cfg(feature = "std")]
 mod answer;
+#[cfg(feature = "std")]
 mod broker;
+pub mod codec;
+#[cfg(feature = "alloc")]
 mod condition;
+#[cfg(feature = "std")]
 mod ffi;
-mod frame;
+#[cfg(feature = "std")]
+mod kept;
+#[cfg(feature = "std")]
 mod layout;
+mod limits;
+#[cfg(feature = "std")]
 mod memory;
 pub mod names;
 pub mod number;
+#[cfg(feature = "std")]
 mod pair;
 mod previous;
 mod refusal;
+#[cfg(feature = "alloc")]
 mod restore;
+mod terms;
+mod version;
+#[cfg(feature = "std")]
 mod view;
 
+#[cfg(feature = "std")]
 pub use answer::Answer;
-pub use broker::Broker;
+#[cfg(feature = "std")]
+pub use broker::{Broker, Fed};
+#[cfg(feature = "alloc")]
 pub use condition::{Condition, ConditionError};
-pub use layout::{
-    HANDLES, LENGTH_BYTES, MAX_ANSWER, MAX_BODY, MAX_DACL, MAX_DEPTH, MAX_GROUPS, MAX_RESTRICTING,
-    MEMORY_BYTES, PAIRS, STATIONS, TOKENS,
+#[cfg(feature = "std")]
+pub use kept::{KeptError, KEPT_BYTES};
+#[cfg(feature = "std")]
+pub use layout::MEMORY_BYTES;
+pub use limits::{
+    GROUP_WORDS, HANDLES, LENGTH_BYTES, MAX_ANSWER, MAX_BODY, MAX_DACL, MAX_DEPTH, MAX_FRAME,
+    MAX_GROUPS, MAX_RESTRICTING, PAIRS, STATIONS, TOKENS,
 };
+#[cfg(feature = "std")]
 pub use pair::Pair;
-pub use previous::{PreviousPrivileges, PrivilegeState};
+pub use previous::{PreviousGroups, PreviousPrivileges, PrivilegeState};
 pub use refusal::Refusal;
+#[cfg(feature = "alloc")]
 pub use restore::{Restore, RestoreError};
-pub use view::{
-    Client, Elevation, Group, Handle, Level, Privileges, Station, Token, TokenType, NO_CLIENT,
-    NO_ROOT,
-};
+pub use terms::{Client, Elevation, Group, Level, Privileges, TokenType, NO_CLIENT, NO_ROOT};
+pub use version::{LAYOUT, VERSION};
+#[cfg(feature = "std")]
+pub use view::{Handle, Station, Token};

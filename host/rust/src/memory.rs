@@ -1,7 +1,8 @@
 //! The memory that a broker works on, and its form as bytes.
 
 use crate::ffi::Handle;
-use crate::layout::{CONTROL_LEN, DACLS_LEN, HANDLES, MEMORY_BYTES, PENDING_LEN, TOKENS_LEN};
+use crate::layout::{CONTROL_LEN, DACLS_LEN, MEMORY_BYTES, PENDING_LEN, TOKENS_LEN};
+use crate::limits::HANDLES;
 
 /// The five arrays of docs/MEMORY.md.
 #[derive(Clone, PartialEq, Eq)]
@@ -24,10 +25,9 @@ impl Memory {
         })
     }
 
-    /// The arrays one after the other, little-endian, as a C host has them in
+    /// Appends the arrays one after the other, little-endian, as a C host has them in
     /// `struct obriska_memory`.
-    pub(crate) fn to_bytes(&self) -> Vec<u8> {
-        let mut bytes = Vec::with_capacity(MEMORY_BYTES);
+    pub(crate) fn write(&self, bytes: &mut Vec<u8>) {
         bytes.extend(self.tokens.iter().flat_map(|word| word.to_le_bytes()));
         bytes.extend(self.dacls);
         for handle in &self.handles {
@@ -38,7 +38,6 @@ impl Memory {
         }
         bytes.extend(self.control.iter().flat_map(|word| word.to_le_bytes()));
         bytes.extend(self.pending);
-        bytes
     }
 
     /// The memory that these bytes hold; `None` when their number is wrong.

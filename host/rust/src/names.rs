@@ -45,16 +45,29 @@ pub const PRIVILEGES: [Named; 35] = [
 /// The word with all privileges, bits 2 to 36.
 pub const ALL_PRIVILEGES: u64 = 0x1F_FFFF_FFFC;
 
+/// The rights of a handle's mask, one by one.
+#[allow(missing_docs)] // the field's own terms
+pub mod right {
+    pub const ASSIGN_PRIMARY: u32 = 0x001;
+    pub const DUPLICATE: u32 = 0x002;
+    pub const IMPERSONATE: u32 = 0x004;
+    pub const QUERY: u32 = 0x008;
+    pub const ADJUST_PRIVILEGES: u32 = 0x020;
+    pub const ADJUST_GROUPS: u32 = 0x040;
+    pub const ADJUST_DEFAULT: u32 = 0x080;
+    pub const ADJUST_SCOPE: u32 = 0x100;
+}
+
 /// The rights of a handle's mask.
 pub const RIGHTS: [Named; 8] = [
-    (0x001, "assign-primary"),
-    (0x002, "duplicate"),
-    (0x004, "impersonate"),
-    (0x008, "query"),
-    (0x020, "adjust-privileges"),
-    (0x040, "adjust-groups"),
-    (0x080, "adjust-default"),
-    (0x100, "adjust-scope"),
+    (right::ASSIGN_PRIMARY, "assign-primary"),
+    (right::DUPLICATE, "duplicate"),
+    (right::IMPERSONATE, "impersonate"),
+    (right::QUERY, "query"),
+    (right::ADJUST_PRIVILEGES, "adjust-privileges"),
+    (right::ADJUST_GROUPS, "adjust-groups"),
+    (right::ADJUST_DEFAULT, "adjust-default"),
+    (right::ADJUST_SCOPE, "adjust-scope"),
 ];
 
 /// All rights together.

@@ -1,6 +1,9 @@
 //! Numbers as requests and answers have them: seven bits a byte, low bits first, the top bit set
 //! on all bytes but the last.
 
+#[cfg(feature = "alloc")]
+use alloc::vec::Vec;
+
 /// Bits of a number in each of its bytes.
 const BITS: u32 = 7;
 /// The bit that says that more bytes follow.
@@ -15,13 +18,13 @@ const MAX_BYTES: usize = u64::BITS.div_ceil(BITS) as usize;
 /// obriska::number::write(0x1EF, &mut bytes);
 /// assert_eq!(bytes, [0xEF, 0x03]);
 /// ```
-pub fn write(number: u64, bytes: &mut Vec<u8>) {
+pub fn write(number: u64, bytes: &mut impl Extend<u8>) {
     let mut rest = number;
     while rest >= MORE.into() {
-        bytes.push(rest as u8 | MORE);
+        bytes.extend([rest as u8 | MORE]);
         rest >>= BITS;
     }
-    bytes.push(rest as u8);
+    bytes.extend([rest as u8]);
 }
 
 /// The first number of the bytes, and the bytes after it; `None` where there is none in its
@@ -45,6 +48,7 @@ pub fn read(bytes: &[u8]) -> Option<(u64, &[u8])> {
 /// ```
 /// assert_eq!(obriska::number::read_all(&[1, 0xE7, 7]), Some(vec![1, 999]));
 /// ```
+#[cfg(feature = "alloc")]
 pub fn read_all(mut bytes: &[u8]) -> Option<Vec<u64>> {
     let mut numbers = Vec::new();
     while !bytes.is_empty() {

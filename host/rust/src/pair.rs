@@ -1,6 +1,7 @@
 //! Linked pairs, as requests 16 and 17 have them.
 
-use crate::layout::{control_word, pair_word, PAIRS, PAIR_WORDS};
+use crate::layout::{control_word, pair_word, PAIR_WORDS};
+use crate::limits::PAIRS;
 use crate::memory::Memory;
 
 /// A linked pair: a session's elevated and filtered token, which it keeps alive.
@@ -9,6 +10,7 @@ use crate::memory::Memory;
 /// [`Full`](crate::Elevation::Full) and [`Limited`](crate::Elevation::Limited). They keep it when
 /// another pair replaces this one, so it does not tell whether a token is in a pair.
 #[derive(Clone, Copy, Debug, PartialEq, Eq)]
+#[non_exhaustive]
 pub struct Pair {
     /// Whose pair it is; no two have the same.
     pub session: u64,
@@ -36,11 +38,6 @@ impl Pair {
     }
 
     /// The pair's other token, if this is the number of one of the two.
-    ///
-    /// ```
-    /// let pair = obriska::Pair { session: 5, elevated: 2, filtered: 3 };
-    /// assert_eq!([2, 3, 4].map(|token| pair.partner(token)), [Some(3), Some(2), None]);
-    /// ```
     pub fn partner(&self, token: u64) -> Option<u64> {
         match token {
             _ if token == self.elevated => Some(self.filtered),

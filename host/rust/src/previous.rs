@@ -1,9 +1,10 @@
-//! What request 5 reports.
+//! What requests 5 and 6 report.
 
-use std::fmt;
+use core::fmt;
 
+use crate::limits::GROUP_WORDS;
 use crate::number;
-use crate::view::has_bit;
+use crate::terms::has_bit;
 
 /// How a privilege was before request 5.
 #[derive(Clone, Copy, Debug, PartialEq, Eq)]
@@ -53,8 +54,9 @@ pub struct PreviousPrivileges {
 impl PreviousPrivileges {
     /// The report that the fields of a success are; `None` unless they are two numbers.
     pub fn read(fields: &[u8]) -> Option<Self> {
-        let [present, enabled] = number::read_all(fields)?.try_into().ok()?;
-        Some(PreviousPrivileges { present, enabled })
+        let (present, rest) = number::read(fields)?;
+        let (enabled, rest) = number::read(rest)?;
+        rest.is_empty().then_some(PreviousPrivileges { present, enabled })
     }
 
     /// How privilege n was: it has to be one that the request named, or any after a reset.
@@ -67,9 +69,39 @@ impl PreviousPrivileges {
     }
 }
 
+/// The report of request 6: the groups that were enabled before, group i at bit i % 64 of word
+/// i / 64.
+#[derive(Clone, Copy, Debug, PartialEq, Eq)]
+pub struct PreviousGroups {
+    /// The words; a token's [`MAX_GROUPS`](crate::MAX_GROUPS) groups stand in the first one.
+    pub words: [u64; GROUP_WORDS],
+}
+
+impl PreviousGroups {
+    /// Whether the group of this index was enabled.
+    pub fn enabled(&self, index: usize) -> bool {
+        const BITS: usize = u64::BITS as usize;
+        self.words.get(index / BITS).is_some_and(|word| word >> (index % BITS) & 1 == 1)
+    }
+
+    /// The indexes of those that were, upward.
+    pub fn indexes(&self) -> impl Iterator<Item = usize> + '_ {
+        (0..GROUP_WORDS * u64::BITS as usize).filter(|&index| self.enabled(index))
+    }
+}
+
 #[cfg(test)]
 mod tests {
     use super::*;
+
+    #[test]
+    fn groups_are_told_by_their_bits() {
+        let mut words = [0; GROUP_WORDS];
+        (words[0], words[15]) = (9, 1 << 63);
+        let previous = PreviousGroups { words };
+        assert!(previous.indexes().eq([0, 3, 1023]));
+        assert!(!previous.enabled(1) && !previous.enabled(1024));
+    }
 
     #[test]
     fn a_report_is_two_words_present_before_enabled() {

@@ -1,6 +1,6 @@
 //! The refusals, by name and number.
 
-use std::fmt;
+use core::fmt;
 
 /// Why the broker said no.
 ///
@@ -17,6 +17,7 @@ use std::fmt;
 /// ```
 #[derive(Clone, Copy, Debug, PartialEq, Eq, Hash)]
 #[repr(u32)]
+#[non_exhaustive]
 pub enum Refusal {
     /// Unknown request, or a body not in its layout, or bytes left over; a condition deeper than
     /// [`MAX_DEPTH`](crate::MAX_DEPTH).
@@ -45,7 +46,7 @@ pub enum Refusal {
     Broken = 10,
     /// There is no such station.
     Station = 11,
-    /// The answer buffer is too short; [`Broker`](crate::Broker) lends one that never is.
+    /// The answer buffer is too short.
     Buffer = 12,
     /// The memory is not valid.
     Memory = 13,
@@ -113,4 +114,5 @@ impl fmt::Display for Refusal {
     }
 }
 
+#[cfg(feature = "std")]
 impl std::error::Error for Refusal {}

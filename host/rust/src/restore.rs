@@ -1,29 +1,13 @@
 //! Putting back what request 5 changed.
 
-use std::fmt;
+use alloc::vec::Vec;
+use core::fmt;
 
-use crate::frame;
+use crate::codec::{List, PrivilegeEntry, Reply, Request};
 use crate::names::ALL_PRIVILEGES;
-use crate::number;
 use crate::previous::PreviousPrivileges;
 use crate::refusal::Refusal;
-use crate::view::has_bit;
-
-/// The number of the request that adjusts privileges.
-const REQUEST: u32 = 5;
-
-/// What an entry asks for.
-mod action {
-    pub const DISABLE: u32 = 0;
-    pub const ENABLE: u32 = 2;
-    pub const REMOVE: u32 = 4;
-}
-
-/// A privilege, and what is asked for.
-type Entry = [u32; 2];
-
-/// The single entry of a reset.
-const RESET: Entry = [0, 0x8000_0000];
+use crate::terms::has_bit;
 
 /// What puts back what a request 5 changed, made from the request and its answer.
 ///
@@ -53,11 +37,12 @@ const RESET: Entry = [0, 0x8000_0000];
 /// ```
 #[derive(Clone, Debug, PartialEq, Eq, Hash)]
 pub struct Restore {
-    entries: Vec<Entry>,
+    entries: Vec<PrivilegeEntry>,
 }
 
 /// Why nothing is put back by a request and its answer.
 #[derive(Clone, Copy, Debug, PartialEq, Eq)]
+#[non_exhaustive]
 pub enum RestoreError {
     /// The first bytes are not one whole request 5 that may succeed.
     Request,
@@ -80,79 +65,73 @@ impl Restore {
     /// Where there is nothing to put back, or where it is not promised: after a refusal, a reset or
     /// a removal; and where the bytes are not a request 5 and its answer.
     pub fn new(request: &[u8], answer: &[u8]) -> Result<Self, RestoreError> {
-        let fields = read_success(answer)?;
+        let reply = Reply::read(&REQUEST_5, answer);
+        if let Some(refusal) = reply.ok().and_then(|reply| reply.refusal()) {
+            return Err(RestoreError::Refused(refusal));
+        }
         let entries = read_request(request).ok_or(RestoreError::Request)?;
         let named = named_by(&entries)?;
-        let previous = PreviousPrivileges::read(fields).ok_or(RestoreError::Report)?;
+        let Ok(Reply::Privileges(previous)) = reply else {
+            return Err(RestoreError::Report);
+        };
         if !is_report(&entries, named, previous) {
             return Err(RestoreError::Report); // of another request
         }
-        let undoing = |[privilege, _]: Entry| [privilege, before(previous, privilege)];
-        Ok(Restore { entries: entries.into_iter().map(undoing).collect() })
+        let entries = entries.iter().map(|entry| undoing(previous, entry.privilege));
+        Ok(Restore { entries: entries.collect() })
     }
 
     /// The request that puts it back, on a handle of the token, with its length before it.
     ///
     /// It is a request 5 with a report of its own: what puts *that* back is the change again.
     pub fn request(&self, handle: u32) -> Vec<u8> {
-        let head = [REQUEST, handle, self.entries.len() as u32];
-        let mut body = Vec::new();
-        let numbers = head.iter().chain(self.entries.as_flattened());
-        numbers.for_each(|&number| number::write(number.into(), &mut body));
-        frame::of(&body)
+        let request = Request::Privileges { handle, entries: self.entries[..].into() };
+        request.to_bytes().expect("a body holds an entry for each privilege")
     }
 }
 
 /// Whether a success of these entries may report so: of what they name, with nothing enabled that was
 /// absent, before it or by it.
-fn is_report(entries: &[Entry], named: u64, previous: PreviousPrivileges) -> bool {
+fn is_report(entries: &[PrivilegeEntry], named: u64, previous: PreviousPrivileges) -> bool {
     let PreviousPrivileges { present, enabled, .. } = previous;
-    let was_there = |entry: &Entry| entry[1] != action::ENABLE || has_bit(present, entry[0]);
+    let was_there = |entry: &PrivilegeEntry| {
+        entry.attributes != PrivilegeEntry::ENABLE || has_bit(present, entry.privilege)
+    };
     present & !named == 0 && enabled & !present == 0 && entries.iter().all(was_there)
 }
 
+/// How an answer is read that is to be a report: that of any request 5.
+const REQUEST_5: Request = Request::Privileges { handle: 0, entries: List::EMPTY };
+
 /// What makes a privilege as it was.
-fn before(previous: PreviousPrivileges, privilege: u32) -> u32 {
+fn undoing(previous: PreviousPrivileges, privilege: u32) -> PrivilegeEntry {
     if has_bit(previous.enabled, privilege) {
-        action::ENABLE
+        PrivilegeEntry::enable(privilege)
     } else {
-        action::DISABLE
+        PrivilegeEntry::disable(privilege)
     }
 }
 
 /// The entries of a whole request 5, one at least.
-fn read_request(frame: &[u8]) -> Option<Vec<Entry>> {
-    let numbers = number::read_all(frame::body(frame)?)?;
-    let numbers: Vec<_> = numbers.into_iter().map(u32::try_from).collect::<Result<_, _>>().ok()?;
-    let [REQUEST, _handle, count, ref pairs @ ..] = numbers[..] else {
-        return None;
-    };
-    let entries: Vec<_> = pairs.chunks_exact(2).map(|pair| [pair[0], pair[1]]).collect();
-    let is_whole = pairs.len() % 2 == 0 && entries.len() == count as usize && count > 0;
-    is_whole.then_some(entries)
-}
-
-/// The fields of an answer that is a success.
-fn read_success(answer: &[u8]) -> Result<&[u8], RestoreError> {
-    let body = frame::body(answer).ok_or(RestoreError::Report)?;
-    let (&status, fields) = body.split_first().ok_or(RestoreError::Report)?;
-    match Refusal::from_number(status.into()) {
-        Some(refusal) => Err(RestoreError::Refused(refusal)),
-        None if status == 0 => Ok(fields),
-        None => Err(RestoreError::Report),
+fn read_request(frame: &[u8]) -> Option<Vec<PrivilegeEntry>> {
+    match Request::read(frame) {
+        Ok(Request::Privileges { entries, .. }) if !entries.is_empty() => {
+            Some(entries.iter().collect())
+        }
+        _ => None,
     }
 }
 
 /// The bits of the privileges that the entries enable and disable, each named once.
-fn named_by(entries: &[Entry]) -> Result<u64, RestoreError> {
-    if *entries == [RESET] {
+fn named_by(entries: &[PrivilegeEntry]) -> Result<u64, RestoreError> {
+    if *entries == [PrivilegeEntry::RESET] {
         return Err(RestoreError::Reset);
     }
     let mut named = 0;
-    for &[privilege, action] in entries {
-        match action {
-            action::DISABLE | action::ENABLE => (),
-            action::REMOVE => return Err(RestoreError::Removal(privilege)),
+    for &PrivilegeEntry { privilege, attributes } in entries {
+        match attributes {
+            PrivilegeEntry::DISABLE | PrivilegeEntry::ENABLE => (),
+            PrivilegeEntry::REMOVE => return Err(RestoreError::Removal(privilege)),
             _ => return Err(RestoreError::Request),
         }
         let bit = 1_u64.checked_shl(privilege).unwrap_or(0);
@@ -180,11 +159,13 @@ impl fmt::Display for RestoreError {
     }
 }
 
+#[cfg(feature = "std")]
 impl std::error::Error for RestoreError {}
 
 #[cfg(test)]
 mod tests {
     use super::*;
+    use crate::number;
 
     const DISABLE_TCB: [u8; 6] = [5, 5, 1, 1, 7, 0];
     const WAS_ENABLED: [u8; 6] = [5, 0, 0x80, 1, 0x80, 1];
@@ -192,10 +173,10 @@ mod tests {
     #[test]
     fn there_is_an_entry_for_each_one_named_in_the_requests_order() {
         let request = [11, 5, 1, 4, 36, 2, 7, 0, 20, 0, 2, 2];
-        let mut answer = vec![0];
+        let mut answer = vec![9, 0];
         number::write(1 << 36 | 1 << 7 | 1 << 2, &mut answer);
         number::write(1 << 7 | 1 << 2, &mut answer);
-        let restore = Restore::new(&request, &frame::of(&answer)).expect("its report");
+        let restore = Restore::new(&request, &answer).expect("its report");
         assert_eq!(restore.request(1), [11, 5, 1, 4, 36, 0, 7, 2, 20, 0, 2, 2]);
     }
 

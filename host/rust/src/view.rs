@@ -2,83 +2,21 @@
 
 use crate::ffi;
 use crate::layout::{
-    control_word, station_word, token_word, ATTRIBUTES_BIT, DACL_BYTES, PENDING_BYTES, STATIONS,
+    control_word, station_word, token_word, ATTRIBUTES_BIT, DACL_BYTES, PENDING_BYTES,
     STATION_WORDS, TOKEN_WORDS,
 };
+use crate::limits::STATIONS;
 use crate::memory::Memory;
-
-/// Primary or impersonation.
-#[derive(Clone, Copy, Debug, PartialEq, Eq)]
-pub enum TokenType {
-    /// May be a station's own token.
-    Primary = 1,
-    /// For acting as another, at its level.
-    Impersonation = 2,
-}
-
-/// The impersonation level; Anonymous on every primary token.
-#[derive(Clone, Copy, Debug, PartialEq, Eq, PartialOrd, Ord)]
-#[allow(missing_docs)] // the field's own terms
-pub enum Level {
-    Anonymous = 0,
-    Identification = 1,
-    Impersonation = 2,
-    Delegation = 3,
-}
-
-/// The elevation type.
-#[derive(Clone, Copy, Debug, PartialEq, Eq)]
-#[allow(missing_docs)] // the field's own terms
-pub enum Elevation {
-    Default = 1,
-    Full = 2,
-    Limited = 3,
-}
-
-/// The four privilege words; privilege n is bit n.
-#[derive(Clone, Copy, Debug, PartialEq, Eq)]
-pub struct Privileges {
-    /// Those that the token has.
-    pub present: u64,
-    /// Those in effect.
-    pub enabled: u64,
-    /// Those that a reset enables.
-    pub default: u64,
-    /// Those that a success needed.
-    pub used: u64,
-}
-
-impl Privileges {
-    /// Whether privilege n is enabled.
-    pub fn enables(&self, privilege: u32) -> bool {
-        has_bit(self.enabled, privilege)
-    }
-}
-
-/// Whether a word has this bit.
-pub(crate) fn has_bit(word: u64, bit: u32) -> bool {
-    word.checked_shr(bit).is_some_and(|word| word & 1 == 1)
-}
-
-/// A group of a token.
-#[derive(Clone, Copy, Debug, PartialEq, Eq)]
-pub struct Group {
-    /// Who it is.
-    pub sid: u32,
-    /// See [`names::GROUP_ATTRIBUTES`](crate::names::GROUP_ATTRIBUTES).
-    pub attributes: u32,
-}
-
-/// The root of an anonymous copy, and of all that is made from one.
-pub const NO_ROOT: u64 = 0;
+use crate::terms::{Client, Elevation, Group, Level, Privileges, TokenType, NO_CLIENT};
 
 /// A live token.
 #[derive(Clone, Debug, PartialEq, Eq)]
+#[non_exhaustive]
 pub struct Token {
     /// Its own number, from 1.
     pub number: u64,
     /// The number of the started or created token that it descends from, which may be gone; its own
-    /// for those; or [`NO_ROOT`]. It never changes.
+    /// for those; or [`NO_ROOT`](crate::NO_ROOT). It never changes.
     pub root: u64,
     /// Steps at each adjustment.
     pub modified: u64,
@@ -133,9 +71,9 @@ impl Token {
             modified: words[token_word::MODIFIED],
             session: words[token_word::SESSION],
             user: words[token_word::USER] as u32,
-            token_type: token_type(words[token_word::TYPE]),
-            level: level(words[token_word::LEVEL]),
-            elevation: elevation(words[token_word::ELEVATION]),
+            token_type: kept(words[token_word::TYPE], TokenType::from_number),
+            level: kept(words[token_word::LEVEL], Level::from_number),
+            elevation: kept(words[token_word::ELEVATION], Elevation::from_number),
             write_restricted: words[token_word::WRITE_RESTRICTED] == 1,
             user_deny_only: words[token_word::USER_DENY_ONLY] == 1,
             owner: words[token_word::OWNER] as u16,
@@ -155,28 +93,9 @@ impl Token {
     }
 }
 
-fn token_type(word: u64) -> TokenType {
-    match word {
-        1 => TokenType::Primary,
-        _ => TokenType::Impersonation,
-    }
-}
-
-fn level(word: u64) -> Level {
-    match word {
-        0 => Level::Anonymous,
-        1 => Level::Identification,
-        2 => Level::Impersonation,
-        _ => Level::Delegation,
-    }
-}
-
-fn elevation(word: u64) -> Elevation {
-    match word {
-        1 => Elevation::Default,
-        2 => Elevation::Full,
-        _ => Elevation::Limited,
-    }
+/// What a word of valid memory stands for.
+fn kept<T>(word: u64, from_number: fn(u32) -> Option<T>) -> T {
+    u32::try_from(word).ok().and_then(from_number).expect("the memory is valid")
 }
 
 /// The SID is the low half, the attributes are the high half.
@@ -186,6 +105,7 @@ fn group(word: u64) -> Group {
 
 /// A live handle.
 #[derive(Clone, Copy, Debug, PartialEq, Eq)]
+#[non_exhaustive]
 pub struct Handle {
     /// Whose it is.
     pub station: u32,
@@ -208,20 +128,9 @@ impl Handle {
     }
 }
 
-/// The number that stands for no client in the answer to request 13.
-pub const NO_CLIENT: u64 = 0;
-
-/// A token that a station acts for, and so keeps alive.
-#[derive(Clone, Copy, Debug, PartialEq, Eq)]
-pub struct Client {
-    /// The number of the token, which is for impersonation.
-    pub token: u64,
-    /// The level in force, as request 12 answered it: at most the token's own.
-    pub level: Level,
-}
-
 /// A station and its stream.
 #[derive(Clone, Debug, PartialEq, Eq)]
+#[non_exhaustive]
 pub struct Station {
     /// The number of its primary token.
     pub token: u64,
@@ -251,6 +160,6 @@ impl Station {
 /// What the row of a station says that it acts for.
 fn client(words: &[u64]) -> Option<Client> {
     let token = words[station_word::CLIENT];
-    let level = level(words[station_word::CLIENT_LEVEL]);
+    let level = kept(words[station_word::CLIENT_LEVEL], Level::from_number);
     (token != NO_CLIENT).then_some(Client { token, level })
 }

@@ -70,6 +70,7 @@ fn meaning(condition: &Condition, token: &Token) -> bool {
         Condition::Group(sid) => {
             token.groups.iter().any(|group| group.sid == *sid && group.attributes & ENABLED != 0)
         }
+        _ => panic!("{condition} is of an unknown kind"),
     }
 }
 

@@ -4,11 +4,13 @@ mod common;
 
 use common::ask;
 use obriska::{
-    Broker, Client, Elevation, Group, Level, Refusal, Station, TokenType, MEMORY_BYTES, NO_ROOT,
+    Broker, Client, Elevation, Group, KeptError, Level, Refusal, TokenType, KEPT_BYTES,
+    MEMORY_BYTES, NO_ROOT,
 };
 
-/// Where the arrays begin, one after the other: docs/MEMORY.md has their sizes.
-const DACLS: usize = 12_928;
+/// Where the arrays begin, one after the other behind the head: docs/MEMORY.md has their sizes.
+const TOKENS: usize = 32;
+const DACLS: usize = TOKENS + 12_928;
 const HANDLES: usize = DACLS + 4_096;
 const CONTROL: usize = HANDLES + 512;
 const PENDING: usize = CONTROL + 432;
@@ -17,8 +19,11 @@ const END: usize = PENDING + 16_400;
 const WORD: usize = 8;
 const HANDLE: usize = 16;
 /// Where the first token's root stands, and what station 0 acts for.
-const ROOT: usize = 20 * WORD;
+const ROOT: usize = TOKENS + 20 * WORD;
 const CLIENT: usize = CONTROL + 5 * WORD;
+
+/// What is said of memory behind a right head that is not valid.
+const NOT_VALID: KeptError = KeptError::Refused(Refusal::Memory);
 
 #[test]
 fn the_start_is_document_01s() {
@@ -36,8 +41,10 @@ fn the_start_is_document_01s() {
     assert_eq!((words.present, words.enabled, words.default, words.used), (all, all, all, 0));
     assert!(token.groups.is_empty() && token.restricting.is_empty() && token.dacl.is_empty());
     assert_eq!(broker.handles().count(), 0);
-    let station = Station { token: 1, client: None, pending: vec![], broken: false };
-    assert!(broker.stations().iter().all(|other| *other == station));
+    for station in broker.stations() {
+        assert_eq!((station.token, station.client, station.broken), (1, None, false));
+        assert!(station.pending.is_empty());
+    }
     assert_eq!(broker.pairs().count(), 0);
     assert_eq!((broker.next_token(), broker.next_handle()), (2, 1));
 }
@@ -81,7 +88,7 @@ fn a_root_is_the_oldest_source_and_class_9_tells_it() {
 #[test]
 fn a_root_above_the_tokens_number_is_refused() {
     let kept = Broker::start().to_bytes();
-    for (root, refusal) in [(0, None), (1, None), (2, Some(Refusal::Memory))] {
+    for (root, refusal) in [(0, None), (1, None), (2, Some(NOT_VALID))] {
         let mut changed = kept.clone();
         changed[ROOT] = root;
         assert_eq!(Broker::from_bytes(&changed).err(), refusal, "root {root}");
@@ -114,7 +121,7 @@ fn a_client_is_an_impersonation_token_at_its_own_level_at_most() {
     assert_eq!(ask(&mut broker, &[9, 1, 2, 2, 4]), [2]);
     let kept = broker.to_bytes();
     let valid = [(0, 0), (2, 0), (2, 1), (2, 2)].map(|client| (client, None));
-    let refused = [(0, 1), (1, 0), (2, 3), (3, 0)].map(|client| (client, Some(Refusal::Memory)));
+    let refused = [(0, 1), (1, 0), (2, 3), (3, 0)].map(|client| (client, Some(NOT_VALID)));
     for ((token, level), refusal) in valid.into_iter().chain(refused) {
         let mut changed = kept.clone();
         (changed[CLIENT], changed[CLIENT + WORD]) = (token, level);
@@ -129,7 +136,7 @@ fn kept_bytes_go_on_where_the_broker_was() {
     broker.feed(5, &[0x02, 0x01]).unwrap();
     broker.feed(6, &[0x00]).unwrap();
     let kept = broker.to_bytes();
-    assert_eq!(kept.len(), MEMORY_BYTES);
+    assert_eq!(kept.len(), KEPT_BYTES);
     let mut later = Broker::from_bytes(&kept).unwrap();
     assert_eq!(later, broker);
     assert_eq!(later.stations()[5].pending, [0x02, 0x01]);
@@ -150,8 +157,8 @@ fn bytes_are_laid_out_as_docs_memory_says() {
     broker.feed(6, &[0x03, 0x01, 0xEF, 0x03]).unwrap();
     broker.feed(0, &[0x02]).unwrap();
     let bytes = broker.to_bytes();
-    assert_eq!((bytes.len(), MEMORY_BYTES), (END, 34_368));
-    assert!(words(&bytes, 0).take(4).eq([1, 1, 999, 18]));
+    assert_eq!((bytes.len(), KEPT_BYTES, MEMORY_BYTES), (END, END, 34_368));
+    assert!(words(&bytes, TOKENS).take(4).eq([1, 1, 999, 18]));
     let (handles, free) = bytes[HANDLES..CONTROL].split_at(2 * HANDLE);
     let first = [5, 0, 0x28, 0, 1, 0, 0, 0, 1, 0, 0, 0, 0, 0, 0, 0];
     let second = [6, 0, 0xEF, 1, 2, 0, 0, 0, 1, 0, 0, 0, 0, 0, 0, 0];
@@ -167,18 +174,17 @@ fn a_free_handle_slot_with_a_byte_that_is_not_zero_is_refused() {
     for at in HANDLES..CONTROL {
         let mut damaged = kept.clone();
         damaged[at] = 0x80;
-        assert_eq!(Broker::from_bytes(&damaged), Err(Refusal::Memory), "byte {at}");
+        assert_eq!(Broker::from_bytes(&damaged), Err(NOT_VALID), "byte {at}");
     }
 }
 
 #[test]
 fn bytes_that_are_not_valid_memory_are_refused() {
-    let kept = Broker::start().to_bytes();
-    assert_eq!(Broker::from_bytes(&kept[1..]), Err(Refusal::Memory));
-    assert_eq!(Broker::from_bytes(&vec![0; MEMORY_BYTES]), Err(Refusal::Memory));
-    let mut damaged = kept;
-    damaged[0] = 3; // token 3, which nothing refers to, at a next number of 2
-    assert_eq!(Broker::from_bytes(&damaged), Err(Refusal::Memory));
+    let mut damaged = Broker::start().to_bytes();
+    damaged[TOKENS] = 3; // token 3, which nothing refers to, at a next number of 2
+    assert_eq!(Broker::from_bytes(&damaged), Err(NOT_VALID));
+    damaged[TOKENS..].fill(0);
+    assert_eq!(Broker::from_bytes(&damaged), Err(NOT_VALID));
 }
 
 #[test]

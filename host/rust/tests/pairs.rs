@@ -3,11 +3,11 @@
 mod common;
 
 use common::{ask, refused};
-use obriska::{Broker, Elevation, Level, Pair, Refusal, TokenType, PAIRS};
+use obriska::{Broker, Elevation, KeptError, Level, Refusal, TokenType, PAIRS};
 
-/// Where the pair slots begin among the bytes, docs/MEMORY.md: behind tokens, DACLs, handles and 42
-/// control words.
-const FIRST_PAIR: usize = 12_928 + 4_096 + 512 + 42 * WORD;
+/// Where the pair slots begin among the bytes, docs/MEMORY.md: behind the head, tokens, DACLs, handles
+/// and 42 control words.
+const FIRST_PAIR: usize = 32 + 12_928 + 4_096 + 512 + 42 * WORD;
 /// Bytes of a word and of a pair slot.
 const WORD: usize = 8;
 const SLOT: usize = 3 * WORD;
@@ -30,7 +30,13 @@ fn with_a_pair() -> Broker {
     broker
 }
 
-const PAIR: Pair = Pair { session: 5, elevated: 2, filtered: 3 };
+/// The session, the elevated and the filtered token of that pair.
+const PAIR: [u64; 3] = [5, 2, 3];
+
+/// The same of all pairs, by slot.
+fn pairs(broker: &Broker) -> Vec<[u64; 3]> {
+    broker.pairs().map(|pair| [pair.session, pair.elevated, pair.filtered]).collect()
+}
 
 fn elevation(broker: &Broker, token: u64) -> Elevation {
     broker.token(token).expect("it is live").elevation
@@ -40,7 +46,7 @@ fn elevation(broker: &Broker, token: u64) -> Elevation {
 fn linking_makes_full_and_limited_and_steps_no_modified_number() {
     let before = with_two_tokens();
     let after = with_a_pair();
-    assert!(after.pairs().eq([PAIR]));
+    assert_eq!(pairs(&after), [PAIR]);
     for (number, elevation) in [(2, Elevation::Full), (3, Elevation::Limited)] {
         let mut token = before.token(number).expect("it is live");
         assert_eq!(token.elevation, Elevation::Default);
@@ -80,7 +86,7 @@ fn without_tcb_the_answer_is_a_copy_for_identification() {
     assert_eq!(broker.token(4), Some(partner));
     assert_eq!(refused(&mut broker, &[17, 4]), Some(Refusal::NotLinked));
     assert_eq!(refused(&mut broker, &[16, 1, 2, 5]), Some(Refusal::Privilege));
-    assert!(broker.pairs().eq([PAIR]));
+    assert_eq!(pairs(&broker), [PAIR]);
 }
 
 #[test]
@@ -110,7 +116,7 @@ fn two_that_can_be_no_pair_are_refused_by_5() {
     }
     assert_eq!(refused(&mut broker, &[16, 1, 2, 6]), Some(Refusal::Field));
     assert_eq!(ask(&mut broker, &[16, 3, 2, 5]), []); // the same pair again
-    assert!(broker.pairs().eq([PAIR]));
+    assert_eq!(pairs(&broker), [PAIR]);
 }
 
 #[test]
@@ -122,9 +128,7 @@ fn a_new_pair_takes_the_slot_of_the_sessions_old_one() {
     assert_eq!(ask(&mut broker, &[10, 1, 0, 0, 0, 0]), [5]); // token 6, a copy of token 2
     assert_eq!(elevation(&broker, 6), Elevation::Default);
     assert_eq!(ask(&mut broker, &[16, 1, 5, 5]), []);
-    let replaced = Pair { filtered: 6, ..PAIR };
-    let other = Pair { session: 6, elevated: 4, filtered: 5 };
-    assert!(broker.pairs().eq([replaced, other]));
+    assert_eq!(pairs(&broker), [[5, 2, 6], [6, 4, 5]]);
     assert_eq!(elevation(&broker, 3), Elevation::Limited);
     assert_eq!(refused(&mut broker, &[17, 2]), Some(Refusal::NotLinked));
     assert_eq!(refused(&mut broker, &[16, 2, 5, 5]), Some(Refusal::Field));
@@ -138,7 +142,7 @@ fn a_replaced_pair_keeps_no_token_alive() {
     assert!(broker.token(3).is_some());
     assert_eq!(ask(&mut broker, &[16, 1, 3, 5]), []);
     assert_eq!(broker.token(3), None);
-    assert!(broker.pairs().eq([Pair { filtered: 4, ..PAIR }]));
+    assert_eq!(pairs(&broker), [[5, 2, 4]]);
 }
 
 #[test]
@@ -157,7 +161,7 @@ fn a_fifth_session_has_no_pair() {
 }
 
 /// The memory of a pair, with these words in a slot.
-fn with_slot(slot: usize, words: [u64; 3]) -> Result<Broker, Refusal> {
+fn with_slot(slot: usize, words: [u64; 3]) -> Result<Broker, KeptError> {
     let mut bytes = with_a_pair().to_bytes();
     let at = FIRST_PAIR + slot * SLOT;
     bytes[at..at + SLOT].copy_from_slice(words.map(u64::to_le_bytes).as_flattened());
@@ -172,10 +176,11 @@ fn pairs_in_memory_are_as_request_16_leaves_them() {
     let dead = [[5, 2, 4], [5, 4, 3], [5, 2, 0]];
     let unfit = [[6, 2, 3], [5, 3, 2], [5, 2, 2], [5, 3, 3], [5, 1, 3], [5, 2, 1]];
     let free_but_not_zero = [[5, 0, 0], [0, 0, 3], [5, 0, 3]];
+    let not_valid = KeptError::Refused(Refusal::Memory);
     for words in [&dead[..], &unfit, &free_but_not_zero].concat() {
-        assert_eq!(with_slot(0, words), Err(Refusal::Memory), "{words:?}");
+        assert_eq!(with_slot(0, words), Err(not_valid), "{words:?}");
     }
-    assert_eq!(with_slot(PAIRS - 1, [5, 2, 3]), Err(Refusal::Memory)); // twice of one session
+    assert_eq!(with_slot(PAIRS - 1, [5, 2, 3]), Err(not_valid)); // twice of one session
 }
 
 #[test]
@@ -185,6 +190,6 @@ fn a_pair_may_stand_in_any_slot() {
         let mut bytes = kept.clone();
         let slots = &mut bytes[FIRST_PAIR..FIRST_PAIR + PAIRS * SLOT];
         slots.rotate_right(slot * SLOT);
-        assert!(Broker::from_bytes(&bytes).expect("it is valid").pairs().eq([PAIR]));
+        assert_eq!(pairs(&Broker::from_bytes(&bytes).expect("it is valid")), [PAIR]);
     }
 }

@@ -1,97 +1,84 @@
 //! Answers in words.
 
-use obriska::{names, number, Answer, Condition, PreviousPrivileges, Refusal, MAX_BODY, NO_CLIENT};
+use obriska::codec::{first_frame, List, PrivilegeEntry, Reply, Report, Request, Statistics};
+use obriska::{
+    names, Answer, Client, Group, Level, PreviousGroups, PreviousPrivileges, Privileges,
+};
 
 use crate::hex;
-use crate::request::RESET_PRIVILEGES;
 use crate::vocabulary::{self, ELEVATIONS, LEVELS, TYPES};
 
-/// The bodies of the whole requests that a stream begins with.
-pub fn bodies(mut stream: &[u8]) -> Vec<&[u8]> {
-    let mut bodies = Vec::new();
-    while let Some((length, rest)) = number::read(stream) {
-        if length == 0 || length > MAX_BODY as u64 || length > rest.len() as u64 {
-            break;
-        }
-        let (body, after) = rest.split_at(length as usize);
-        bodies.push(body);
-        stream = after;
+/// The whole requests that a stream begins with.
+pub fn frames(mut stream: &[u8]) -> Vec<&[u8]> {
+    let mut frames = Vec::new();
+    while let Ok(Some((frame, rest))) = first_frame(stream) {
+        frames.push(frame);
+        stream = rest;
     }
-    bodies
+    frames
 }
 
-/// An answer in words, given the body of its request (a break has none).
+/// An answer in words, given its request (a break has none).
 pub fn words(request: &[u8], answer: &Answer) -> Vec<String> {
-    match answer.refusal() {
-        None => success(request, answer.fields()).unwrap_or_else(|| vec!["done".to_string()]),
-        Some(Refusal::Capacity) => {
-            let size = number::read(answer.fields()).map_or(0, |(size, _)| size);
-            vec![format!("refused 9: the report's size is {size}, above the capacity")]
-        }
-        Some(refusal) => vec![refusal.to_string()],
-    }
+    read(request, answer.bytes()).unwrap_or_else(|| {
+        // What is no request is refused, and a refusal has no fields.
+        vec![answer.refusal().map_or("done".to_string(), |refusal| refusal.to_string())]
+    })
 }
 
-/// The fields of a success; `None` where there is nothing to say but that it was done.
-fn success(request: &[u8], fields: &[u8]) -> Option<Vec<String>> {
-    let (request, rest) = number::read(request)?;
-    match request {
-        1 | 3 | 9 | 10 | 17 => Some(vec![format!("handle {}", number::read(fields)?.0)]),
-        4 => {
-            let (_handle, rest) = number::read(rest)?;
-            report(number::read(rest)?.0, fields)
+/// The words of an answer, both as whole frames.
+fn read(request: &[u8], answer: &[u8]) -> Option<Vec<String>> {
+    let request = Request::read(request).ok()?;
+    let reply = Reply::read(&request, answer).ok()?;
+    Some(match (request, reply) {
+        (_, Reply::Report(report)) => report_lines(report),
+        (Request::Privileges { entries, .. }, Reply::Privileges(previous)) => {
+            previous_lines(entries, previous)
         }
-        5 => previous(&number::read_all(rest)?, PreviousPrivileges::read(fields)?),
-        6 => Some(vec![format!("enabled before: {}", groups_text(&number::read_all(fields)?))]),
-        12 => Some(vec![format!("acts at level {}", level_text(number::read(fields)?.0))]),
-        13 => given_up(&number::read_all(fields)?),
-        18 => Some(vec![yes_or_no(Condition::read_answer(fields)?)]),
-        _ => None,
+        _ => vec![line(reply)],
+    })
+}
+
+/// A reply that is one line.
+fn line(reply: Reply) -> String {
+    match reply {
+        Reply::TooLarge { size } => {
+            format!("refused 9: the report's size is {size}, above the capacity")
+        }
+        Reply::Refused(refusal) => refusal.to_string(),
+        Reply::Handle(handle) => format!("handle {handle}"),
+        Reply::Groups(previous) => format!("enabled before: {}", groups_text(previous)),
+        Reply::Level(level) => format!("acts at level {}", level_text(level)),
+        Reply::Reverted(None) => "acted for none".to_string(),
+        Reply::Reverted(Some(Client { token, level })) => {
+            format!("acted for token {token} at level {}", level_text(level))
+        }
+        Reply::Holds(holds) => if holds { "yes" } else { "no" }.to_string(),
+        _ => "done".to_string(),
     }
 }
 
 /// How each privilege that request 5 named was before it; after a reset, how those present were.
-fn previous(request: &[u64], previous: PreviousPrivileges) -> Option<Vec<String>> {
-    let [_handle, _count, entries @ ..] = request else {
-        return None;
-    };
-    if *entries == RESET_PRIVILEGES {
+fn previous_lines(entries: List<PrivilegeEntry>, previous: PreviousPrivileges) -> Vec<String> {
+    if entries == (&[PrivilegeEntry::RESET]).into() {
         let PreviousPrivileges { present, enabled } = previous;
         let line = |name, word| format!("was {name}: {}", vocabulary::privileges_text(word));
-        return Some(vec![line("enabled", enabled), line("disabled", present & !enabled)]);
+        return vec![line("enabled", enabled), line("disabled", present & !enabled)];
     }
-    let line = |entry: &[u64]| {
-        let state = previous.state(entry[0] as u32);
-        format!("{} was {state}", vocabulary::privilege_text(entry[0]))
+    let line = |entry: PrivilegeEntry| {
+        let state = previous.state(entry.privilege);
+        format!("{} was {state}", vocabulary::privilege_text(entry.privilege.into()))
     };
-    Some(entries.chunks_exact(2).map(line).collect())
+    entries.iter().map(line).collect()
 }
 
-/// The token that a station no longer acts for, and the level that was in force.
-fn given_up(numbers: &[u64]) -> Option<Vec<String>> {
-    let &[token, level] = numbers else {
-        return None;
-    };
-    Some(vec![match token {
-        NO_CLIENT => "acted for none".to_string(),
-        _ => format!("acted for token {token} at level {}", level_text(level)),
-    }])
+fn level_text(level: Level) -> String {
+    vocabulary::text(&LEVELS, level as u64)
 }
 
-/// Whether a condition held.
-fn yes_or_no(holds: bool) -> String {
-    if holds { "yes" } else { "no" }.to_string()
-}
-
-fn level_text(level: u64) -> String {
-    vocabulary::text(&LEVELS, level)
-}
-
-/// The groups whose bits are set in these words.
-fn groups_text(words: &[u64]) -> String {
-    const BITS: usize = u64::BITS as usize;
-    let is_set = |group: &usize| words[group / BITS] >> (group % BITS) & 1 == 1;
-    let groups: Vec<_> = (0..words.len() * BITS).filter(is_set).map(|g| g.to_string()).collect();
+/// The groups that were enabled.
+fn groups_text(previous: PreviousGroups) -> String {
+    let groups: Vec<_> = previous.indexes().map(|index| index.to_string()).collect();
     match groups.len() {
         0 => "none".to_string(),
         1 => format!("group {}", groups[0]),
@@ -100,29 +87,27 @@ fn groups_text(words: &[u64]) -> String {
 }
 
 /// A query's report.
-fn report(class: u64, fields: &[u8]) -> Option<Vec<String>> {
-    if class == 6 {
-        let (_length, dacl) = number::read(fields)?;
-        return Some(vec![dacl_text(dacl)]);
-    }
-    let numbers = number::read_all(fields)?;
-    let first = *numbers.first()?;
-    let line = match class {
-        1 => format!("user {}", vocabulary::sid_text(first)),
-        2 => return Some(group_lines(&numbers[1..])),
-        3 => return privilege_lines(&numbers),
-        4 => format!("owner {}", vocabulary::sid_text(first)),
-        5 => format!("primary group {}", vocabulary::sid_text(first)),
-        7 => format!("type {}", vocabulary::text(&TYPES, first)),
-        8 => format!("level {}", level_text(first)),
-        9 => statistics(&numbers)?,
-        10 => restricting_text(&numbers[1..]),
-        11 => format!("scope {first}"),
-        12 => format!("elevation {}", vocabulary::text(&ELEVATIONS, first)),
-        13 => format!("integrity {}", vocabulary::integrity_text(first)),
-        _ => return None,
-    };
-    Some(vec![line])
+pub fn report_lines(report: Report) -> Vec<String> {
+    vec![match report {
+        Report::User(sid) => format!("user {}", vocabulary::sid_text(sid.into())),
+        Report::Groups(groups) => return group_lines(groups),
+        Report::Privileges(privileges) => return privilege_lines(privileges),
+        Report::Owner(sid) => format!("owner {}", vocabulary::sid_text(sid.into())),
+        Report::PrimaryGroup(sid) => format!("primary group {}", vocabulary::sid_text(sid.into())),
+        Report::Dacl(dacl) => dacl_text(dacl),
+        Report::Type(token_type) => format!("type {}", vocabulary::text(&TYPES, token_type as u64)),
+        Report::Level(level) => format!("level {}", level_text(level)),
+        Report::Statistics(statistics) => statistics_text(statistics),
+        Report::Restricting(sids) => restricting_text(sids),
+        Report::Scope(scope) => format!("scope {scope}"),
+        Report::Elevation(elevation) => {
+            format!("elevation {}", vocabulary::text(&ELEVATIONS, elevation as u64))
+        }
+        Report::Integrity(integrity) => {
+            format!("integrity {}", vocabulary::integrity_text(integrity.into()))
+        }
+        _ => "done".to_string(),
+    }]
 }
 
 fn dacl_text(dacl: &[u8]) -> String {
@@ -133,46 +118,43 @@ fn dacl_text(dacl: &[u8]) -> String {
     }
 }
 
-/// A line for each pair of SID and attributes.
-fn group_lines(pairs: &[u64]) -> Vec<String> {
-    let line = |(index, pair): (usize, &[u64])| {
-        let attributes = vocabulary::bits_text(&names::GROUP_ATTRIBUTES, pair[1] as u32);
-        format!("group {index}: {}, attributes {attributes}", vocabulary::sid_text(pair[0]))
+/// A line for each group.
+fn group_lines(groups: List<Group>) -> Vec<String> {
+    let line = |(index, group): (usize, Group)| {
+        let attributes = vocabulary::bits_text(&names::GROUP_ATTRIBUTES, group.attributes);
+        let sid = vocabulary::sid_text(group.sid.into());
+        format!("group {index}: {sid}, attributes {attributes}")
     };
-    if pairs.is_empty() {
+    if groups.is_empty() {
         return vec!["no groups".to_string()];
     }
-    pairs.chunks_exact(2).enumerate().map(line).collect()
+    groups.iter().enumerate().map(line).collect()
 }
 
-fn privilege_lines(numbers: &[u64]) -> Option<Vec<String>> {
-    let &[present, enabled, default, used] = numbers else {
-        return None;
-    };
+fn privilege_lines(privileges: Privileges) -> Vec<String> {
     let line = |name, word| format!("{name}: {}", vocabulary::privileges_text(word));
-    Some(vec![
-        line("present", present),
-        line("enabled", enabled),
-        line("default", default),
-        line("used", used),
-    ])
+    vec![
+        line("present", privileges.present),
+        line("enabled", privileges.enabled),
+        line("default", privileges.default),
+        line("used", privileges.used),
+    ]
 }
 
-fn statistics(numbers: &[u64]) -> Option<String> {
-    let &[token, session, modified, token_type, root] = numbers else {
-        return None;
-    };
-    let [token_type, root] = [vocabulary::text(&TYPES, token_type), vocabulary::root_text(root)];
-    Some(format!(
-        "token {token}, session {session}, modified {modified}, type {token_type}, root {root}"
-    ))
+fn statistics_text(statistics: Statistics) -> String {
+    let Statistics { number, session, modified, token_type, root } = statistics;
+    let token_type = vocabulary::text(&TYPES, token_type as u64);
+    let root = vocabulary::root_text(root);
+    format!(
+        "token {number}, session {session}, modified {modified}, type {token_type}, root {root}"
+    )
 }
 
-fn restricting_text(sids: &[u64]) -> String {
+fn restricting_text(sids: List<u32>) -> String {
     if sids.is_empty() {
         return "no restricting SIDs".to_string();
     }
-    let sids: Vec<_> = sids.iter().map(|&sid| vocabulary::sid_text(sid)).collect();
+    let sids: Vec<_> = sids.iter().map(|sid| vocabulary::sid_text(sid.into())).collect();
     format!("restricting SIDs {}", sids.join(", "))
 }
 
@@ -180,13 +162,24 @@ fn restricting_text(sids: &[u64]) -> String {
 mod tests {
     use super::*;
 
+    /// What is said of a success with these fields, given the request's body.
+    fn success(request: &[u8], fields: &[u8]) -> Option<Vec<String>> {
+        let request = [&[request.len() as u8], request].concat();
+        let answer = [&[1 + fields.len() as u8, 0], fields].concat();
+        read(&request, &answer)
+    }
+
+    fn report(class: u8, fields: &[u8]) -> Option<Vec<String>> {
+        success(&[4, 1, class, 64], fields)
+    }
+
     #[test]
-    fn bodies_are_cut_at_their_lengths() {
+    fn requests_are_cut_at_their_lengths() {
         let stream = [2, 1, 8, 1, 9, 3, 1];
-        assert_eq!(bodies(&stream), [&[1, 8][..], &[9]]);
-        assert!(bodies(&[0]).is_empty());
-        assert!(bodies(&[0x81, 0x10, 1]).is_empty());
-        assert!(bodies(&[0x80]).is_empty());
+        assert_eq!(frames(&stream), [&[2, 1, 8][..], &[1, 9]]);
+        assert!(frames(&[0]).is_empty());
+        assert!(frames(&[0x81, 0x10, 1]).is_empty());
+        assert!(frames(&[0x80]).is_empty());
     }
 
     #[test]
@@ -202,8 +195,8 @@ mod tests {
         assert_eq!(said(&[17, 3], &[0xAC, 2]), ["handle 300"]);
         assert_eq!(said(&[18, 3, 1, 0], &[1]), ["yes"]);
         assert_eq!(said(&[18, 3, 2, 0], &[0]), ["no"]);
-        assert_eq!(success(&[2, 1], &[]), None);
-        assert_eq!(success(&[16, 1, 2, 5], &[]), None);
+        assert_eq!(said(&[2, 1], &[]), ["done"]);
+        assert_eq!(said(&[16, 1, 2, 5], &[]), ["done"]);
     }
 
     #[test]

@@ -21,8 +21,8 @@ impl<'a> Arguments<'a> {
     }
 
     /// The next word, a number of 32 bits.
-    pub fn u32(&mut self, what: &str) -> Result<u64, Mistake> {
-        self.word(what)?.number(what, u32::MAX.into())
+    pub fn u32(&mut self, what: &str) -> Result<u32, Mistake> {
+        self.word(what)?.u32(what)
     }
 
     /// Whether no word is left.

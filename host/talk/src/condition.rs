@@ -9,12 +9,15 @@ use crate::words::{Mistake, Word};
 /// What stands around the conditions of a list and between them.
 const MARKS: [char; 3] = ['(', ',', ')'];
 
-/// The bytes of the condition that the words left begin with.
-pub fn bytes(arguments: &mut Arguments) -> Result<Vec<u8>, Mistake> {
+/// The condition that the words left begin with, which a request can have.
+pub fn parse(arguments: &mut Arguments) -> Result<Condition, Mistake> {
     arguments.cut(&MARKS);
     let column = arguments.column();
     let condition = condition(arguments, MAX_DEPTH)?;
-    condition.to_bytes().map_err(|error| Mistake { column, message: error.to_string() })
+    match condition.to_bytes() {
+        Ok(_) => Ok(condition),
+        Err(error) => Err(Mistake { column, message: error.to_string() }),
+    }
 }
 
 /// A condition that is at most so deep.
@@ -27,11 +30,8 @@ fn condition(words: &mut Arguments, depth: usize) -> Result<Condition, Mistake> 
         "all" => list(kind, words, depth - 1).map(Condition::All),
         "any" => list(kind, words, depth - 1).map(Condition::Any),
         "not" => condition(words, depth - 1).map(Condition::not),
-        "enabled" => {
-            let privilege = vocabulary::privilege(words.word("a privilege")?)?;
-            Ok(Condition::enabled(privilege as u32))
-        }
-        "group" => Ok(Condition::group(vocabulary::sid(words.word("a SID")?)? as u32)),
+        "enabled" => Ok(Condition::enabled(vocabulary::privilege(words.word("a privilege")?)?)),
+        "group" => Ok(Condition::group(vocabulary::sid(words.word("a SID")?)?)),
         _ => Err(kind.mistake(format_args!(
             "{} is no condition: say enabled, group, not, all(..) or any(..)",
             kind.quoted()
@@ -65,11 +65,12 @@ fn list(kind: Word, words: &mut Arguments, depth: usize) -> Result<Vec<Condition
 mod tests {
     use super::*;
 
+    /// The bytes of a condition that is the whole text.
     fn parse(text: &str) -> Result<Vec<u8>, Mistake> {
         let words = Word::line(text).words();
         let mut arguments = Arguments::new(Word::line(""), words);
-        let bytes = bytes(&mut arguments)?;
-        arguments.finish().map(|()| bytes)
+        let condition = super::parse(&mut arguments)?;
+        arguments.finish().map(|()| condition.to_bytes().expect("it fits"))
     }
 
     fn mistake(text: &str) -> (usize, String) {

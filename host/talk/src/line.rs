@@ -1,7 +1,5 @@
 //! A line: what it asks for, or what is wrong with it.
 
-use obriska::{LENGTH_BYTES, MAX_BODY};
-
 use crate::arguments::Arguments;
 use crate::hex;
 use crate::reports::Reports;
@@ -10,13 +8,21 @@ use crate::words::{Mistake, Word};
 
 /// What a line asks for.
 #[derive(Clone, Debug, PartialEq, Eq)]
-pub enum Command {
+pub enum Command<'a> {
     /// Bytes for a station: a request, or raw ones.
     Send { station: u32, bytes: Vec<u8> },
     /// Reconnects a station.
     Reconnect { station: u32 },
     /// Shows what the broker keeps.
     State,
+    /// Shows all of a token.
+    Token(u64),
+    /// The words that the next line of what was said has to begin with.
+    Expect(Word<'a>),
+    /// Writes what the broker keeps to a file.
+    Save(Word<'a>),
+    /// Goes on with what a file has kept.
+    Load(Word<'a>),
     /// Lists the requests.
     Help,
     /// Ends the session.
@@ -24,34 +30,53 @@ pub enum Command {
 }
 
 /// The line's command, given the reports so far; none in an empty line or a comment.
-pub fn parse(line: &str, reports: &Reports) -> Result<Option<Command>, Mistake> {
+pub fn parse<'a>(line: &'a str, reports: &Reports) -> Result<Option<Command<'a>>, Mistake> {
     let line = Word::line(line).without_comment().trimmed();
     if line.text.is_empty() {
         return Ok(None);
     }
+    let (name, rest) = line.first();
+    if let Some(command) = alone(name, rest)? {
+        return Ok(Some(command));
+    }
     match line.split_once(':') {
         Some((station, rest)) => at_station(station.trimmed(), rest, reports).map(Some),
-        None => alone(line).map(Some),
+        None => Err(line.mistake("no station: say '0: open query', or state, help or quit")),
     }
 }
 
-/// A line without a station.
-fn alone(line: Word) -> Result<Command, Mistake> {
-    let command = match line.words()[0].text {
+/// A line without a station, if its first word is one of these.
+fn alone<'a>(name: Word<'a>, rest: Word<'a>) -> Result<Option<Command<'a>>, Mistake> {
+    let mut arguments = Arguments::new(name, rest.words());
+    let command = match name.text {
         "state" => Command::State,
+        "token" => Command::Token(arguments.word("number")?.number("token", u64::MAX)?),
+        "expect" => Command::Expect(whole(&mut arguments, rest, "an answer such as 'refused 4'")?),
+        "save" => Command::Save(whole(&mut arguments, rest, "a file's name")?),
+        "load" => Command::Load(whole(&mut arguments, rest, "a file's name")?),
         "help" => Command::Help,
-        "quit" => Command::Quit,
-        _ => return Err(line.mistake("no station: say '0: open query', or state, help or quit")),
+        "quit" | "exit" => Command::Quit,
+        _ => return Ok(None),
     };
-    match line.words().get(1) {
-        None => Ok(command),
-        Some(word) => Err(word.mistake(format_args!("'{}' is one word too many", word.text))),
+    arguments.finish()?;
+    Ok(Some(command))
+}
+
+/// All that is left of the line, which is not nothing.
+fn whole<'a>(arguments: &mut Arguments, rest: Word<'a>, what: &str) -> Result<Word<'a>, Mistake> {
+    if arguments.rest().is_empty() {
+        return Err(arguments.missing(what));
     }
+    Ok(rest)
 }
 
 /// A line for a station.
-fn at_station(station: Word, rest: Word, reports: &Reports) -> Result<Command, Mistake> {
-    let station = station.number("station", u32::MAX.into())? as u32;
+fn at_station<'a>(
+    station: Word<'a>,
+    rest: Word<'a>,
+    reports: &Reports,
+) -> Result<Command<'a>, Mistake> {
+    let station = station.u32("station")?;
     let mut words = rest.words();
     if words.is_empty() {
         return Err(rest.mistake("missing: a request"));
@@ -75,9 +100,6 @@ fn at_station(station: Word, rest: Word, reports: &Reports) -> Result<Command, M
     let bytes = request::frame(name, Arguments::new(name, words)).ok_or_else(|| {
         name.mistake(format_args!("'{}' is no request; 'help' lists them", name.text))
     })??;
-    if bytes.len() > LENGTH_BYTES + MAX_BODY {
-        return Err(name.mistake(format_args!("the request is over {MAX_BODY} bytes")));
-    }
     Ok(Command::Send { station, bytes })
 }
 
@@ -86,7 +108,7 @@ mod tests {
     use super::*;
 
     /// A line before there is any report.
-    fn parse(line: &str) -> Result<Option<Command>, Mistake> {
+    fn parse(line: &str) -> Result<Option<Command<'_>>, Mistake> {
         super::parse(line, &Reports::default())
     }
 
@@ -158,6 +180,13 @@ mod tests {
         assert_eq!(parse("state # all"), Ok(Some(Command::State)));
         assert_eq!(parse("help"), Ok(Some(Command::Help)));
         assert_eq!(parse("quit"), Ok(Some(Command::Quit)));
+        assert_eq!(parse("exit"), Ok(Some(Command::Quit)));
+        assert_eq!(parse("token 0x10"), Ok(Some(Command::Token(16))));
+        let word = |text, column| Word { text, column };
+        let words = word("refused 4: the", 9);
+        assert_eq!(parse("expect  refused 4: the # why"), Ok(Some(Command::Expect(words))));
+        assert_eq!(parse("save a b"), Ok(Some(Command::Save(word("a b", 6)))));
+        assert_eq!(parse(" load c:d"), Ok(Some(Command::Load(word("c:d", 7)))));
         assert_eq!(parse("7:reconnect"), Ok(Some(Command::Reconnect { station: 7 })));
         let bytes = vec![2, 1, 0x28];
         assert_eq!(parse("3: bytes 02 0128"), Ok(Some(Command::Send { station: 3, bytes })));
@@ -197,6 +226,22 @@ mod tests {
         assert_eq!(mistake("0: bytes 0").0, 10);
         assert_eq!(mistake("0: bytes").0, 9);
         assert_eq!(mistake("state now").0, 7);
+        assert_eq!(mistake("token"), (6, "missing: number".into()));
+        assert_eq!(mistake("token x"), (7, "'x' is no token: say a number".into()));
+        assert_eq!(mistake("token 1 2"), (9, "'2' is one word too many".into()));
+        assert_eq!(mistake("expect"), (7, "missing: an answer such as 'refused 4'".into()));
+        assert_eq!(mistake("save # x"), (5, "missing: a file's name".into()));
+        assert_eq!(mistake("0: create user=bob").0, 16);
+    }
+
+    #[test]
+    fn a_copy_for_impersonation_says_its_level() {
+        let levels = "anonymous, identification, impersonation, delegation";
+        let expected = (47, format!("missing: level=.., one of {levels}"));
+        assert_eq!(mistake("0: duplicate 1 type=impersonation rights=query"), expected);
+        assert_eq!(mistake("0: duplicate 1 type=2").0, 22);
+        assert_eq!(sent("0: duplicate 1 type=2 level=0 rights=8"), "05 09 01 02 00 08");
+        assert_eq!(sent("0: duplicate 1 type=primary rights=query"), "05 09 01 01 00 08");
     }
 
     #[test]

@@ -9,6 +9,7 @@ mod reports;
 mod request;
 mod session;
 mod state;
+mod token;
 mod vocabulary;
 mod words;
 
@@ -16,17 +17,20 @@ use std::fs;
 use std::io::{self, BufRead, IsTerminal, Write};
 use std::process::ExitCode;
 
-use session::Session;
+use session::{Next, Session};
+use words::Mistake;
 
 const USAGE: &str = "\
 usage: obriska-talk [--hex] [SCRIPT]
 
 Sends each line of SCRIPT, or of standard input, to a broker at its start and prints the answers.
-  --hex    shows the bytes both ways
-  --help   this text and the requests
+  --hex      shows the bytes both ways
+  --help     this text and the requests
+  --version  the program's name and version
 
-Ends with 0, with 1 if a line was bad (it is named, and nothing is sent), with 2 if the words on the
-command line were, or a file could not be read.
+Ends with 0; with 1 if a line was bad (it is named, and nothing is sent), an answer was not as
+expected, or a file could not be saved or loaded; with 2 if the words on the command line were bad,
+or the script could not be read.
 ";
 
 /// What the command line asks for.
@@ -42,6 +46,10 @@ fn main() -> ExitCode {
             "--hex" => options.shows_bytes = true,
             "--help" | "-h" => {
                 print!("{USAGE}\n{}", include_str!("help.txt"));
+                return ExitCode::SUCCESS;
+            }
+            "--version" => {
+                println!("obriska-talk {}", env!("CARGO_PKG_VERSION"));
                 return ExitCode::SUCCESS;
             }
             _ if !word.starts_with('-') && options.script.is_none() => options.script = Some(word),
@@ -63,13 +71,13 @@ fn main() -> ExitCode {
     }
 }
 
-/// Plays the script, or standard input; false if a line was bad.
+/// Plays the script, or standard input; false if a line was wrong.
 fn play(options: &Options) -> io::Result<bool> {
     let mut talk = Talk {
         session: Session::new(options.shows_bytes),
         name: options.script.as_deref().unwrap_or("-"),
         echoes: true,
-        bad_lines: 0,
+        wrong_lines: 0,
     };
     if let Some(path) = &options.script {
         let script = fs::read_to_string(path)?;
@@ -81,17 +89,21 @@ fn play(options: &Options) -> io::Result<bool> {
     } else {
         talk.play(io::stdin().lock().lines())?;
     }
-    Ok(talk.bad_lines == 0)
+    Ok(talk.wrong_lines == 0)
 }
 
-/// The lines typed at a prompt.
+/// The lines typed at a prompt; where they end without 'quit', the prompt's own line ends too.
 fn prompted() -> impl Iterator<Item = io::Result<String>> {
     println!("Eight stations at their start. 'help' lists the requests, 'quit' ends.");
     let mut lines = io::stdin().lines();
     std::iter::from_fn(move || {
         print!("obriska> ");
         io::stdout().flush().ok()?;
-        lines.next()
+        let line = lines.next();
+        if line.is_none() {
+            println!();
+        }
+        line
     })
 }
 
@@ -100,7 +112,7 @@ struct Talk<'a> {
     session: Session,
     name: &'a str,
     echoes: bool,
-    bad_lines: usize,
+    wrong_lines: usize,
 }
 
 impl Talk<'_> {
@@ -123,15 +135,24 @@ impl Talk<'_> {
         } else {
             self.session.echo_bytes(command, &mut out)?;
         }
-        match parsed {
-            Ok(None) => Ok(true),
-            Ok(Some(command)) => self.session.run(&command, &mut out),
+        let next = match parsed {
+            Ok(None) => Next::On,
+            Ok(Some(command)) => self.session.run(&command, &mut out)?,
             Err(mistake) => {
-                out.flush()?;
-                self.bad_lines += 1;
-                eprintln!("{}:{number}:{}: {}", self.name, mistake.column, mistake.message);
-                Ok(true)
+                self.session.forget();
+                Next::Wrong(mistake)
             }
+        };
+        out.flush()?;
+        if let Next::Wrong(mistake) = &next {
+            self.name_wrong(number, mistake);
         }
+        Ok(!matches!(next, Next::End))
+    }
+
+    /// Says what is wrong with a line, and counts it.
+    fn name_wrong(&mut self, number: usize, mistake: &Mistake) {
+        self.wrong_lines += 1;
+        eprintln!("{}:{number}:{}: {}", self.name, mistake.column, mistake.message);
     }
 }

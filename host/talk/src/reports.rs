@@ -2,15 +2,12 @@
 
 use std::collections::BTreeMap;
 
-use obriska::{number, Answer, Restore, RestoreError};
+use obriska::codec::Request;
+use obriska::{Answer, Restore, RestoreError};
 
 use crate::arguments::Arguments;
-use crate::request;
 use crate::vocabulary;
 use crate::words::{Mistake, Word};
-
-/// The number of the request that adjusts privileges.
-const PRIVILEGES: u64 = 5;
 
 /// The last report of each station that has one.
 #[derive(Default)]
@@ -23,16 +20,16 @@ struct Report {
 }
 
 impl Reports {
-    /// Takes what a station sent, without its length, and its answer: a report if it is one.
-    pub fn take(&mut self, station: u32, body: &[u8], answer: &Answer) {
-        let Some((PRIVILEGES, rest)) = number::read(body) else {
+    /// Takes what a station sent and its answer: a report if it is one.
+    pub fn take(&mut self, station: u32, frame: &[u8], answer: &Answer) {
+        let Ok(Request::Privileges { handle, .. }) = Request::read(frame) else {
             return;
         };
-        let (Some((handle, _)), None) = (number::read(rest), answer.refusal()) else {
+        if answer.refusal().is_some() {
             return; // a refused request changed nothing, and the report before it still counts
-        };
-        let restore = Restore::new(&request::framed(body), answer.bytes());
-        self.0.insert(station, Report { handle: handle as u32, restore });
+        }
+        let restore = Restore::new(frame, answer.bytes());
+        self.0.insert(station, Report { handle, restore });
     }
 
     /// The request that puts back what the station's last report says, on its handle or on the one
@@ -49,7 +46,7 @@ impl Reports {
             return Err(name.mistake(format_args!("station {station} has no report to restore")));
         };
         match &report.restore {
-            Ok(restore) => Ok(restore.request(given.map_or(report.handle, |handle| handle as u32))),
+            Ok(restore) => Ok(restore.request(given.unwrap_or(report.handle))),
             Err(error) => Err(name.mistake(why(station, *error))),
         }
     }
@@ -77,18 +74,18 @@ mod tests {
     fn after(requests: &[&[u8]], words: &str) -> Result<Vec<u8>, Mistake> {
         let mut broker = Broker::start();
         let mut reports = Reports::default();
-        for body in requests {
-            let answers = broker.feed(0, &request::framed(body)).unwrap();
-            reports.take(0, body, &answers[0]);
+        for request in requests {
+            let answers = broker.feed(0, request).unwrap();
+            reports.take(0, request, &answers[0]);
         }
         let line = Word::line(words);
         reports.put_back(0, line, Arguments::new(line, line.words()))
     }
 
-    const OPEN: &[u8] = &[1, 0x28];
-    const DISABLE: &[u8] = &[5, 1, 2, 19, 0, 7, 2];
-    const REMOVE: &[u8] = &[5, 1, 2, 19, 2, 7, 4];
-    const RESET: &[u8] = &[5, 1, 1, 0, 0x80, 0x80, 0x80, 0x80, 8];
+    const OPEN: &[u8] = &[2, 1, 0x28];
+    const DISABLE: &[u8] = &[7, 5, 1, 2, 19, 0, 7, 2];
+    const REMOVE: &[u8] = &[7, 5, 1, 2, 19, 2, 7, 4];
+    const RESET: &[u8] = &[9, 5, 1, 1, 0, 0x80, 0x80, 0x80, 0x80, 8];
 
     #[test]
     fn the_last_report_is_put_back_on_its_handle_or_on_another() {
@@ -99,9 +96,9 @@ mod tests {
 
     #[test]
     fn a_refused_request_leaves_the_report_before_it() {
-        let bad: &[u8] = &[5, 1, 1, 37, 0];
-        let cut_short: &[u8] = &[5, 1, 2, 19];
-        let other: &[u8] = &[4, 1, 3, 0x80, 8];
+        let bad: &[u8] = &[5, 5, 1, 1, 37, 0];
+        let cut_short: &[u8] = &[4, 5, 1, 2, 19];
+        let other: &[u8] = &[5, 4, 1, 3, 0x80, 8];
         let expected = after(&[OPEN, DISABLE], "");
         assert_eq!(after(&[OPEN, DISABLE, bad, cut_short, other], ""), expected);
     }

@@ -4,33 +4,20 @@ use obriska::{Broker, Client, Handle, Pair, Station, Token};
 
 use crate::vocabulary::{self, ELEVATIONS, LEVELS, TYPES};
 
-const TOKEN_COLUMNS: [&str; 14] = [
-    "token",
-    "root",
-    "modified",
-    "session",
-    "user",
-    "type",
-    "elevation",
-    "integrity",
-    "scope",
-    "privileges",
-    "groups",
-    "restricting",
-    "owner / group",
-    "DACL",
-];
-
-/// Tokens, handles, stations and linked pairs.
+/// Tokens (three tables), handles, stations and linked pairs: in 80 columns unless numbers are
+/// large or a handle's rights are many.
 pub fn lines(broker: &Broker) -> Vec<String> {
-    let tokens = broker.tokens().map(|token| token_row(&token)).collect();
+    let tokens: Vec<_> = broker.tokens().collect();
     let handles = broker.handles().map(handle_row).collect();
     let stations = broker.stations();
     let stations = stations.iter().enumerate().map(station_row).collect();
     let pairs = broker.pairs().map(pair_row).collect();
     let next = format!("next token {}, next handle {}", broker.next_token(), broker.next_handle());
+    let [identities, standings, powers] = token_tables(&tokens);
     let tables = [
-        table(&TOKEN_COLUMNS, tokens),
+        identities,
+        standings,
+        powers,
         table(&["handle", "station", "token", "rights"], handles),
         table(&["station", "token", "acts for", "stream"], stations),
         table(&["pair of session", "elevated token", "filtered token"], pairs),
@@ -39,7 +26,18 @@ pub fn lines(broker: &Broker) -> Vec<String> {
     tables.join(&String::new())
 }
 
-fn token_row(token: &Token) -> Vec<String> {
+/// Who the tokens are; their standing and what they give to new objects; what they may.
+fn token_tables(tokens: &[Token]) -> [Vec<String>; 3] {
+    let rows = |row: fn(&Token) -> Vec<String>| tokens.iter().map(row).collect();
+    let standing = ["token", "elevation", "integrity", "scope", "owner / group", "DACL"];
+    [
+        table(&["token", "root", "modified", "session", "user", "type"], rows(identity_row)),
+        table(&standing, rows(standing_row)),
+        table(&["token", "privileges", "groups", "restricting"], rows(power_row)),
+    ]
+}
+
+fn identity_row(token: &Token) -> Vec<String> {
     let token_type = vocabulary::text(&TYPES, token.token_type as u64);
     let level = vocabulary::text(&LEVELS, token.level as u64);
     let is_primary = token.token_type == obriska::TokenType::Primary;
@@ -50,14 +48,26 @@ fn token_row(token: &Token) -> Vec<String> {
         token.session.to_string(),
         vocabulary::sid_text(token.user.into()),
         if is_primary { token_type } else { format!("{token_type}, {level}") },
+    ]
+}
+
+fn standing_row(token: &Token) -> Vec<String> {
+    vec![
+        token.number.to_string(),
         vocabulary::text(&ELEVATIONS, token.elevation as u64),
         vocabulary::integrity_text(token.integrity.into()),
         token.scope.to_string(),
+        owner(token),
+        token.dacl.len().to_string(),
+    ]
+}
+
+fn power_row(token: &Token) -> Vec<String> {
+    vec![
+        token.number.to_string(),
         privileges(token),
         token.groups.len().to_string(),
         restricting(token),
-        owner(token),
-        token.dacl.len().to_string(),
     ]
 }
 
@@ -175,17 +185,26 @@ mod tests {
             "next token 4, next handle 3",
         ];
         assert!(pairs.eq(expected));
-        assert!(lines[2].contains("primary  limited") && lines[3].contains("primary  full"));
+        let standings: Vec<_> = lines.iter().skip_while(|line| !line.contains("elev")).collect();
+        assert!(standings[2].starts_with("2      limited"));
+        assert!(standings[3].starts_with("3      full"));
     }
 
     #[test]
     fn the_start_has_one_token_and_eight_stations() {
         let lines = lines(&Broker::start());
-        assert!(lines[0].starts_with("token  root  modified"));
-        assert!(
-            lines[1].starts_with("1      1     1         999      18 (SYSTEM)  primary  default")
-        );
-        assert!(lines[1].contains("35 of 35 enabled, 0 used"));
+        let expected = [
+            "token  root  modified  session  user         type",
+            "1      1     1         999      18 (SYSTEM)  primary",
+            "",
+            "token  elevation  integrity       scope  owner / group  DACL",
+            "1      default    16384 (system)  0      user / user    0",
+            "",
+            "token  privileges                groups  restricting",
+            "1      35 of 35 enabled, 0 used  0       0",
+            "",
+        ];
+        assert_eq!(lines[..expected.len()], expected);
         assert_eq!(lines.iter().filter(|line| line.ends_with("between requests")).count(), 8);
         assert_eq!(lines.last().unwrap(), "next token 2, next handle 1");
     }

@@ -34,19 +34,23 @@ pub const ACTIONS: [Named; 3] = [(0, "disable"), (2, "enable"), (4, "remove")];
 pub const SWITCHES: [Named; 2] = [(0, "disable"), (1, "enable")];
 
 /// The number of a name, or a number of 32 bits as it stands.
-pub fn number(word: Word, what: &str, names: &[Named]) -> Result<u64, Mistake> {
+pub fn number(word: Word, what: &str, names: &[Named]) -> Result<u32, Mistake> {
     if word.as_number().is_some() {
-        return word.number(what, u32::MAX.into());
+        return word.u32(what);
     }
     let found = names.iter().find(|named| normal(named.1) == normal(word.text));
-    found.map(|named| named.0.into()).ok_or_else(|| {
-        let names: Vec<_> = names.iter().map(|named| named.1).collect();
-        word.mistake(format_args!("{} is no {what}: {}", word.quoted(), names.join(", ")))
+    found.map(|named| named.0).ok_or_else(|| {
+        word.mistake(format_args!("{} is no {what}: {}", word.quoted(), self::names(names)))
     })
 }
 
+/// The names alone.
+pub fn names(names: &[Named]) -> String {
+    names.iter().map(|named| named.1).collect::<Vec<_>>().join(", ")
+}
+
 /// The number of a privilege: tcb, SeTcbPrivilege and 7 are the same.
-pub fn privilege(word: Word) -> Result<u64, Mistake> {
+pub fn privilege(word: Word) -> Result<u32, Mistake> {
     number(word, "privilege", &names::PRIVILEGES).map_err(|mistake| Mistake {
         message: match word.as_number() {
             Some(_) => mistake.message,
@@ -56,27 +60,36 @@ pub fn privilege(word: Word) -> Result<u64, Mistake> {
     })
 }
 
-/// A SID.
-pub fn sid(word: Word) -> Result<u64, Mistake> {
-    number(word, "SID", &names::SIDS)
+/// A SID: a number, or one of the few names.
+pub fn sid(word: Word) -> Result<u32, Mistake> {
+    number(word, "SID", &names::SIDS).map_err(|mistake| Mistake {
+        message: match word.as_number() {
+            Some(_) => mistake.message,
+            None => {
+                let names = names(&names::SIDS);
+                format!("{} is no SID: say a number such as 1000, or {names}", word.quoted())
+            }
+        },
+        ..mistake
+    })
 }
 
 /// The numbers of some names, joined.
-fn joined(word: Word, separator: char, what: &str, names: &[Named]) -> Result<u64, Mistake> {
+fn joined(word: Word, separator: char, what: &str, names: &[Named]) -> Result<u32, Mistake> {
     let parts = word.split(separator).into_iter();
     parts.map(|part| number(part, what, names)).try_fold(0, |all, part| Ok(all | part?))
 }
 
 /// Rights such as query,duplicate, or all.
-pub fn rights(word: Word) -> Result<u64, Mistake> {
+pub fn rights(word: Word) -> Result<u32, Mistake> {
     if word.text == "all" {
-        return Ok(names::ALL_RIGHTS.into());
+        return Ok(names::ALL_RIGHTS);
     }
     joined(word, ',', "right", &names::RIGHTS)
 }
 
 /// Attributes such as mandatory+enabled-by-default.
-pub fn attributes(word: Word) -> Result<u64, Mistake> {
+pub fn attributes(word: Word) -> Result<u32, Mistake> {
     joined(word, '+', "attribute", &names::GROUP_ATTRIBUTES)
 }
 
@@ -85,9 +98,9 @@ pub fn privilege_word(word: Word) -> Result<u64, Mistake> {
     if word.text == "all" {
         return Ok(names::ALL_PRIVILEGES);
     }
-    let last = u64::from(u64::BITS - 1);
+    let last = u64::BITS - 1;
     let bit = |part: Word| match privilege(part)? {
-        number if number <= last => Ok(1 << number),
+        number if number <= last => Ok(1_u64 << number),
         _ => Err(part.mistake(format_args!("{} is over {last}, a word's last bit", part.text))),
     };
     word.split(',').into_iter().map(bit).try_fold(0, |all, part| Ok(all | part?))
@@ -193,10 +206,22 @@ mod tests {
     }
 
     #[test]
+    fn a_sid_is_a_number_or_a_name() {
+        assert_eq!(sid(Word::line("1000")), Ok(1000));
+        assert_eq!(sid(Word::line("system")), Ok(18));
+        let message = |text| sid(Word::line(text)).unwrap_err().message;
+        assert_eq!(
+            message("bob"),
+            "'bob' is no SID: say a number such as 1000, or Anonymous, SYSTEM"
+        );
+        assert_eq!(message("4294967296"), "4294967296 is over 4294967295");
+    }
+
+    #[test]
     fn no_two_names_are_the_same_when_typed() {
         for names in [&names::PRIVILEGES[..], &names::RIGHTS, &CLASSES, &names::GROUP_ATTRIBUTES] {
             for (number, name) in names {
-                assert_eq!(super::number(Word::line(name), "", names), Ok(u64::from(*number)));
+                assert_eq!(super::number(Word::line(name), "", names), Ok(*number));
             }
         }
     }

@@ -58,11 +58,18 @@ impl<'a> Word<'a> {
         let mut words = Vec::new();
         let mut rest = self.trimmed();
         while !rest.text.is_empty() {
-            let end = rest.text.find(char::is_whitespace).unwrap_or(rest.text.len());
-            words.push(rest.part(0, end));
-            rest = rest.part(end, rest.text.len()).trimmed();
+            let (word, after) = rest.first();
+            words.push(word);
+            rest = after;
         }
         words
+    }
+
+    /// The first word, and what is after the blanks that follow it.
+    pub fn first(self) -> (Word<'a>, Word<'a>) {
+        let all = self.trimmed();
+        let end = all.text.find(char::is_whitespace).unwrap_or(all.text.len());
+        (all.part(0, end), all.part(end, all.text.len()).trimmed())
     }
 
     /// The word cut at these marks, which are parts themselves.
@@ -119,6 +126,11 @@ impl<'a> Word<'a> {
             return Err(self.mistake(format_args!("{} is over {largest}", self.text)));
         }
         Ok(number)
+    }
+
+    /// The number of 32 bits that this word is.
+    pub fn u32(self, what: &str) -> Result<u32, Mistake> {
+        self.number(what, u32::MAX.into()).map(|number| number as u32)
     }
 
     /// The word in quotes, or 'nothing'.

@@ -76,6 +76,15 @@ fn all_requests_are_answered_in_words() {
 }
 
 #[test]
+fn the_state_fits_80_columns() {
+    let script = file("tests/requests.talk");
+    let output = talk(&[script.to_str().expect("the path is text")], "");
+    let state = text(&output.stdout).lines().skip_while(|line| *line != "state");
+    assert_eq!(state.clone().filter(|line| line.starts_with("   token ")).count(), 3);
+    assert!(state.into_iter().all(|line| line.chars().count() <= 80));
+}
+
+#[test]
 fn a_bad_line_is_named_and_nothing_is_sent() {
     let output = talk(&[], "0: open query,quary\n\n0: close\n0: open query\n");
     let expected = "0: open query,quary\n\n0: close\n0: open query\n   handle 1\n";
@@ -117,10 +126,95 @@ fn restore_sends_nothing_where_no_report_can_be_put_back() {
 }
 
 #[test]
-fn quit_ends_the_script() {
-    let output = talk(&["--hex"], "0: open query\nquit\n0: open query\n");
-    assert_eq!(text(&output.stdout).matches("handle").count(), 1);
-    assert_eq!(output.status.code(), Some(0));
+fn quit_and_exit_end_the_script() {
+    for word in ["quit", "exit"] {
+        let output = talk(&["--hex"], &format!("0: open query\n{word}\n0: open query\n"));
+        assert_eq!(text(&output.stdout).matches("handle").count(), 1);
+        assert_eq!(output.status.code(), Some(0));
+    }
+}
+
+#[test]
+fn a_script_says_what_it_expects() {
+    writes(&[], "tests/expecting.talk", "tests/expecting.expected");
+}
+
+#[test]
+fn a_token_is_shown_in_full() {
+    writes(&[], "tests/token.talk", "tests/token.expected");
+}
+
+#[test]
+fn an_answer_that_was_not_expected_is_named_and_the_script_goes_on() {
+    let lines = [
+        "expect handle 1",
+        "0: open query",
+        "expect refused 4",
+        "0: open query",
+        "  expect  handle  20",
+        "expect handle 2",
+        "0: opne query",
+        "expect handle 3",
+        "0: open query",
+        "expect handle 3",
+    ];
+    let output = talk(&[], &lines.join("\n"));
+    let expected = [
+        "-:1:8: expected 'handle 1', got nothing",
+        "-:3:8: expected 'refused 4', got 'handle 1'",
+        "-:5:11: expected 'handle 20', got 'handle 2'",
+        "-:6:8: expected 'handle 2', got nothing",
+        "-:7:4: 'opne' is no request; 'help' lists them",
+        "-:8:8: expected 'handle 3', got nothing",
+    ];
+    assert!(text(&output.stderr).lines().eq(expected), "{}", text(&output.stderr));
+    assert!(text(&output.stdout).ends_with("   handle 3\nexpect handle 3\n"));
+    assert_eq!(output.status.code(), Some(1));
+}
+
+/// A file of this name for one test.
+fn kept(name: &str) -> String {
+    Path::new(env!("CARGO_TARGET_TMPDIR")).join(name).to_str().expect("the path is text").into()
+}
+
+#[test]
+fn what_is_saved_is_loaded() {
+    let file = kept("saved and loaded");
+    let script = format!(
+        "0: open all\n0: privileges 1 tcb=disable\n7: bytes 02\nsave {file}\nexpect saved\n\
+         0: close 1\nload {file}\nexpect loaded\n0: restore\n0: open all\nexpect handle 2\n\
+         0: privileges 1 tcb=enable\nexpect SeTcbPrivilege 7 was disabled\n\
+         7: bytes 01 08\nexpect handle 3\n"
+    );
+    let output = talk(&[], &script);
+    let restore = "-:9:4: station 0 has no report to restore\n"; // it was of the memory before
+    assert_eq!(text(&output.stderr), restore);
+    let output = talk(&[], &format!("load {file}\nexpect loaded\n0: close 1\nexpect done\n"));
+    assert_eq!((text(&output.stderr), output.status.code()), ("", Some(0)));
+}
+
+#[test]
+fn what_is_not_valid_is_not_loaded() {
+    let file = kept("not-valid");
+    for bytes in [&[][..], &[0; 64], &[0; obriska::MEMORY_BYTES]] {
+        std::fs::write(&file, bytes).expect("the file can be written");
+        let output = talk(&[], &format!("0: open all\nload {file}\n0: close 1\nexpect done\n"));
+        let error = obriska::Broker::from_bytes(bytes).expect_err("it is not valid");
+        let said = format!("load {file}\n   {error}\n0: close 1\n");
+        assert!(text(&output.stdout).contains(&said), "{}", text(&output.stdout));
+        assert_eq!((text(&output.stderr), output.status.code()), ("", Some(0)));
+    }
+}
+
+#[test]
+fn a_file_that_cannot_be_used_is_named() {
+    let file = kept("no-such-directory/file");
+    let output = talk(&[], &format!("save {file}\nload {file}\n0: open query\nexpect handle 1\n"));
+    let mistakes: Vec<_> = text(&output.stderr).lines().collect();
+    assert_eq!(mistakes.len(), 2);
+    assert!(mistakes[0].starts_with(&format!("-:1:6: '{file}': ")));
+    assert!(mistakes[1].starts_with(&format!("-:2:6: '{file}': ")));
+    assert_eq!(output.status.code(), Some(1));
 }
 
 #[test]
@@ -146,4 +240,11 @@ fn a_bad_command_line_ends_with_2() {
     assert_eq!(talk(&["a.talk", "b.talk"], "").status.code(), Some(2));
     let help = talk(&["--help"], "");
     assert!(text(&help.stdout).contains("usage:") && help.status.success());
+}
+
+#[test]
+fn the_version_is_the_packages() {
+    let version = talk(&["--version"], "0: open all\n");
+    let expected = concat!("obriska-talk ", env!("CARGO_PKG_VERSION"), "\n");
+    assert_eq!((text(&version.stdout), version.status.code()), (expected, Some(0)));
 }

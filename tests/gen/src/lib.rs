@@ -34,6 +34,7 @@ mod roots;
 mod seeds;
 mod session;
 mod state;
+mod vectors;
 mod wishes;
 
 pub use body::{body, condition_body};
@@ -55,4 +56,5 @@ pub use session::{session, write_chunk};
 pub use state::{
     near_the_last_numbers, state, with_clients, with_copies, with_groups, with_restrictions,
 };
+pub use vectors::{vectors, Answer, Vector};
 pub use wishes::NEEDED;
