@@ -78,9 +78,16 @@ play: need-cargo $(library)
 	@echo "== playing examples/first-minute.talk"
 	@host/target/release/obriska-talk --hex examples/first-minute.talk
 
+# Where rlwrap is installed, the prompt has history and completes the names that lines may have.
 talk: need-cargo $(library)
 	@$(cargo) build $(host) --package obriska-talk
-	@host/target/release/obriska-talk
+	@talk=host/target/release/obriska-talk; \
+	if command -v rlwrap >/dev/null; then \
+	    mkdir -p build && $$talk --words >build/talk-words && \
+	    exec rlwrap -b ' ,=:+()' -f build/talk-words -H build/talk-history $$talk; \
+	else \
+	    echo "(with rlwrap installed, there would be history and completion here)"; exec $$talk; \
+	fi
 
 example: need-cc build/first_minute
 

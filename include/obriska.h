@@ -18,16 +18,18 @@
  *   - arrays that a call may write (those without `const`) overlap no other array of that call;
  *   - one call at a time on one memory, and nobody else writes the arrays during a call.
  *
- * Nothing is asked of what the arrays hold: memory that is not valid is refused by 13.
+ * Nothing is asked of what the arrays hold: memory that is not valid is refused by 13, but for the two
+ * calls that only look something up (obriska_find, obriska_sid), which answer of what they find.
  *
  * What the library is:
  *
  *   - an object for x86-64 and the System V calling convention (ELF); not yet for other processors;
  *   - nothing is linked to it but memcpy and memset (`nm -u libobriska.a`);
  *   - it has no writable data: separate memories may be used in parallel, by any threads;
- *   - a call takes less than 8 KiB of stack, beside what the host's memcpy and memset take. The largest
- *     requests on full tables, with conditions eight deep, touch 5.7 KiB (host/c/stack.c); the frames of
- *     the compiled code add up to 6.5 KiB on the deepest path;
+ *   - a call takes less than 32 KiB of stack, beside what the host's memcpy and memset take: 20 KiB are
+ *     the copy of the SID table that SIDs enter before it is known whether a request is refused. The
+ *     largest requests on full tables touch 25.9 KiB (host/c/stack.c); the frames of the compiled code
+ *     add up to 26.2 KiB on the deepest path;
  *   - it has no unwind tables: a backtrace ends in a call, and nothing may be thrown through one.
  */
 #ifndef OBRISKA_H
@@ -49,7 +51,7 @@ extern "C" {
 
 /* The layout of the lent memory, raised whenever that changes. Store it with memory that is to be lent
  * again later, and start anew where it differs: docs/MEMORY.md has the form and all layouts. */
-#define OBRISKA_LAYOUT 5
+#define OBRISKA_LAYOUT 6
 
 /* ---- limits --------------------------------------------------------------------------------- */
 
@@ -57,11 +59,15 @@ extern "C" {
 #define OBRISKA_TOKENS 16  /* live tokens at most */
 #define OBRISKA_HANDLES 32 /* live handles at most, of all stations together */
 #define OBRISKA_PAIRS 4    /* linked pairs at most, each of another session */
+#define OBRISKA_SIDS 256   /* SIDs in the table at most, SYSTEM and Anonymous among them */
 
 #define OBRISKA_MAX_GROUPS 64      /* of a token */
 #define OBRISKA_MAX_RESTRICTING 16 /* restricting SIDs of a token; with any it is restricted */
 #define OBRISKA_MAX_DACL 256       /* bytes of a token's default DACL */
 #define OBRISKA_MAX_DEPTH 8        /* of a condition */
+
+#define OBRISKA_MAX_SUB_AUTHORITIES 15 /* of a SID */
+#define OBRISKA_MAX_SID 68             /* bytes of a packed SID: 8, and 4 for each sub-authority */
 
 #define OBRISKA_ANSWER_LEN 1024 /* the shortest answer buffer, and the longest answer */
 #define OBRISKA_MAX_BODY 2048   /* the longest body of a request */
@@ -100,7 +106,7 @@ enum obriska_token_word {
 enum obriska_control_word {
     OBRISKA_NEXT_TOKEN = 0,
     OBRISKA_NEXT_HANDLE = 1,
-    OBRISKA_FIRST_STATION /* the row of station 0; the others follow, then the pair slots */
+    OBRISKA_FIRST_STATION /* the row of station 0; the others follow, then pair slots, then SIDs */
 };
 
 /* Words of a station's row. */
@@ -122,21 +128,29 @@ enum obriska_pair_word {
 /* ---- sizes ---------------------------------------------------------------------------------- */
 
 /* What one token slot has in `tokens` and in `dacls`, one station in `control` and in `pending`, one
- * pair slot in `control`. */
+ * pair slot and one SID in `control`. */
 #define OBRISKA_TOKEN_WORDS (OBRISKA_TOKEN_RESTRICTING + OBRISKA_MAX_RESTRICTING)
 #define OBRISKA_DACL_BYTES OBRISKA_MAX_DACL
 #define OBRISKA_STATION_WORDS (OBRISKA_STATION_CLIENT_LEVEL + 1)
 #define OBRISKA_PENDING_BYTES (OBRISKA_LENGTH_BYTES + OBRISKA_MAX_BODY)
 #define OBRISKA_PAIR_WORDS (OBRISKA_PAIR_FILTERED + 1)
+#define OBRISKA_SID_WORDS 9 /* of a row of the SID table: eight bytes of the packed SID each */
 
 /* The word of `control` that the first pair slot begins at: behind the stations' rows. */
 #define OBRISKA_FIRST_PAIR (OBRISKA_FIRST_STATION + OBRISKA_STATIONS * OBRISKA_STATION_WORDS)
+
+/* The words of `control` that the SID table has, behind the pair slots: how many SIDs are in it, n; the
+ * first of its places, which name the n rows in rising order; and the first word of row 0. Rows are in the
+ * order of their SIDs' numbers. */
+#define OBRISKA_SID_COUNT (OBRISKA_FIRST_PAIR + OBRISKA_PAIRS * OBRISKA_PAIR_WORDS)
+#define OBRISKA_FIRST_SID_PLACE (OBRISKA_SID_COUNT + 1)
+#define OBRISKA_FIRST_SID_ROW (OBRISKA_FIRST_SID_PLACE + OBRISKA_SIDS)
 
 /* Elements of each array that the host lends: exactly these lengths, else refusal 13. */
 #define OBRISKA_TOKENS_LEN (OBRISKA_TOKENS * OBRISKA_TOKEN_WORDS)
 #define OBRISKA_DACLS_LEN (OBRISKA_TOKENS * OBRISKA_DACL_BYTES)
 #define OBRISKA_HANDLES_LEN OBRISKA_HANDLES
-#define OBRISKA_CONTROL_LEN (OBRISKA_FIRST_PAIR + OBRISKA_PAIRS * OBRISKA_PAIR_WORDS)
+#define OBRISKA_CONTROL_LEN (OBRISKA_FIRST_SID_ROW + OBRISKA_SIDS * OBRISKA_SID_WORDS)
 #define OBRISKA_PENDING_LEN (OBRISKA_STATIONS * OBRISKA_PENDING_BYTES)
 
 /* Bytes of a handle, and of all arrays together. */
@@ -191,26 +205,29 @@ OBRISKA_ASSERT_(sizeof(struct obriska_memory) == OBRISKA_MEMORY_BYTES, "the memo
 /* ---- refusals ------------------------------------------------------------------------------- */
 
 /* 1 to 10 and 14 are the status of an answer, its first byte after the length. 1 to 9 and 14 use up
- * their request and change no token, no handle, no pair and no number; where several apply, it is the
- * first of 1 to 7, 14, 8, 9. 11 to 13 refuse a whole call, the lowest that applies, and then nothing
- * at all is written. */
+ * their request and change no token, no handle, no pair, no number and no SID of the table; where several
+ * apply, it is the first of 1 to 7, 14, 8, 9. 11 to 13 refuse a whole call, the lowest that applies, and
+ * then nothing at all is written. */
 enum obriska_refusal {
     OBRISKA_REFUSED_LAYOUT = 1,     /* unknown request, not in its layout, or bytes left over; a
-                                       condition deeper than OBRISKA_MAX_DEPTH */
+                                       packed SID that is none; a condition deeper than
+                                       OBRISKA_MAX_DEPTH */
     OBRISKA_REFUSED_HANDLE = 2,     /* not a live handle of this station */
     OBRISKA_REFUSED_RIGHT = 3,      /* the handle lacks the right */
     OBRISKA_REFUSED_PRIVILEGE = 4,  /* the privilege is not enabled on the station's token */
     OBRISKA_REFUSED_FIELD = 5,      /* a bad field or entry, an unknown class, installing a token that
                                        is not primary, acting for one that is, restricting a
                                        restricted one to none of its SIDs, or to write-restricted
-                                       where it is not, linking two that can be no pair, or an
-                                       unknown privilege in a condition */
+                                       where it is not, linking two that can be no pair, an unknown
+                                       privilege in a condition, or, in requests 3 and 10, a SID's
+                                       number that is not in the table */
     OBRISKA_REFUSED_PROTECTED = 6,  /* an entry names a mandatory, deny-only or logon group, or
                                        disables one with the user's SID */
     OBRISKA_REFUSED_MISMATCH = 7,   /* installing a token of another user or session; acting for an
                                        unrestricted one while restricted, unless Impersonate is held */
     OBRISKA_REFUSED_FULL = 8,       /* no free slot, no number left, or too many restricting SIDs for
-                                       an unrestricted token; linking for a fifth session */
+                                       an unrestricted token; linking for a fifth session; more new
+                                       SIDs than the table has room for */
     OBRISKA_REFUSED_CAPACITY = 9,   /* the report is larger than the capacity; its size follows */
     OBRISKA_REFUSED_BROKEN = 10,    /* a bad length: the stream is broken until a reconnect */
     OBRISKA_REFUSED_STATION = 11,   /* there is no such station */
@@ -225,7 +242,7 @@ enum obriska_refusal {
  * After the length and the status 0 an answer has its request's fields, as numbers of seven bits a
  * byte, low bits first, the top bit set on all bytes but the last:
  *
- *   1, 3, 9, 10, 17
+ *   1, 3, 9, 10, 14, 15, 17
  *                the number of the new handle;
  *   4            the report of the class, in which a DACL's bytes are plain. Class 9 has number,
  *                session, modified number, type and root;
@@ -270,7 +287,12 @@ enum obriska_refusal {
 #define OBRISKA_CONDITION_ANY 2u     /* a count and that many conditions: one holds at least */
 #define OBRISKA_CONDITION_NOT 3u     /* a condition: it does not hold */
 #define OBRISKA_CONDITION_ENABLED 4u /* a privilege: it is enabled */
-#define OBRISKA_CONDITION_GROUP 5u   /* a SID: a group of it is enabled */
+#define OBRISKA_CONDITION_GROUP 5u   /* a SID's number: a group of it is enabled */
+
+/* SIDs that have their numbers from the start, and the number that the first entered one gets. */
+#define OBRISKA_SID_ANONYMOUS 7u /* S-1-5-7 */
+#define OBRISKA_SID_SYSTEM 18u   /* S-1-5-18 */
+#define OBRISKA_SID_ENTERED 32u
 
 /* Attributes of a group. */
 #define OBRISKA_GROUP_MANDATORY 0x01u
@@ -306,6 +328,15 @@ enum obriska_refusal {
  * all rights, where Tcb is held; else on a new copy of it for impersonation, at level Identification,
  * with right QUERY and the elevation kept, which is in no pair. */
 
+/* Tokens keep SIDs as numbers of the SID table, and so do answers. Requests 14 and 15 are 3 and 10 with
+ * packed SIDs where those have numbers: the revision, which is 1, the count of sub-authorities, six bytes
+ * of authority, and four bytes for each sub-authority, low byte first. A success enters each SID that is
+ * not in the table yet, in the request's order (14: the user, then the groups), also one that the copy does
+ * not keep; it gets the lowest number that no other has, from OBRISKA_SID_ENTERED on. A refused request
+ * enters none. The table only grows: up to OBRISKA_SIDS, and then only SIDs that are in it are taken, others
+ * are refused by 8. Two numbers are equal exactly when their SIDs are. Bytes that are no packed SID are
+ * refused by 1, whatever the handle is. obriska_sid gives the SID of a number. */
+
 /* Request 18, with right QUERY, evaluates a condition on a handle's token: whether it may see a page of
  * a screen, say. It has the handle and the condition, a kind and what belongs to it, all as numbers of
  * 32 bits. Of an empty list ALL holds and ANY does not. ENABLED, GROUP and empty lists are one deep,
@@ -317,8 +348,8 @@ enum obriska_refusal {
 /* ---- the calls ------------------------------------------------------------------------------ */
 
 /* Writes the start's memory over whatever the arrays hold: token 1 (user 18, session 999, all
- * privileges) is the primary token of all stations, there are no handles, the next token is 2 and
- * the next handle 1.
+ * privileges) is the primary token of all stations, there are no handles, the next token is 2, the next
+ * handle 1, and the SID table has Anonymous, 7, and SYSTEM, 18.
  * Returns 0, or 13 where a length is wrong; then nothing is written. */
 uint32_t obriska_start(uint64_t *tokens, size_t tokens_len, uint8_t *dacls, size_t dacls_len,
                        struct obriska_handle *handles, size_t handles_len, uint64_t *control,
@@ -355,6 +386,13 @@ uint32_t obriska_reconnect(uint32_t station, const uint64_t *tokens, size_t toke
 size_t obriska_find(const struct obriska_handle *handles, size_t handles_len, uint32_t station,
                     uint32_t number);
 
+/* Writes the packed SID that has this number in the table to the begin of `out` and returns its size, 8 to
+ * OBRISKA_MAX_SID; the bytes after it stay. Returns 0 and writes nothing where the number is none of the
+ * table's, where `out` is shorter than the SID, where `control` has not OBRISKA_CONTROL_LEN words, or where
+ * the number's row is no SID's, which valid memory never has. Reads `control` alone. */
+size_t obriska_sid(const uint64_t *control, size_t control_len, uint32_t number, uint8_t *out,
+                   size_t out_len);
+
 /* ---- the same on one struct ------------------------------------------------------------------ */
 
 static inline uint32_t obriska_memory_start(struct obriska_memory *m)
@@ -390,6 +428,14 @@ static inline const struct obriska_handle *obriska_memory_find(const struct obri
 {
     size_t slot = obriska_find(m->handles, OBRISKA_HANDLES_LEN, station, number);
     return slot < OBRISKA_HANDLES ? &m->handles[slot] : NULL;
+}
+
+/* Here `out` may be null before a length of 0. */
+static inline size_t obriska_memory_sid(const struct obriska_memory *m, uint32_t number, uint8_t *out,
+                                        size_t out_len)
+{
+    uint8_t nothing = 0;
+    return obriska_sid(m->control, OBRISKA_CONTROL_LEN, number, out_len == 0 ? &nothing : out, out_len);
 }
 
 #ifdef __cplusplus

@@ -36,6 +36,12 @@
 #define OBRISKA_MAX_DEPTH 8
 #define OBRISKA_GROUP_WORDS 16 /* words that request 6 answers */
 
+#define OBRISKA_MAX_SUB_AUTHORITIES 15
+#define OBRISKA_MAX_SID 68
+#define OBRISKA_AUTHORITY_BYTES 6
+#define OBRISKA_SID_REVISION_ 1
+#define OBRISKA_SID_TEXT_LEN 184 /* enough for any SID's text, with the zero at its end */
+
 /* ---- values of fields ------------------------------------------------------------------------ */
 
 #define OBRISKA_RIGHT_ASSIGN_PRIMARY 0x001u
@@ -65,6 +71,10 @@
 #define OBRISKA_INTEGRITY_MEDIUM 8192u
 #define OBRISKA_INTEGRITY_HIGH 12288u
 #define OBRISKA_INTEGRITY_SYSTEM 16384u
+
+#define OBRISKA_SID_ANONYMOUS 7u
+#define OBRISKA_SID_SYSTEM 18u
+#define OBRISKA_SID_ENTERED 32u
 
 #define OBRISKA_GROUP_MANDATORY 0x01u
 #define OBRISKA_GROUP_ENABLED_BY_DEFAULT 0x02u
@@ -139,7 +149,7 @@ static inline const char *obriska_refusal_text(uint32_t refusal)
     case 5: return "a field or entry is bad";
     case 6: return "a mandatory, deny-only or logon group, or disabling one with the user's SID";
     case 7: return "another user or session, or unrestricted while the own token is restricted";
-    case 8: return "no slot or number left, or too many restricting SIDs";
+    case 8: return "no slot or number left, or too many SIDs";
     case 9: return "the report is larger than the capacity";
     case 10: return "the stream is broken until a reconnect";
     case 11: return "there is no such station";
@@ -153,7 +163,7 @@ static inline const char *obriska_refusal_text(uint32_t refusal)
 /* ---- records --------------------------------------------------------------------------------- */
 
 struct obriska_group {
-    uint32_t sid;
+    uint32_t sid; /* its number; so in all requests but 14 and 15, and in all answers */
     uint32_t attributes; /* OBRISKA_GROUP_.. */
 };
 
@@ -165,6 +175,29 @@ struct obriska_new_token {
     uint64_t present; /* privilege n is bit n */
     uint64_t by_default;
     const struct obriska_group *groups; /* may be null if there are none; so in all lists below */
+    size_t group_count;
+};
+
+/* A SID itself. */
+struct obriska_sid_fields {
+    uint8_t authority[OBRISKA_AUTHORITY_BYTES]; /* high byte first: 0 0 0 0 0 5 in S-1-5-18 */
+    uint8_t count;                              /* of sub-authorities */
+    uint32_t sub_authorities[OBRISKA_MAX_SUB_AUTHORITIES];
+};
+
+struct obriska_sid_group {
+    struct obriska_sid_fields sid;
+    uint32_t attributes; /* OBRISKA_GROUP_.. */
+};
+
+/* Request 14: request 3 with SIDs for numbers. */
+struct obriska_new_token_with_sids {
+    struct obriska_sid_fields user;
+    uint64_t session;
+    uint32_t integrity;
+    uint64_t present;
+    uint64_t by_default;
+    const struct obriska_sid_group *groups;
     size_t group_count;
 };
 
@@ -196,6 +229,16 @@ struct obriska_restriction {
     const uint32_t *deny;
     size_t deny_count;
     const uint32_t *sids;
+    size_t sid_count;
+};
+
+/* Request 15: request 10 with SIDs for numbers. */
+struct obriska_restriction_to_sids {
+    uint32_t write_restricted;
+    uint64_t removed;
+    const uint32_t *deny;
+    size_t deny_count;
+    const struct obriska_sid_fields *sids;
     size_t sid_count;
 };
 
@@ -232,6 +275,21 @@ static inline void obriska_put_bytes_(struct obriska_buffer *buffer, const uint8
 {
     for (size_t i = 0; i < count && !buffer->failed; i++)
         obriska_put_byte_(buffer, bytes[i]);
+}
+
+/* A packed SID; one with too many sub-authorities sets `failed`. */
+static inline void obriska_put_sid_(struct obriska_buffer *buffer, const struct obriska_sid_fields *sid)
+{
+    if (sid->count > OBRISKA_MAX_SUB_AUTHORITIES) {
+        buffer->failed = 1;
+        return;
+    }
+    obriska_put_byte_(buffer, OBRISKA_SID_REVISION_);
+    obriska_put_byte_(buffer, sid->count);
+    obriska_put_bytes_(buffer, sid->authority, OBRISKA_AUTHORITY_BYTES);
+    for (unsigned i = 0; i < sid->count; i++)
+        for (unsigned shift = 0; shift < 32; shift += 8)
+            obriska_put_byte_(buffer, (uint8_t)(sid->sub_authorities[i] >> shift & 0xFF));
 }
 
 /* Begins a frame: the first byte is left for the length, then comes the request's number. No more is
@@ -285,6 +343,164 @@ static inline size_t obriska_build_numbers_(uint8_t *frame, size_t capacity, uin
     return obriska_end_frame_(&buffer);
 }
 
+/* ---- SIDs: MS-DTYP has their bytes and their text ------------------------------------------- */
+
+/* Writes the packed SID; gives its bytes, 8 to OBRISKA_MAX_SID, or 0 where the buffer is too short or the
+ * SID has too many sub-authorities. */
+static inline size_t obriska_sid_pack(uint8_t *packed, size_t capacity,
+                                      const struct obriska_sid_fields *sid)
+{
+    struct obriska_buffer buffer;
+    buffer.bytes = packed;
+    buffer.capacity = capacity;
+    buffer.length = 0;
+    buffer.failed = 0;
+    obriska_put_sid_(&buffer, sid);
+    return buffer.failed ? 0 : buffer.length;
+}
+
+/* Reads the packed SID at the start of the bytes, such as obriska_sid gives; gives how many bytes it has, or
+ * 0 where they are none. Sub-authorities that it has not are 0. */
+static inline size_t obriska_sid_unpack(struct obriska_sid_fields *sid, const uint8_t *bytes,
+                                        size_t length)
+{
+    const size_t head = 2 + OBRISKA_AUTHORITY_BYTES;
+    if (length < head || bytes[0] != OBRISKA_SID_REVISION_ ||
+        bytes[1] > OBRISKA_MAX_SUB_AUTHORITIES || length < head + 4 * (size_t)bytes[1])
+        return 0;
+    sid->count = bytes[1];
+    for (size_t i = 0; i < OBRISKA_AUTHORITY_BYTES; i++)
+        sid->authority[i] = bytes[2 + i];
+    for (size_t i = 0; i < OBRISKA_MAX_SUB_AUTHORITIES; i++) {
+        sid->sub_authorities[i] = 0;
+        for (size_t j = 0; j < 4 && i < sid->count; j++)
+            sid->sub_authorities[i] |= (uint32_t)bytes[head + 4 * i + j] << (8 * j);
+    }
+    return head + 4 * (size_t)sid->count;
+}
+
+/* 1 if they are one SID, else 0. Sub-authorities that they have not do not count. */
+static inline int obriska_sid_equal(const struct obriska_sid_fields *one,
+                                    const struct obriska_sid_fields *other)
+{
+    int equal = one->count == other->count && one->count <= OBRISKA_MAX_SUB_AUTHORITIES;
+    for (size_t i = 0; i < OBRISKA_AUTHORITY_BYTES && equal; i++)
+        equal = one->authority[i] == other->authority[i];
+    for (size_t i = 0; equal && i < one->count; i++)
+        equal = one->sub_authorities[i] == other->sub_authorities[i];
+    return equal;
+}
+
+/* The authority as a number of 48 bits. */
+static inline uint64_t obriska_sid_authority_(const struct obriska_sid_fields *sid)
+{
+    uint64_t authority = 0;
+    for (size_t i = 0; i < OBRISKA_AUTHORITY_BYTES; i++)
+        authority = authority << 8 | sid->authority[i];
+    return authority;
+}
+
+static inline void obriska_set_authority_(struct obriska_sid_fields *sid, uint64_t authority)
+{
+    for (size_t i = OBRISKA_AUTHORITY_BYTES; i > 0; i--, authority >>= 8)
+        sid->authority[i - 1] = (uint8_t)(authority & 0xFF);
+}
+
+/* Appends a number to a text, in this base and at least so many digits. */
+static inline void obriska_put_digits_(struct obriska_buffer *text, uint64_t number, unsigned base,
+                                       unsigned least)
+{
+    uint8_t digits[20];
+    unsigned count = 0;
+    do {
+        digits[count++] = (uint8_t)"0123456789ABCDEF"[number % base];
+        number /= base;
+    } while (number > 0 || count < least);
+    while (count > 0)
+        obriska_put_byte_(text, digits[--count]);
+}
+
+/* Writes the text, such as S-1-5-18, and a zero at its end; gives its length without that, or 0 where the
+ * buffer is too short or the SID has too many sub-authorities. An authority from 2^32 on has twelve
+ * hexadecimal digits. */
+static inline size_t obriska_sid_print(char *text, size_t capacity, const struct obriska_sid_fields *sid)
+{
+    uint64_t authority = obriska_sid_authority_(sid);
+    struct obriska_buffer buffer;
+    buffer.bytes = (uint8_t *)text;
+    buffer.capacity = capacity;
+    buffer.length = 0;
+    buffer.failed = sid->count > OBRISKA_MAX_SUB_AUTHORITIES;
+    obriska_put_bytes_(&buffer, (const uint8_t *)"S-1-", 4);
+    if (authority > UINT32_MAX) {
+        obriska_put_bytes_(&buffer, (const uint8_t *)"0x", 2);
+        obriska_put_digits_(&buffer, authority, 16, 2 * OBRISKA_AUTHORITY_BYTES);
+    } else {
+        obriska_put_digits_(&buffer, authority, 10, 1);
+    }
+    for (unsigned i = 0; i < sid->count && !buffer.failed; i++) {
+        obriska_put_byte_(&buffer, '-');
+        obriska_put_digits_(&buffer, sid->sub_authorities[i], 10, 1);
+    }
+    obriska_put_byte_(&buffer, 0);
+    return buffer.failed ? 0 : buffer.length - 1;
+}
+
+/* Reads digits of this base up to a '-' or the end, at most so many and to 2^48 - 1; null where there are
+ * none, or others. */
+static inline const char *obriska_take_digits_(const char *text, unsigned base, unsigned most,
+                                               uint64_t *number)
+{
+    unsigned count = 0;
+    *number = 0;
+    for (; *text != 0 && *text != '-'; text++, count++) {
+        unsigned digit = 16;
+        if (*text >= '0' && *text <= '9')
+            digit = (unsigned)(*text - '0');
+        else if ((*text >= 'A' && *text <= 'F') || (*text >= 'a' && *text <= 'f'))
+            digit = ((unsigned)*text & 7) + 9;
+        if (digit >= base || count == most)
+            return NULL;
+        *number = *number * base + digit;
+    }
+    return count > 0 ? text : NULL;
+}
+
+/* Reads an authority as text has it; null where there is none. */
+static inline const char *obriska_take_authority_(const char *text, uint64_t *authority)
+{
+    const unsigned digits = 2 * OBRISKA_AUTHORITY_BYTES;
+    if (text[0] == '0' && (text[1] == 'x' || text[1] == 'X')) {
+        const char *end = obriska_take_digits_(text + 2, 16, digits, authority);
+        return end == text + 2 + digits ? end : NULL;
+    }
+    const char *end = obriska_take_digits_(text, 10, 10, authority);
+    return *authority <= UINT32_MAX ? end : NULL;
+}
+
+/* Reads a SID from its text, up to a zero: S-1-, the authority, and sub-authorities with a '-' before each.
+ * The authority is a decimal number below 2^32, or 0x and twelve hexadecimal digits, whatever it is; the
+ * others are decimal numbers below 2^32. None has more than ten decimal digits. Gives 1, or 0 where it is
+ * no such text. */
+static inline int obriska_sid_parse(struct obriska_sid_fields *sid, const char *text)
+{
+    uint64_t number = 0;
+    if ((text[0] != 'S' && text[0] != 's') || text[1] != '-' || text[2] != '1' || text[3] != '-')
+        return 0;
+    text = obriska_take_authority_(text + 4, &number);
+    obriska_set_authority_(sid, number);
+    sid->count = 0;
+    for (size_t i = 0; i < OBRISKA_MAX_SUB_AUTHORITIES; i++)
+        sid->sub_authorities[i] = 0;
+    while (text != NULL && *text == '-') {
+        text = obriska_take_digits_(text + 1, 10, 10, &number);
+        if (number > UINT32_MAX || sid->count == OBRISKA_MAX_SUB_AUTHORITIES)
+            return 0;
+        sid->sub_authorities[sid->count++] = (uint32_t)number;
+    }
+    return text != NULL;
+}
+
 /* ---- conditions of request 18: docs/CONDITIONS.md -------------------------------------------- */
 
 /* A condition is written from the outside in: obriska_condition_all(c, 2), and then its two conditions.
@@ -332,7 +548,7 @@ static inline int obriska_condition_enabled(struct obriska_buffer *condition, ui
     return obriska_condition_put_(condition, OBRISKA_CONDITION_ENABLED, privilege);
 }
 
-/* A group of this SID is enabled. */
+/* A group of the SID that has this number is enabled. */
 static inline int obriska_condition_group(struct obriska_buffer *condition, uint32_t sid)
 {
     return obriska_condition_put_(condition, OBRISKA_CONDITION_GROUP, sid);
@@ -340,8 +556,9 @@ static inline int obriska_condition_group(struct obriska_buffer *condition, uint
 
 /* ---- the requests: each gives the frame's length, or 0 --------------------------------------- */
 
-/* 0 means that the frame does not fit into `capacity` bytes, or its body into OBRISKA_MAX_BODY. Bytes of
- * the buffer may have been written then. Nothing is written beyond the frame. */
+/* 0 means that the frame does not fit into `capacity` bytes, or its body into OBRISKA_MAX_BODY, or that a SID
+ * has too many sub-authorities. Bytes of the buffer may have been written then. Nothing is written beyond
+ * the frame. */
 
 /* Request 1. */
 static inline size_t obriska_build_open_own(uint8_t *frame, size_t capacity, uint32_t mask)
@@ -493,6 +710,41 @@ static inline size_t obriska_build_impersonate(uint8_t *frame, size_t capacity, 
 static inline size_t obriska_build_revert(uint8_t *frame, size_t capacity)
 {
     return obriska_build_numbers_(frame, capacity, 13, 0, 0, 0, 0);
+}
+
+/* Request 14. */
+static inline size_t obriska_build_create_with_sids(uint8_t *frame, size_t capacity,
+                                                    const struct obriska_new_token_with_sids *token)
+{
+    struct obriska_buffer buffer = obriska_begin_frame_(frame, capacity, 14);
+    obriska_put_sid_(&buffer, &token->user);
+    obriska_put_(&buffer, token->session);
+    obriska_put_(&buffer, token->integrity);
+    obriska_put_(&buffer, token->present);
+    obriska_put_(&buffer, token->by_default);
+    obriska_put_(&buffer, token->group_count);
+    for (size_t i = 0; i < token->group_count && !buffer.failed; i++) {
+        obriska_put_sid_(&buffer, &token->groups[i].sid);
+        obriska_put_(&buffer, token->groups[i].attributes);
+    }
+    return obriska_end_frame_(&buffer);
+}
+
+/* Request 15. */
+static inline size_t obriska_build_restrict_to_sids(uint8_t *frame, size_t capacity, uint32_t handle,
+                                                    const struct obriska_restriction_to_sids *restriction)
+{
+    struct obriska_buffer buffer = obriska_begin_frame_(frame, capacity, 15);
+    obriska_put_(&buffer, handle);
+    obriska_put_(&buffer, restriction->write_restricted);
+    obriska_put_(&buffer, restriction->removed);
+    obriska_put_(&buffer, restriction->deny_count);
+    obriska_put_(&buffer, restriction->sid_count);
+    for (size_t i = 0; i < restriction->deny_count && !buffer.failed; i++)
+        obriska_put_(&buffer, restriction->deny[i]);
+    for (size_t i = 0; i < restriction->sid_count && !buffer.failed; i++)
+        obriska_put_sid_(&buffer, &restriction->sids[i]);
+    return obriska_end_frame_(&buffer);
 }
 
 /* Request 16. */
@@ -756,7 +1008,7 @@ static inline int obriska_read_nothing(struct obriska_answer *answer)
     return obriska_begin_(answer, 1) && obriska_end_(answer);
 }
 
-/* Requests 1, 3, 9, 10, 17: the number of the new handle. */
+/* Requests 1, 3, 9, 10, 14, 15, 17: the number of the new handle. */
 static inline int obriska_read_handle(struct obriska_answer *answer, uint32_t *handle)
 {
     return obriska_one_(answer, handle);
@@ -868,7 +1120,7 @@ static inline uint32_t obriska_next_number_(struct obriska_list *list)
     return (uint32_t)number;
 }
 
-/* Class 1: the user's SID. */
+/* Class 1: the number of the user's SID. */
 static inline int obriska_read_user(struct obriska_answer *answer, uint32_t *sid)
 {
     return obriska_one_(answer, sid);
@@ -908,13 +1160,13 @@ static inline int obriska_read_privileges(struct obriska_answer *answer,
            obriska_end_(answer);
 }
 
-/* Class 4: the SID of the default owner. */
+/* Class 4: the number of the default owner's SID. */
 static inline int obriska_read_owner(struct obriska_answer *answer, uint32_t *sid)
 {
     return obriska_one_(answer, sid);
 }
 
-/* Class 5: the SID of the primary group. */
+/* Class 5: the number of the primary group's SID. */
 static inline int obriska_read_primary_group(struct obriska_answer *answer, uint32_t *sid)
 {
     return obriska_one_(answer, sid);

@@ -83,6 +83,19 @@ static void print_handle(uint32_t station, uint32_t number)
         printf("token %" PRIu64 ", mask 0x%" PRIX16 "\n", handle->token, handle->mask);
 }
 
+/* The SID that has this number in the table. */
+static void print_sid(uint32_t number)
+{
+    uint8_t packed[OBRISKA_MAX_SID];
+    char text[OBRISKA_SID_TEXT_LEN];
+    struct obriska_sid_fields sid;
+    size_t size = obriska_memory_sid(&memory, number, packed, sizeof packed);
+    if (obriska_sid_unpack(&sid, packed, size) == 0 || obriska_sid_print(text, sizeof text, &sid) == 0)
+        printf("   SID %" PRIu32 " is not in the table\n", number);
+    else
+        printf("   SID %" PRIu32 " is %s\n", number, text);
+}
+
 /* ---- a screen: requests by their fields, answers by theirs ----------------------------------- */
 
 static uint8_t frame[OBRISKA_FRAME_LEN];
@@ -133,6 +146,30 @@ static bool close_handle(uint32_t station, uint32_t handle)
     return send_chunk(station, frame, obriska_build_close(frame, sizeof frame, handle));
 }
 
+/* Makes a token of a user, by the SID's text; gives the handle, or 0. */
+static uint32_t create(uint32_t station, const char *user, uint64_t session)
+{
+    struct obriska_new_token_with_sids token = {.session = session};
+    uint32_t handle = 0;
+    if (!obriska_sid_parse(&token.user, user))
+        return 0;
+    size_t len = obriska_build_create_with_sids(frame, sizeof frame, &token);
+    if (!send_chunk(station, frame, len) || !obriska_read_handle(&answer, &handle))
+        return 0;
+    printf("   handle %" PRIu32 "\n", handle);
+    return handle;
+}
+
+/* Asks for the user of a token; gives the SID's number, or 0. */
+static uint32_t query_user(uint32_t station, uint32_t handle)
+{
+    uint32_t number = 0;
+    size_t len = obriska_build_query(frame, sizeof frame, handle, OBRISKA_CLASS_USER, 64);
+    if (!send_chunk(station, frame, len) || !obriska_read_user(&answer, &number))
+        return 0;
+    return number;
+}
+
 /* ---- the first minute ------------------------------------------------------------------------ */
 
 static bool play_requests(void)
@@ -173,6 +210,16 @@ static bool play_chunks(void)
     return good && send_chunk(0, frame, 1) && send_chunk(0, frame + 1, len - 1);
 }
 
+static bool play_sids(void)
+{
+    printf("A token by its user's SID, which gets a number\n");
+    uint32_t handle = create(0, "S-1-5-21-1000", 5);
+    uint32_t number = handle == 0 ? 0 : query_user(0, handle);
+    print_sid(number);
+    print_sid(OBRISKA_SID_SYSTEM);
+    return number != 0;
+}
+
 int main(void)
 {
     uint32_t refusal = obriska_memory_start(&memory);
@@ -180,7 +227,7 @@ int main(void)
         fprintf(stderr, "start refused %" PRIu32 ": %s\n", refusal, obriska_refusal_text(refusal));
         return EXIT_FAILURE;
     }
-    if (!play_requests() || !play_chunks()) {
+    if (!play_requests() || !play_chunks() || !play_sids()) {
         fprintf(stderr, "the broker refused a call\n");
         return EXIT_FAILURE;
     }

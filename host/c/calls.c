@@ -38,6 +38,25 @@ static uint64_t *station_word(size_t station, enum obriska_station_word word)
     return &memory.control[row + word];
 }
 
+/* The first word of a row of the table whose SID is of authority 5 and has one sub-authority. */
+static const uint64_t one_sub_authority = 0x0500000000000101;
+
+/* Whether the table is as at the start: S-1-5-7 and S-1-5-18, in their order, and zeros behind. */
+static int table_is_the_starts(void)
+{
+    const uint64_t *places = &memory.control[OBRISKA_FIRST_SID_PLACE];
+    const uint64_t *rows = &memory.control[OBRISKA_FIRST_SID_ROW];
+    uint64_t others = 0;
+    for (size_t i = 2; i < OBRISKA_SIDS; i++)
+        others |= places[i];
+    for (size_t i = 0; i < OBRISKA_SIDS * OBRISKA_SID_WORDS; i++)
+        others |= i % OBRISKA_SID_WORDS < 2 && i < 2 * OBRISKA_SID_WORDS ? 0 : rows[i];
+    return memory.control[OBRISKA_SID_COUNT] == 2 && places[0] == 0 && places[1] == 1 &&
+           rows[0] == one_sub_authority && rows[1] == 7 &&
+           rows[OBRISKA_SID_WORDS] == one_sub_authority && rows[OBRISKA_SID_WORDS + 1] == 18 &&
+           others == 0;
+}
+
 /* The arrays that a host lends. */
 enum { ARRAYS = 5 };
 
@@ -45,11 +64,14 @@ enum { ARRAYS = 5 };
 /* Whoever changes a size raises the layout too. */
 static void the_memory_has_the_layout_and_the_sizes_of_the_docs(void)
 {
-    EXPECT(OBRISKA_LAYOUT == 5);
+    EXPECT(OBRISKA_LAYOUT == 6);
     EXPECT(sizeof memory.tokens == 12928 && sizeof memory.dacls == 4096);
-    EXPECT(sizeof memory.handles == 512 && sizeof memory.control == 432);
-    EXPECT(sizeof memory.pending == 16400 && sizeof memory == 34368);
+    EXPECT(sizeof memory.handles == 512 && sizeof memory.control == 20920);
+    EXPECT(sizeof memory.pending == 16400 && sizeof memory == 54856);
     EXPECT(OBRISKA_FIRST_PAIR == 42 && OBRISKA_PAIR_WORDS == 3);
+    EXPECT(OBRISKA_SID_COUNT == 54 && OBRISKA_FIRST_SID_PLACE == 55);
+    EXPECT(OBRISKA_FIRST_SID_ROW == 311 && OBRISKA_SID_WORDS == 9);
+    EXPECT(sizeof(uint64_t) * OBRISKA_SID_WORDS >= OBRISKA_MAX_SID);
 }
 
 static void start_asks_for_the_sizes_only(void)
@@ -79,8 +101,9 @@ static void start_asks_for_the_sizes_only(void)
         EXPECT(*station_word(station, OBRISKA_STATION_CLIENT) == OBRISKA_NO_CLIENT);
         EXPECT(*station_word(station, OBRISKA_STATION_CLIENT_LEVEL) == 0);
     }
-    for (size_t word = OBRISKA_FIRST_PAIR; word < OBRISKA_CONTROL_LEN; word++)
+    for (size_t word = OBRISKA_FIRST_PAIR; word < OBRISKA_SID_COUNT; word++)
         EXPECT(m->control[word] == 0);
+    EXPECT(table_is_the_starts());
     EXPECT(m->handles[0].number == 0 && m->handles[OBRISKA_HANDLES - 1].mask == 0);
     EXPECT(m->dacls[0] == 0 && m->pending[OBRISKA_PENDING_LEN - 1] == 0);
 }
@@ -519,6 +542,111 @@ static void find_gives_the_stations_live_handle(void)
     EXPECT(obriska_memory_find(&memory, 6, 1) == NULL);
 }
 
+/* Request 14: user S-1-5-21-1000, session 5, one group, S-1-0. */
+static const uint8_t create_with_sids[] = {0x1F, 0x0E, 0x01, 0x02, 0x00, 0x00, 0x00, 0x00,
+                                           0x00, 0x05, 0x15, 0x00, 0x00, 0x00, 0xE8, 0x03,
+                                           0x00, 0x00, 0x05, 0x00, 0x00, 0x00, 0x01, 0x01,
+                                           0x00, 0x00, 0x00, 0x00, 0x00, 0x00, 0x00, 0x00};
+
+static int sid_is(uint32_t number, const uint8_t *packed, size_t size)
+{
+    uint8_t out[OBRISKA_MAX_SID];
+    memset(out, 0x55, sizeof out);
+    if (obriska_memory_sid(&memory, number, out, sizeof out) != size || memcmp(out, packed, size) != 0)
+        return 0;
+    for (size_t i = size; i < sizeof out; i++)
+        if (out[i] != 0x55)
+            return 0;
+    return 1;
+}
+
+static void requests_14_and_15_enter_sids_and_obriska_sid_gives_them(void)
+{
+    static const uint8_t system[] = {0x01, 0x01, 0x00, 0x00, 0x00, 0x00, 0x00, 0x05, 0x12, 0x00, 0x00, 0x00};
+    /* request 15: restricted to S-1-5-18 and S-1-16-9 */
+    static const uint8_t restrict_to[] = {0x1E, 0x0F, 0x01, 0x00, 0x00, 0x00, 0x02, 0x01, 0x01, 0x00, 0x00,
+                                          0x00, 0x00, 0x00, 0x05, 0x12, 0x00, 0x00, 0x00, 0x01, 0x01, 0x00,
+                                          0x00, 0x00, 0x00, 0x00, 0x10, 0x09, 0x00, 0x00, 0x00};
+    const uint64_t *token = &memory.tokens[OBRISKA_TOKEN_WORDS];
+    EXPECT(obriska_memory_start(&memory) == 0);
+    EXPECT(sid_is(OBRISKA_SID_SYSTEM, system, sizeof system));
+    EXPECT(is(feed(0, create_with_sids, sizeof create_with_sids), 0, sizeof create_with_sids, 3));
+    EXPECT(memory.control[OBRISKA_SID_COUNT] == 4);
+    EXPECT(token[OBRISKA_TOKEN_USER] == 32 && token[OBRISKA_TOKEN_GROUPS] == 33);
+    EXPECT(sid_is(OBRISKA_SID_ENTERED, create_with_sids + 2, 16));
+    EXPECT(sid_is(33, create_with_sids + 23, 8));
+    EXPECT(is(feed(0, restrict_to, sizeof restrict_to), 0, sizeof restrict_to, 3));
+    EXPECT(token[OBRISKA_TOKEN_WORDS + OBRISKA_TOKEN_RESTRICTING] == 18);
+    EXPECT(token[OBRISKA_TOKEN_WORDS + OBRISKA_TOKEN_RESTRICTING + 1] == 34);
+    EXPECT(sid_is(34, restrict_to + 19, 12));
+    before = memory;
+    EXPECT(is(feed(0, create_with_sids, sizeof create_with_sids), 0, sizeof create_with_sids, 3));
+    EXPECT(memcmp(&memory.control[OBRISKA_SID_COUNT], &before.control[OBRISKA_SID_COUNT],
+                  sizeof(uint64_t) * (OBRISKA_CONTROL_LEN - OBRISKA_SID_COUNT)) == 0);
+}
+
+static void obriska_sid_gives_0_where_there_is_none_and_writes_nothing(void)
+{
+    static const uint32_t others[] = {0, 1, 6, 8, 17, 19, 31, 32, 285, 286, UINT32_MAX};
+    uint8_t out[OBRISKA_MAX_SID];
+    EXPECT(obriska_memory_start(&memory) == 0);
+    before = memory;
+    memset(out, 0x55, sizeof out);
+    for (size_t i = 0; i < sizeof others / sizeof others[0]; i++)
+        EXPECT(obriska_memory_sid(&memory, others[i], out, sizeof out) == 0);
+    for (size_t length = 0; length < 12; length++)
+        EXPECT(obriska_memory_sid(&memory, OBRISKA_SID_SYSTEM, out, length) == 0);
+    EXPECT(obriska_memory_sid(&memory, OBRISKA_SID_SYSTEM, NULL, 0) == 0);
+    EXPECT(obriska_sid(memory.control, OBRISKA_CONTROL_LEN - 1, 18, out, sizeof out) == 0);
+    EXPECT(obriska_sid(memory.control, 0, 18, out, sizeof out) == 0);
+    EXPECT(unchanged());
+    memory.control[OBRISKA_FIRST_SID_ROW + OBRISKA_SID_WORDS] = 0; /* no SID's row */
+    EXPECT(obriska_memory_sid(&memory, OBRISKA_SID_SYSTEM, out, sizeof out) == 0);
+    for (size_t i = 0; i < sizeof out; i++)
+        EXPECT(out[i] == 0x55);
+    EXPECT(obriska_memory_start(&memory) == 0);
+    EXPECT(obriska_memory_sid(&memory, OBRISKA_SID_ANONYMOUS, out, 12) == 12);
+}
+
+static void a_number_that_is_not_in_the_table_is_refused_by_5(void)
+{
+    static const uint8_t create[] = {0x07, 0x03, 0x20, 0x05, 0x00, 0x00, 0x00, 0x00};
+    static const uint8_t refused[] = {0x01, OBRISKA_REFUSED_FIELD};
+    static const uint8_t handle_2[] = {0x02, 0x00, 0x02};
+    EXPECT(obriska_memory_start(&memory) == 0);
+    before = memory;
+    EXPECT(answers(create, sizeof create, refused, sizeof refused) && unchanged());
+    EXPECT(is(feed(0, create_with_sids, sizeof create_with_sids), 0, sizeof create_with_sids, 3));
+    EXPECT(answers(create, sizeof create, handle_2, sizeof handle_2));
+}
+
+/* The table's count, a place, a row, and a token's user that is not in it. */
+static void a_table_that_is_not_in_order_is_refused(void)
+{
+    static const struct {
+        size_t word;
+        uint64_t value;
+    } changes[] = {{OBRISKA_SID_COUNT, 1},
+                   {OBRISKA_SID_COUNT, OBRISKA_SIDS + 1},
+                   {OBRISKA_FIRST_SID_PLACE, 1},
+                   {OBRISKA_FIRST_SID_PLACE + OBRISKA_SIDS - 1, 1},
+                   {OBRISKA_FIRST_SID_ROW + 1, 8},
+                   {OBRISKA_FIRST_SID_ROW + OBRISKA_SID_WORDS, 0x0500000000000102},
+                   {OBRISKA_CONTROL_LEN - 1, 1}};
+    for (size_t i = 0; i < sizeof changes / sizeof changes[0]; i++) {
+        EXPECT(obriska_memory_start(&memory) == 0);
+        memory.control[changes[i].word] = changes[i].value;
+        before = memory;
+        EXPECT(is(feed(0, open_own, 0), OBRISKA_REFUSED_MEMORY, 0, 0));
+        EXPECT(unchanged());
+    }
+    for (uint64_t user = 0; user < 40; user++) {
+        EXPECT(obriska_memory_start(&memory) == 0);
+        memory.tokens[OBRISKA_TOKEN_USER] = user;
+        EXPECT(is(feed(0, open_own, 0), user == 7 || user == 18 ? 0 : OBRISKA_REFUSED_MEMORY, 0, 0));
+    }
+}
+
 static void a_copy_goes_on_where_the_memory_was(void)
 {
     static struct obriska_memory copy;
@@ -563,6 +691,10 @@ int main(void)
     a_request_is_answered_at_its_last_byte();
     a_broken_stream_ignores_bytes_until_a_reconnect();
     find_gives_the_stations_live_handle();
+    requests_14_and_15_enter_sids_and_obriska_sid_gives_them();
+    obriska_sid_gives_0_where_there_is_none_and_writes_nothing();
+    a_number_that_is_not_in_the_table_is_refused_by_5();
+    a_table_that_is_not_in_order_is_refused();
     a_copy_goes_on_where_the_memory_was();
     return EXIT_SUCCESS;
 }

@@ -175,6 +175,35 @@ static size_t sids(const char *key, uint32_t *out)
     return count;
 }
 
+/* A SID's text up to a mark. */
+static struct obriska_sid_fields parse_sid(const char *word)
+{
+    struct obriska_sid_fields sid;
+    char item[OBRISKA_SID_TEXT_LEN];
+    size_t length = strcspn(word, ":,*");
+    EXPECT(length < sizeof item);
+    memcpy(item, word, length);
+    item[length] = 0;
+    EXPECT(obriska_sid_parse(&sid, item));
+    return sid;
+}
+
+/* Items SID or SID:NUMBER into `out` and `seconds`; gives how many. */
+static size_t real_sids(const char *key, struct obriska_sid_fields *out)
+{
+    struct item item;
+    size_t count = 0;
+    for (const char *rest = value(key); next_item(&rest, &item);) {
+        const char *colon = item.word + strcspn(item.word, ":,*");
+        for (size_t i = 0; i < item.times; i++, count++) {
+            EXPECT(count < MAX_ITEMS);
+            out[count] = parse_sid(item.word);
+            seconds[count] = *colon == ':' ? parse_u32(colon + 1, ",*") : 0;
+        }
+    }
+    return count;
+}
+
 /* ---- requests, from words to frames ---------------------------------------------------------- */
 
 static size_t open_own(uint8_t *frame, size_t capacity)
@@ -272,6 +301,39 @@ static size_t restrict_(uint8_t *frame, size_t capacity)
     return obriska_build_restrict(frame, capacity, u32("handle"), &fields);
 }
 
+static size_t create_with_sids(uint8_t *frame, size_t capacity)
+{
+    static struct obriska_sid_fields entries[MAX_ITEMS];
+    static struct obriska_sid_group entered[MAX_ITEMS];
+    struct obriska_new_token_with_sids token;
+    token.user = parse_sid(value("user"));
+    token.session = u64("session");
+    token.integrity = u32("integrity");
+    token.present = u64("present");
+    token.by_default = u64("default");
+    token.groups = entered;
+    token.group_count = real_sids("groups", entries);
+    for (size_t i = 0; i < token.group_count; i++) {
+        entered[i].sid = entries[i];
+        entered[i].attributes = (uint32_t)seconds[i];
+    }
+    return obriska_build_create_with_sids(frame, capacity, &token);
+}
+
+static size_t restrict_to_sids(uint8_t *frame, size_t capacity)
+{
+    static uint32_t denied[MAX_ITEMS];
+    static struct obriska_sid_fields given[MAX_ITEMS];
+    struct obriska_restriction_to_sids fields;
+    fields.write_restricted = u32("write-restricted");
+    fields.removed = u64("removed");
+    fields.deny = denied;
+    fields.deny_count = sids("deny", denied);
+    fields.sids = given;
+    fields.sid_count = real_sids("sids", given);
+    return obriska_build_restrict_to_sids(frame, capacity, u32("handle"), &fields);
+}
+
 static size_t install(uint8_t *frame, size_t capacity)
 {
     return obriska_build_install(frame, capacity, u32("handle"));
@@ -336,11 +398,23 @@ static const struct {
     uint8_t request;
     size_t (*build)(uint8_t *frame, size_t capacity);
 } builders[] = {
-    {"open-own", 1, open_own},   {"close", 2, close_},          {"create", 3, create},
-    {"query", 4, query},         {"privileges", 5, privileges}, {"groups", 6, groups},
-    {"scope", 7, scope},         {"defaults", 8, defaults},     {"duplicate", 9, duplicate},
-    {"restrict", 10, restrict_}, {"install", 11, install},      {"impersonate", 12, impersonate},
-    {"revert", 13, revert},      {"link", 16, link_},           {"get-linked", 17, get_linked},
+    {"open-own", 1, open_own},
+    {"close", 2, close_},
+    {"create", 3, create},
+    {"query", 4, query},
+    {"privileges", 5, privileges},
+    {"groups", 6, groups},
+    {"scope", 7, scope},
+    {"defaults", 8, defaults},
+    {"duplicate", 9, duplicate},
+    {"restrict", 10, restrict_},
+    {"install", 11, install},
+    {"impersonate", 12, impersonate},
+    {"revert", 13, revert},
+    {"create-with-sids", 14, create_with_sids},
+    {"restrict-to-sids", 15, restrict_to_sids},
+    {"link", 16, link_},
+    {"get-linked", 17, get_linked},
     {"evaluate", 18, evaluate},
 };
 
@@ -646,7 +720,7 @@ static void play(const char *name)
 static void the_vectors_leave_nothing_out(void)
 {
     for (size_t i = 1; i < REQUESTS; i++)
-        EXPECT((tried_requests[i] > 0) == (i != 14 && i != 15));
+        EXPECT(tried_requests[i] > 0);
     for (size_t i = 1; i < CLASSES; i++)
         EXPECT(tried_classes[i] > 0);
     for (size_t i = 0; i < STATUSES; i++)
@@ -671,6 +745,7 @@ static void the_names_agree_with_obriska_h(void)
     EXPECT((int)OBRISKA_STATUS_BROKEN == OBRISKA_REFUSED_BROKEN);
     EXPECT((int)OBRISKA_STATUS_NOT_LINKED == OBRISKA_REFUSED_NOT_LINKED);
     EXPECT(OBRISKA_FRAME_LEN == OBRISKA_PENDING_BYTES);
+    EXPECT(OBRISKA_MAX_SID == 2 + OBRISKA_AUTHORITY_BYTES + 4 * OBRISKA_MAX_SUB_AUTHORITIES);
 }
 
 static void each_refusal_and_each_error_has_a_text_of_its_own(void)
@@ -706,7 +781,11 @@ static void an_empty_list_may_be_null_and_so_may_no_buffer(void)
     struct obriska_new_token token = {1, 2, 0, 0, 0, NULL, 0};
     struct obriska_defaults fields = {0, 0, OBRISKA_DACL_STAYS, NULL, 0};
     struct obriska_restriction restriction = {0, 0, NULL, 0, NULL, 0};
+    struct obriska_new_token_with_sids with_sids = {{{0}, 0, {0}}, 2, 0, 0, 0, NULL, 0};
+    struct obriska_restriction_to_sids to_sids = {0, 0, NULL, 0, NULL, 0};
     struct obriska_buffer nothing = obriska_condition_begin(NULL, 0);
+    EXPECT(obriska_build_create_with_sids(frame, sizeof frame, &with_sids) == 15);
+    EXPECT(obriska_build_restrict_to_sids(frame, sizeof frame, 1, &to_sids) == 7);
     EXPECT(obriska_build_create(frame, sizeof frame, &token) == 8);
     EXPECT(obriska_build_defaults(frame, sizeof frame, 1, &fields) == 7);
     EXPECT(obriska_build_restrict(frame, sizeof frame, 1, &restriction) == 7);
@@ -843,6 +922,119 @@ static void a_privilege_was_absent_disabled_or_enabled(void)
     EXPECT(obriska_privilege_was(&before, 67) == OBRISKA_PRIVILEGE_ABSENT);
 }
 
+/* ---- SIDs ------------------------------------------------------------------------------------ */
+
+static const struct real_sid {
+    const char *text, *packed;
+} real_sids_[] = {
+    {"S-1-5-7", "010100000000000507000000"},
+    {"S-1-5-18", "010100000000000512000000"},
+    {"S-1-0", "0100000000000000"},
+    {"S-1-0-0", "010100000000000000000000"},
+    {"S-1-5-32-544", "01020000000000052000000020020000"},
+    {"S-1-4294967295-4294967295", "01010000FFFFFFFFFFFFFFFF"},
+    {"S-1-0x000100000000-1", "010100010000000001000000"},
+    {"S-1-0x0123456789AB", "01000123456789AB"},
+    {"S-1-0xFFFFFFFFFFFF", "0100FFFFFFFFFFFF"},
+    {"S-1-5-1-2-3-4-5-6-7-8-9-10-11-12-13-14-305419896",
+     "010F0000000000050100000002000000030000000400000005000000060000000700000008000000"
+     "090000000A0000000B0000000C0000000D0000000E00000078563412"},
+};
+
+/* Packs and prints a SID into each shorter room too: 0 comes then, and nothing is written beyond. */
+static void try_rooms(const struct obriska_sid_fields *sid, const char *printed, size_t size)
+{
+    uint8_t packed[OBRISKA_MAX_SID + 1];
+    char room[OBRISKA_SID_TEXT_LEN + 1];
+    size_t length = strlen(printed);
+    for (size_t capacity = 0; capacity <= size; capacity++) {
+        memset(packed, GUARD, sizeof packed);
+        EXPECT(obriska_sid_pack(packed, capacity, sid) == (capacity < size ? 0 : size));
+        EXPECT(packed[capacity] == GUARD);
+    }
+    for (size_t capacity = 0; capacity <= length + 1; capacity++) {
+        memset(room, 'x', sizeof room);
+        EXPECT(obriska_sid_print(room, capacity, sid) == (capacity <= length ? 0 : length));
+        EXPECT(room[capacity] == 'x');
+    }
+    EXPECT(is(room, printed));
+    EXPECT(obriska_sid_pack(NULL, 0, sid) == 0 && obriska_sid_print(NULL, 0, sid) == 0);
+}
+
+static void a_sid_is_packed_unpacked_printed_and_parsed(void)
+{
+    static uint8_t expected[MAX_BYTES];
+    for (size_t i = 0; i < sizeof real_sids_ / sizeof real_sids_[0]; i++) {
+        const struct real_sid *real = &real_sids_[i];
+        struct obriska_sid_fields parsed, unpacked;
+        uint8_t packed[OBRISKA_MAX_SID];
+        size_t size = read_hex(real->packed, expected, 0);
+        EXPECT(obriska_sid_parse(&parsed, real->text));
+        EXPECT(obriska_sid_pack(packed, sizeof packed, &parsed) == size);
+        EXPECT(memcmp(packed, expected, size) == 0);
+        EXPECT(obriska_sid_unpack(&unpacked, expected, size) == size);
+        EXPECT(obriska_sid_unpack(&unpacked, expected, size + 1) == size);
+        EXPECT(memcmp(unpacked.sub_authorities, parsed.sub_authorities,
+                      sizeof parsed.sub_authorities) == 0);
+        for (size_t j = 0; j < sizeof real_sids_ / sizeof real_sids_[0]; j++) {
+            EXPECT(obriska_sid_parse(&parsed, real_sids_[j].text));
+            EXPECT(obriska_sid_equal(&parsed, &unpacked) == (i == j));
+        }
+        try_rooms(&unpacked, real->text, size);
+        for (size_t length = 0; length < size; length++)
+            EXPECT(obriska_sid_unpack(&unpacked, expected, length) == 0);
+    }
+}
+
+static void the_longest_text_has_its_room(void)
+{
+    struct obriska_sid_fields sid;
+    char room[OBRISKA_SID_TEXT_LEN];
+    memset(&sid, 0xFF, sizeof sid);
+    sid.count = OBRISKA_MAX_SUB_AUTHORITIES;
+    EXPECT(obriska_sid_print(room, sizeof room, &sid) == OBRISKA_SID_TEXT_LEN - 1);
+    EXPECT(obriska_sid_parse(&sid, room) && sid.count == OBRISKA_MAX_SUB_AUTHORITIES);
+    EXPECT(sid.authority[0] == 0xFF && sid.sub_authorities[14] == UINT32_MAX);
+}
+
+static void other_forms_of_a_text_are_parsed_too(void)
+{
+    static const char *const forms[] = {"s-1-5-18", "S-1-0x000000000005-18",
+                                        "S-1-0X000000000005-0018", "S-1-05-18"};
+    struct obriska_sid_fields system, sid;
+    EXPECT(obriska_sid_parse(&system, "S-1-5-18"));
+    for (size_t i = 0; i < sizeof forms / sizeof forms[0]; i++)
+        EXPECT(obriska_sid_parse(&sid, forms[i]) && obriska_sid_equal(&sid, &system));
+    EXPECT(obriska_sid_parse(&sid, "S-1-0xabcdefABCDEF"));
+    EXPECT(sid.authority[0] == 0xAB && sid.authority[2] == 0xEF && sid.authority[5] == 0xEF);
+}
+
+static void what_is_no_sid_is_not_parsed_unpacked_or_written(void)
+{
+    static const char *const texts[] = {
+        "", "S", "S-1", "S-2-5-18", "S-1-", "S-1--18", "S-1-x", "S-1-+5-18", "S-1-4294967296",
+        "S-1-00000000005", "S-1-0x5", "S-1-0x0000000000005", "S-1-0x00000000000g", "S-1-5-", "S-1-5-18-",
+        "S-1-5-18 ", "S-1-5-0x12", "S-1-5-18-4294967296", "S-1-5--18", " S-1-5-18",
+        "S-1-5-1-2-3-4-5-6-7-8-9-10-11-12-13-14-15-16"};
+    static const uint8_t bare[8] = {1}, many[128] = {1, 16}, other[12] = {2, 1};
+    uint8_t frame[OBRISKA_FRAME_LEN];
+    char room[OBRISKA_SID_TEXT_LEN];
+    struct obriska_sid_fields sid;
+    struct obriska_new_token_with_sids token = {{{0}, 0, {0}}, 0, 0, 0, 0, NULL, 0};
+    struct obriska_restriction_to_sids restriction = {0, 0, NULL, 0, &sid, 1};
+    for (size_t i = 0; i < sizeof texts / sizeof texts[0]; i++)
+        EXPECT(!obriska_sid_parse(&sid, texts[i]));
+    EXPECT(obriska_sid_unpack(&sid, bare, sizeof bare) == sizeof bare);
+    EXPECT(obriska_sid_unpack(&sid, many, sizeof many) == 0);
+    EXPECT(obriska_sid_unpack(&sid, other, sizeof other) == 0 && obriska_sid_unpack(&sid, NULL, 0) == 0);
+    EXPECT(obriska_build_restrict_to_sids(frame, sizeof frame, 1, &restriction) == 15);
+    token.user.count = sid.count = OBRISKA_MAX_SUB_AUTHORITIES + 1;
+    EXPECT(obriska_sid_pack(frame, sizeof frame, &sid) == 0);
+    EXPECT(obriska_sid_print(room, sizeof room, &sid) == 0 && !obriska_sid_equal(&sid, &sid));
+    EXPECT(obriska_build_create_with_sids(frame, sizeof frame, &token) == 0);
+    EXPECT(obriska_build_restrict_to_sids(frame, sizeof frame, 1, &restriction) == 0);
+}
+
 /* ---- conditions ------------------------------------------------------------------------------ */
 
 static const struct {
@@ -916,6 +1108,36 @@ static void the_broker_refuses_by_1_what_has_no_depth_or_too_much(void)
     EXPECT(good > TRIES / 100);
 }
 
+/* What obriska_sid_unpack takes is what the broker takes: request 15 with one SID, on no handle. */
+static void the_broker_refuses_by_1_what_is_no_packed_sid(void)
+{
+    enum { TRIES = 4000, HEAD = 7, LONGEST = 8 + 4 * 17 };
+    static const uint8_t head[HEAD] = {0, 15, 99, 0, 0, 0, 1};
+    unsigned good = 0;
+    EXPECT(obriska_memory_start(&memory) == 0);
+    for (unsigned i = 0; i < TRIES; i++) {
+        struct obriska_sid_fields sid;
+        struct obriska_answer answer;
+        uint8_t packed[LONGEST];
+        size_t size = 8 + 4 * (next_random() % 18) - (next_random() % 8 == 0);
+        for (size_t at = 0; at < size; at++)
+            packed[at] = (uint8_t)next_random();
+        packed[0] = next_random() % 8 == 0 ? (uint8_t)(next_random() % 4) : 1;
+        packed[1] = (uint8_t)(next_random() % 4 == 0 ? next_random() % 18 : (size - 8) / 4);
+        int told = obriska_sid_unpack(&sid, packed, size) == size;
+        memcpy(bytes, head, HEAD);
+        memcpy(bytes + HEAD, packed, size);
+        bytes[0] = (uint8_t)(HEAD - 1 + size);
+        byte_count = HEAD + size;
+        got_count = 0;
+        feed(0);
+        EXPECT(obriska_read_answer(&answer, got, got_count));
+        EXPECT(answer.status == (told ? OBRISKA_STATUS_HANDLE : OBRISKA_STATUS_LAYOUT));
+        good += (unsigned)told;
+    }
+    EXPECT(good > TRIES / 4 && good < TRIES - TRIES / 10);
+}
+
 int main(int count, char **arguments)
 {
     EXPECT(count == 2);
@@ -931,8 +1153,13 @@ int main(int count, char **arguments)
     answers_follow_each_other();
     an_answer_may_have_any_length_of_a_frame();
     a_privilege_was_absent_disabled_or_enabled();
+    a_sid_is_packed_unpacked_printed_and_parsed();
+    the_longest_text_has_its_room();
+    other_forms_of_a_text_are_parsed_too();
+    what_is_no_sid_is_not_parsed_unpacked_or_written();
     the_depth_of_a_condition_is_told();
     the_broker_refuses_by_1_what_has_no_depth_or_too_much();
+    the_broker_refuses_by_1_what_is_no_packed_sid();
     printf("%u requests and %u answers of the vectors\n", requests, answers);
     return EXIT_SUCCESS;
 }

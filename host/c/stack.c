@@ -20,7 +20,10 @@ static void expect(int holds, const char *claim, int line)
     }
 }
 
-enum { STACK_BYTES = 65536, PROMISED = 8192, PAINT = 0xA7 };
+enum { STACK_BYTES = 65536, PROMISED = 32768, PAINT = 0xA7 };
+
+/* The number of the last SID that the table has room for. */
+enum { LAST_SID = OBRISKA_SID_ENTERED + OBRISKA_SIDS - 3 };
 
 static uint8_t stack[STACK_BYTES];
 static ucontext_t here, there;
@@ -66,6 +69,12 @@ static void call_find(void)
     returned = (uint32_t)obriska_find(memory.handles, OBRISKA_HANDLES_LEN, 7, UINT32_MAX);
 }
 
+static void call_sid(void)
+{
+    static uint8_t packed[OBRISKA_MAX_SID];
+    returned = (uint32_t)obriska_memory_sid(&memory, LAST_SID, packed, sizeof packed);
+}
+
 static void call_feed(void)
 {
     fed = obriska_memory_feed(&memory, 0, frame, length, answer, sizeof answer);
@@ -99,11 +108,50 @@ static struct obriska_group groups[OBRISKA_MAX_GROUPS];
 static uint32_t sids[OBRISKA_MAX_RESTRICTING];
 static uint8_t dacl[OBRISKA_MAX_DACL];
 
+/* Longest SIDs, as many as one request 14 holds: the user's and those of the groups. */
+enum { LONG_SIDS = 29 };
+static struct obriska_sid_group long_groups[LONG_SIDS];
+
+/* Enters `count` longest SIDs that differ from each other and from others in their last part, and gives the
+ * token up again. */
+static void enter(uint32_t first, uint32_t count, uint32_t status)
+{
+    struct obriska_new_token_with_sids token = {{{0}, 0, {0}}, 1, 0, 0, 0, long_groups + 1, count - 1};
+    for (uint32_t i = 0; i < count; i++) {
+        struct obriska_sid_fields *sid = &long_groups[i].sid;
+        memset(sid, 0xFF, sizeof *sid);
+        sid->count = OBRISKA_MAX_SUB_AUTHORITIES;
+        sid->sub_authorities[OBRISKA_MAX_SUB_AUTHORITIES - 1] = first + i;
+    }
+    token.user = long_groups[0].sid;
+    uint32_t handle = send(obriska_build_create_with_sids(frame, sizeof frame, &token), status);
+    if (status == 0)
+        send(obriska_build_close(frame, sizeof frame, handle), 0);
+}
+
+/* Fills the SID table by falling SIDs, and tries one more. */
+static void fill_table(void)
+{
+    uint32_t left = OBRISKA_SIDS - 2;
+    while (left > 0) {
+        uint32_t count = left < LONG_SIDS ? left : LONG_SIDS;
+        left -= count;
+        enter(left, count, 0);
+    }
+    enter(OBRISKA_SIDS, LONG_SIDS, OBRISKA_STATUS_FULL);
+    enter(0, LONG_SIDS, 0);
+    measure(call_sid);
+    EXPECT(returned == OBRISKA_MAX_SID);
+    /* all was given up, so that numbers may begin again */
+    memory.control[OBRISKA_NEXT_TOKEN] = 2;
+    memory.control[OBRISKA_NEXT_HANDLE] = 1;
+}
+
 /* A token with as much in it as there is; gives its handle. */
 static uint32_t create(uint64_t session)
 {
-    struct obriska_new_token token = {1000,         session, OBRISKA_INTEGRITY_HIGH, 0x1FFFFFFFFC,
-                                      0x1FFFFFFFFC, groups,  OBRISKA_MAX_GROUPS};
+    struct obriska_new_token token = {OBRISKA_SID_SYSTEM, session, OBRISKA_INTEGRITY_HIGH, 0x1FFFFFFFFC,
+                                      0x1FFFFFFFFC,       groups,  OBRISKA_MAX_GROUPS};
     struct obriska_defaults defaults = {64, 64, OBRISKA_DACL_SET, dacl, sizeof dacl};
     uint32_t handle = send(obriska_build_create(frame, sizeof frame, &token), 0);
     send(obriska_build_defaults(frame, sizeof frame, handle, &defaults), 0);
@@ -116,14 +164,29 @@ static uint32_t restrict_(uint32_t handle, uint32_t status)
     return send(obriska_build_restrict(frame, sizeof frame, handle, &restriction), status);
 }
 
+/* The same with SIDs for numbers, and as many as one request 15 holds. */
+static void restrict_to_sids(uint32_t handle, uint32_t status)
+{
+    static struct obriska_sid_fields given[LONG_SIDS];
+    struct obriska_restriction_to_sids restriction = {1, 0x80, NULL, 0, given, LONG_SIDS};
+    uint8_t packed[OBRISKA_MAX_SID];
+    for (uint32_t i = 0; i < LONG_SIDS; i++) {
+        uint32_t number = sids[0] - i;
+        EXPECT(obriska_memory_sid(&memory, number, packed, sizeof packed) == OBRISKA_MAX_SID);
+        EXPECT(obriska_sid_unpack(&given[i], packed, sizeof packed) == OBRISKA_MAX_SID);
+    }
+    send(obriska_build_restrict_to_sids(frame, sizeof frame, handle, &restriction), status);
+}
+
 static void fill(void)
 {
     for (size_t i = 0; i < OBRISKA_MAX_GROUPS; i++) {
-        groups[i].sid = UINT32_MAX - (uint32_t)i;
+        groups[i].sid = LAST_SID - (uint32_t)i;
         groups[i].attributes = OBRISKA_GROUP_ENABLED_BY_DEFAULT | OBRISKA_GROUP_OWNER;
         sids[i % OBRISKA_MAX_RESTRICTING] = groups[i].sid;
     }
     memset(dacl, 0xFF, sizeof dacl);
+    fill_table();
     for (uint64_t session = UINT64_MAX; session > UINT64_MAX - OBRISKA_PAIRS; session--) {
         uint32_t elevated = create(session), filtered = restrict_(elevated, 0);
         send(obriska_build_link(frame, sizeof frame, elevated, filtered, session), 0);
@@ -131,6 +194,7 @@ static void fill(void)
     for (size_t token = 1 + 2 * OBRISKA_PAIRS; token < OBRISKA_TOKENS; token++)
         create(token);
     restrict_(1, OBRISKA_STATUS_FULL);
+    restrict_to_sids(2, OBRISKA_STATUS_FULL);
     for (size_t handle = OBRISKA_TOKENS - 1; handle < OBRISKA_HANDLES; handle++)
         send(obriska_build_open_own(frame, sizeof frame, OBRISKA_RIGHT_ALL), 0);
     send(obriska_build_open_own(frame, sizeof frame, OBRISKA_RIGHT_ALL), OBRISKA_STATUS_FULL);
@@ -220,6 +284,7 @@ static void free_and_refuse(void)
     send(obriska_build_impersonate(frame, sizeof frame, copy), 0);
     send(obriska_build_close(frame, sizeof frame, copy), 0);
     send(obriska_build_revert(frame, sizeof frame), 0);
+    restrict_to_sids(2, 0);
     send(obriska_build_get_linked(frame, sizeof frame, 1), 0);
     send(obriska_build_install(frame, sizeof frame, 1), 0);
     memory.pending[OBRISKA_PENDING_LEN - 1] = 1;

@@ -12,13 +12,13 @@ use lib.ListN.{length, drop, getD, set, length-map, List·getD-map}
 use lib.Seq.{take-length, drop-length}
 use borrow.Author.Tests.{ltb-true, not-true, not-false}
 use Rattle.table.specs.Updating.{Updating, updating-more, updating-done}
-use Rattle.rules.specs.Basic.{if_then_else_, all, changeAt}
+use Rattle.rules.specs.Basic.{if_then_else_, all, changeAt, word32}
 use Rattle.rules.specs.Bits.{has}
 use Rattle.rules.specs.Number.{got, max32}
 use Rattle.rules.specs.Entry.{Entry, validEntries, applyAll}
 use Rattle.rules.specs.Group.{Group, noGroup, isMandatory, isDenyOnly, isLogon, isEnabledByDefault, withEnabled}
 use Rattle.rules.specs.Token.{maxGroups}
-use Rattle.rules.specs.Memory.{word32, pack, unpack}
+use Rattle.rules.specs.Memory.{pack, unpack}
 use Rattle.rules.specs.AdjustPrivileges.{named}
 use Rattle.rules.specs.AdjustGroups.{isReset, validEntry, isProtected, applied, resetGroup, adjusted, enabledBits}
 use Rattle.rules.specs.Request.{times, entry}

@@ -13,7 +13,8 @@ use Rattle.rules.specs.Number.{encode, encodeAll}
 use Rattle.rules.specs.Token.{maxGroups, maxRestricting}
 use Rattle.rules.specs.Query.{pairs}
 use Rattle.rules.specs.Head as Head
-use Rattle.rules.specs.Memory.{word32, low32, headWords, tokenWords, unpack, limitsAt}
+use Rattle.rules.specs.Basic.{word32}
+use Rattle.rules.specs.Memory.{low32, headWords, tokenWords, unpack, limitsAt}
 use Rattle.number.specs.Answer.{maxFields}
 use Rattle.answer.specs.Classes.{maxSids, groupNumbers, sidNumbers}
 use Rattle.answer.proofs.Classes.{groups-cut, groups-counted}

@@ -14,7 +14,8 @@ use Rattle.rules.specs.Group.{Group, noGroup}
 use Rattle.rules.specs.Token.{sidAt, maxGroups, maxDacl}
 use Rattle.rules.specs.Query.{words, classes, classBytes}
 use Rattle.rules.specs.Head as Head
-use Rattle.rules.specs.Memory.{word32, headWords, tokenWords, unpack, identityAt, privilegesAt, groupsAt, defaultsAt, tokenAt}
+use Rattle.rules.specs.Basic.{word32}
+use Rattle.rules.specs.Memory.{headWords, tokenWords, unpack, identityAt, privilegesAt, groupsAt, defaultsAt, tokenAt}
 use Rattle.rules.proofs.Logic.{and-l, and-r}
 use Rattle.answer.specs.Classes.{privilegeWords, IsOne, RowSid, RowOne, RowCounted}
 

@@ -59,6 +59,49 @@ pub ends : {s : List ℕ} {c d : Cursor} {layout : Reader Request} (request : Re
     → Onto s c layout d (end request) → whole ok request ≡ readFrom layout (restOf s c)
 ends {s} {d = d} request e x = ended request (restOf s d) e ∙ sym (x .same)
 
+-- ---- what was skipped
+
+-- b is what q reads there, if anything
+abbrev pub Only : {B : Type 0} → Reader B → List ℕ → B → Type 0
+Only {B} q bytes b = (x : B) (l : List ℕ) → q bytes ≡ got x l → x ≡ b
+
+-- skipped from a place on, it was read
+module _ {B : Type 0} (q : Reader B) (bytes later : List ℕ) {b : B} (only : Only q bytes b) where
+  skipped-to : (x : Read B) (ok : Bool) → q bytes ≡ x → (if ok then rest later else lost) ≡ after x → (if ok then got b later else bad) ≡ x
+  unfolding after
+  skipped-to (got y l) true d e = let f : y ≡ b = only y l d in cc
+  skipped-to (got y l) false d e = cc
+  skipped-to bad true d e = cc
+  skipped-to bad false d e = refl
+
+  skipped : (here ok : Bool) → (if ok then rest later else lost) ≡ after (readFrom q (if here then rest bytes else lost))
+      → ReadTo q (if here then rest bytes else lost) b ok later
+  unfolding readFrom after
+  skipped true ok e = skipped-to (q bytes) ok refl e
+  skipped false true e = cc
+  skipped false false e = refl
+
+module _ {B : Type 0} (q : Reader B) (bytes later : List ℕ) (b : B) where
+  read-there : (here ok : Bool) → ok ≡ true → ReadTo q (if here then rest bytes else lost) b ok later → q bytes ≡ got b later
+  unfolding readFrom
+  read-there true true h e = sym e
+  read-there true false h e = cc
+  read-there false true h e = cc
+  read-there false false h e = cc
+
+  was-on : (here ok : Bool) → ok ≡ true → ReadTo q (if here then rest bytes else lost) b ok later → here ≡ true
+  unfolding readFrom
+  was-on true ok h e = refl
+  was-on false true h e = cc
+  was-on false false h e = h
+
+module _ {B : Type 0} (q : Reader B) {b : B} {s : List ℕ} {c r : Cursor} (only : Only q (drop (c .at) s) b) (h : Onward s c q r) where
+  thing-read : ReadTo q (restOf s c) b (r .ok) (drop (r .at) s)
+  thing-read = skipped q (drop (c .at) s) (drop (r .at) s) only (c .ok) (r .ok) (h .means)
+
+  pub thing : {A : Type 0} (f : B → Reader A) → Onto s c (_>>=_ q f) r (f b)
+  thing f = record { same = then-on q f (restOf s c) b (r .ok) (drop (r .at) s) thing-read; inside = h .inside }
+
 -- ---- lists
 
 pub at-end : (ok : Bool) (later : List ℕ) → isEnd (if ok then rest later else lost) ≡ true → (ok ≡ true) × (later ≡ [])
@@ -67,50 +110,22 @@ at-end true [] e = (refl, refl)
 at-end true (b ∷ later) e = (refl, cc)
 at-end false later e = (e, cc)
 
--- what was skipped from a place on was read
-module _ {A : Type 0} (q : Reader (List A)) (bytes later : List ℕ) where
-  skipped-to : (x : Read (List A)) (ok : Bool) → (if ok then rest later else lost) ≡ after x → (if ok then got (listed x) later else bad) ≡ x
-  unfolding after listed
-  skipped-to (got xs l) true e = cc
-  skipped-to (got xs l) false e = cc
-  skipped-to bad true e = cc
-  skipped-to bad false e = refl
-
-  skipped : (here ok : Bool) → (if ok then rest later else lost) ≡ after (readFrom q (if here then rest bytes else lost))
-      → ReadTo q (if here then rest bytes else lost) (listed (q bytes)) ok later
-  unfolding readFrom after
-  skipped true ok e = skipped-to (q bytes) ok e
-  skipped false true e = cc
-  skipped false false e = refl
-
-  read-there : (here ok : Bool) → ok ≡ true → ReadTo q (if here then rest bytes else lost) (listed (q bytes)) ok later → q bytes ≡ got (listed (q bytes)) later
-  unfolding readFrom
-  read-there true true h e = sym e
-  read-there true false h e = cc
-  read-there false true h e = cc
-  read-there false false h e = cc
-
-  was-on : (here ok : Bool) → ok ≡ true → ReadTo q (if here then rest bytes else lost) (listed (q bytes)) ok later → here ≡ true
-  unfolding readFrom
-  was-on true ok h e = refl
-  was-on false true h e = cc
-  was-on false false h e = h
+listed-only : {A : Type 0} (q : Reader (List A)) (bytes : List ℕ) → Only q bytes (listed (q bytes))
+unfolding listed
+listed-only q bytes x l e = sym (ap listed e)
 
 module _ {A : Type 0} (p : Reader A) (n : ℕ) {s : List ℕ} {c r : Cursor} (h : Onward s c (times n p) r) where
   list-read : ReadTo (times n p) (restOf s c) (valuesAt p s (c .at) n) (r .ok) (drop (r .at) s)
-  list-read = skipped (times n p) (drop (c .at) s) (drop (r .at) s) (c .ok) (r .ok) (h .means)
+  list-read = thing-read (times n p) (listed-only (times n p) (drop (c .at) s)) h
 
   pub values : {B : Type 0} (f : List A → Reader B) → Onto s c (_>>=_ (times n p) f) r (f (valuesAt p s (c .at) n))
-  values f = record {
-    same = then-on (times n p) f (restOf s c) (valuesAt p s (c .at) n) (r .ok) (drop (r .at) s) list-read;
-    inside = h .inside;
-  }
+  values = thing (times n p) (listed-only (times n p) (drop (c .at) s)) h
 
   pub list-there : r .ok ≡ true → There p s (c .at) n (drop (r .at) s)
-  list-there o = read-there (times n p) (drop (c .at) s) (drop (r .at) s) (c .ok) (r .ok) o list-read
+  list-there o = read-there (times n p) (drop (c .at) s) (drop (r .at) s) (valuesAt p s (c .at) n) (c .ok) (r .ok) o list-read
 
   pub list-was : r .ok ≡ true → c .ok ≡ true
-  list-was o = was-on (times n p) (drop (c .at) s) (drop (r .at) s) (c .ok) (r .ok) o list-read
+  list-was o = was-on (times n p) (drop (c .at) s) (drop (r .at) s) (valuesAt p s (c .at) n) (c .ok) (r .ok) o list-read
 
   -- the list is the last of its layout
   pub list-ends : {start : Cursor} {layout : Reader Request} (request : List A → Request) {ok : Bool} → ok ≡ isEnd (restOf s r)
@@ -125,7 +140,7 @@ module _ {A : Type 0} (p : Reader A) (n : ℕ) {s : List ℕ} {c r : Cursor} (h 
   }
 
 -- two numbers are read as one thing
-abbrev pairOf : {A : Type 0} → (ℕ → ℕ → A) → Reader A
+abbrev pub pairOf : {A : Type 0} → (ℕ → ℕ → A) → Reader A
 pairOf f = _>>=_ u32 (λ a. _>>=_ u32 (λ b. give (f a b)))
 
 module _ {A : Type 0} (f : ℕ → ℕ → A) where
@@ -156,4 +171,28 @@ module _ {A : Type 0} (f : ℕ → ℕ → A) where
     where
       from : (x : Rest) → after (readFrom (times (2 * n) u32) x) ≡ after (readFrom (times n (pairOf f)) x)
       from (rest bytes) = pairs-after n bytes
+      from lost = refl
+
+-- two readers that leave the same bytes: so do as many of the one as of the other
+module _ {A B : Type 0} (p : Reader A) (q : Reader B) (alike : (bytes : List ℕ) → after (p bytes) ≡ after (q bytes)) where
+  module _ (n : ℕ) (ih : (bytes : List ℕ) → after (times n p bytes) ≡ after (times n q bytes)) (bytes : List ℕ) where
+    alike-more : (x : Read A) (y : Read B) → x ≡ p bytes → y ≡ q bytes → after x ≡ after y → after (times (suc n) p bytes) ≡ after (times (suc n) q bytes)
+    unfolding after
+    alike-more bad bad d e f = sym (times-bad p (suc n) bytes (omega arith) d) ∙ times-bad q (suc n) bytes (omega arith) e
+    alike-more bad (got b m) d e f = cc
+    alike-more (got a l) bad d e f = cc
+    alike-more (got a l) (got b m) d e f =
+        let g : l ≡ m = cc in
+        sym (times-suc p n bytes l a d) ∙ ih l ∙ ap (λ (k : List ℕ). after (times n q k)) g ∙ times-suc q n bytes m b e
+
+  alike-after : (n : ℕ) (bytes : List ℕ) → after (times n p bytes) ≡ after (times n q bytes)
+  alike-after zero bytes = sym (times-none p 0 bytes (omega arith)) ∙ times-none q 0 bytes (omega arith)
+  alike-after (suc n) bytes = alike-more n (alike-after n) bytes (p bytes) (q bytes) refl refl (alike bytes)
+
+  pub alike-onward : {s : List ℕ} {c r : Cursor} (n : ℕ) → Onward s c (times n p) r → Onward s c (times n q) r
+  unfolding readFrom after
+  alike-onward {s} {c} n h = record { means = h .means ∙ from (restOf s c); forward = h .forward; inside = h .inside }
+    where
+      from : (x : Rest) → after (readFrom (times n p) x) ≡ after (readFrom (times n q) x)
+      from (rest bytes) = alike-after n bytes
       from lost = refl

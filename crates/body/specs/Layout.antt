@@ -7,7 +7,9 @@ use lib.ListN.{length, drop, getD}
 use Rattle.rules.specs.Basic.{if_then_else_}
 use Rattle.rules.specs.Number.{Read, got, bad}
 use Rattle.rules.specs.Entry.{Entry}
-use Rattle.rules.specs.Request.{Request, Reader, end, times, u32, entry, numberLayout, entriesLayout, layouts, unknown, parse, restrict, restrictLayout}
+use Rattle.rules.specs.Sid.{isPacked, sidIn}
+use Rattle.rules.specs.Given.{Given, bySid}
+use Rattle.rules.specs.Request.{Request, Reader, end, times, u32, packedSid, group, entry, numberLayout, entriesLayout, layouts, unknown, parse, create, createLayout, restrict, restrictLayout}
 use Rattle.number.specs.Rest.{readFrom}
 use Rattle.number.specs.Meaning.{restOf}
 use Rattle.number.specs.declared.cursor.Cursor.{Cursor}
@@ -55,8 +57,14 @@ pub record Listed {A : Type 0} (s : List ℕ) (c : Cursor) (p : Reader A) (layou
 pub record EntriesRead (s : List ℕ) (c : Cursor) (ok : Bool) (handle at count : ℕ) : Type 0 where
   pub read : (request : ℕ → List Entry → Request) → Listed s c entry (entriesLayout request) (request handle (valuesAt entry s at count)) ok at count
 
--- request 10: two lists
-pub record RestrictRead (s : List ℕ) (c : Cursor) (ok : Bool) (handle mark removed denyAt denyCount sidAt sidCount : ℕ) : Type 0 where
-  pub sids : Listed s c u32 restrictLayout (restrict handle mark removed (valuesAt u32 s denyAt denyCount) (valuesAt u32 s sidAt sidCount)) ok sidAt sidCount
+-- request 14: the user's SID stands at a place, too
+pub record PackedCreateRead (s : List ℕ) (c : Cursor) (ok : Bool) (userAt session integrity present byDefault at count : ℕ) : Type 0 where
+  pub groups : Listed s c (group packedSid) (createLayout packedSid) (create (bySid (sidIn (drop userAt s))) session integrity present byDefault (valuesAt (group packedSid) s at count)) ok at count
+  pub user : ok ≡ true → isPacked (drop userAt s) ≡ true
+  pub inside : userAt ≤ max (c .at) (length s)
+
+-- requests 10 and 15: two lists, p reading a SID
+pub record RestrictRead (p : Reader Given) (s : List ℕ) (c : Cursor) (ok : Bool) (handle mark removed denyAt denyCount sidAt sidCount : ℕ) : Type 0 where
+  pub sids : Listed s c p (restrictLayout p) (restrict handle mark removed (valuesAt u32 s denyAt denyCount) (valuesAt p s sidAt sidCount)) ok sidAt sidCount
   pub deny : ok ≡ true → There u32 s denyAt denyCount (drop sidAt s)
   pub inside : denyAt ≤ max (c .at) (length s)

@@ -69,7 +69,19 @@ pub struct CreateFields {
     pub at: usize,
 }
 
-// Request 10: the indexes to deny and the restricting SIDs, each from a place on.
+// Request 14: the user's packed SID and count groups, each from a place on.
+pub struct PackedCreateFields {
+    pub ok: bool,
+    pub user_at: usize,
+    pub session: u64,
+    pub integrity: u32,
+    pub present: u64,
+    pub by_default: u64,
+    pub count: u32,
+    pub at: usize,
+}
+
+// Requests 10 and 15: the indexes to deny and the restricting SIDs, each from a place on.
 pub struct RestrictFields {
     pub ok: bool,
     pub handle: u32,

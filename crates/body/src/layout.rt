@@ -1,19 +1,22 @@
 // The layouts of the requests, but that of 18, whose condition is read where it is evaluated. A body is read whole before anything else is judged: numbers by value, lists by skipping them.
 ghost use mathlib.Core.Path.{_≡_};
 ghost use Rattle.rules.specs.Request as rules;
-ghost use Rattle.rules.specs.Request.{group, byte, createLayout, queryLayout, scopeLayout, defaultsLayout, duplicateLayout, linkLayout};
+ghost use Rattle.rules.specs.Given.{byNumber};
+ghost use Rattle.rules.specs.Request.{sidNumber, packedSid, group, byte, createLayout, queryLayout, scopeLayout, defaultsLayout, duplicateLayout, linkLayout};
 ghost use Rattle.number.specs.Rest.{readFrom};
 ghost use Rattle.number.specs.Meaning.{restOf};
-ghost use Rattle.body.specs.Layout.{whole, Begun, NothingRead, NumberRead, valuesAt, Listed, EntriesRead, RestrictRead};
+ghost use Rattle.body.specs.Layout.{whole, Begun, NothingRead, NumberRead, valuesAt, Listed, EntriesRead, RestrictRead, PackedCreateRead};
 use crate::fields::CreateFields;
 use crate::fields::DefaultsFields;
 use crate::fields::DuplicateFields;
 use crate::fields::EntriesFields;
 use crate::fields::LinkFields;
 use crate::fields::One;
+use crate::fields::PackedCreateFields;
 use crate::fields::QueryFields;
 use crate::fields::RestrictFields;
 use crate::fields::ScopeFields;
+use crate::packed;
 use number::Cursor;
 use number::Field;
 use number::U16;
@@ -135,7 +138,7 @@ pub fn defaults(s: &[u8], c: Cursor) -> DefaultsFields
 }
 
 pub fn create(s: &[u8], c: Cursor) -> CreateFields
-    ensures { λ r. ⌜ Listed (now (s .entry)) c group createLayout (rules.create (r .user) (r .session) (r .integrity) (r .present) (r .«by_default») (valuesAt group (now (s .entry)) (r .at) (r .count))) (r .ok) (r .at) (r .count) ⌝ }
+    ensures { λ r. ⌜ Listed (now (s .entry)) c (group sidNumber) (createLayout sidNumber) (rules.create (byNumber (r .user)) (r .session) (r .integrity) (r .present) (r .«by_default») (valuesAt (group sidNumber) (now (s .entry)) (r .at) (r .count))) (r .ok) (r .at) (r .count) ⌝ }
 {
     let user = c.number(s, U32);
     let session = user.next.number(s, U64);
@@ -156,8 +159,30 @@ pub fn create(s: &[u8], c: Cursor) -> CreateFields
     }
 }
 
+pub fn create_packed(s: &[u8], c: Cursor) -> PackedCreateFields
+    ensures { λ r. ⌜ PackedCreateRead (now (s .entry)) c (r .ok) (r .«user_at») (r .session) (r .integrity) (r .present) (r .«by_default») (r .at) (r .count) ⌝ }
+{
+    let user = packed::sid(s, c);
+    let session = user.number(s, U64);
+    let integrity = session.next.number(s, U32);
+    let present = integrity.next.number(s, U64);
+    let by_default = present.next.number(s, U64);
+    let count = by_default.next.number(s, U32);
+    let end = packed::groups(s, count.next, count.value);
+    PackedCreateFields {
+        ok: end.ended(s),
+        user_at: c.at,
+        session: session.value,
+        integrity: integrity.value as u32,
+        present: present.value,
+        by_default: by_default.value,
+        count: count.value as u32,
+        at: count.next.at,
+    }
+}
+
 pub fn restrict(s: &[u8], c: Cursor) -> RestrictFields
-    ensures { λ r. ⌜ RestrictRead (now (s .entry)) c (r .ok) (r .handle) (r .mark) (r .removed) (r .«deny_at») (r .«deny_count») (r .«sid_at») (r .«sid_count») ⌝ }
+    ensures { λ r. ⌜ RestrictRead sidNumber (now (s .entry)) c (r .ok) (r .handle) (r .mark) (r .removed) (r .«deny_at») (r .«deny_count») (r .«sid_at») (r .«sid_count») ⌝ }
 {
     let handle = c.number(s, U32);
     let mark = handle.next.number(s, U32);
@@ -166,6 +191,28 @@ pub fn restrict(s: &[u8], c: Cursor) -> RestrictFields
     let sid_count = deny_count.next.number(s, U32);
     let sids = sid_count.next.numbers(s, deny_count.value, U32);
     let end = sids.numbers(s, sid_count.value, U32);
+    RestrictFields {
+        ok: end.ended(s),
+        handle: handle.value as u32,
+        mark: mark.value as u32,
+        removed: removed.value,
+        deny_count: deny_count.value as u32,
+        deny_at: sid_count.next.at,
+        sid_count: sid_count.value as u32,
+        sid_at: sids.at,
+    }
+}
+
+pub fn restrict_packed(s: &[u8], c: Cursor) -> RestrictFields
+    ensures { λ r. ⌜ RestrictRead packedSid (now (s .entry)) c (r .ok) (r .handle) (r .mark) (r .removed) (r .«deny_at») (r .«deny_count») (r .«sid_at») (r .«sid_count») ⌝ }
+{
+    let handle = c.number(s, U32);
+    let mark = handle.next.number(s, U32);
+    let removed = mark.next.number(s, U64);
+    let deny_count = removed.next.number(s, U32);
+    let sid_count = deny_count.next.number(s, U32);
+    let sids = sid_count.next.numbers(s, deny_count.value, U32);
+    let end = packed::sids(s, sids, sid_count.value);
     RestrictFields {
         ok: end.ended(s),
         handle: handle.value as u32,

@@ -2,3 +2,4 @@
 pub mod entry;
 pub mod fields;
 pub mod layout;
+pub mod packed;

@@ -5,9 +5,11 @@ ghost use Rattle.rules.specs.Handle.{isHandle};
 ghost use Rattle.handle.specs.Meaning.{slotsOf};
 ghost use Rattle.handle.specs.Loaded.{loaded};
 ghost use Rattle.valid.specs.Meaning.{memoryOf};
+ghost use Rattle.control.specs.Sids.{SidWritten};
 ghost use Rattle.start.specs.Promise.{StartPromise, ReconnectPromise};
 ghost use Rattle.calls.specs.Promise.{FeedPromise};
 use calls::Fed;
+use control::sids;
 use handle::Handle;
 use handle::list;
 
@@ -92,4 +94,13 @@ pub extern "C" fn obriska_find(handles: &[Handle], station: u32, number: u32) ->
     ensures { λ r. ⌜ r ≡ foundIndex (isHandle station number) (slotsOf (loaded (now (handles .entry)))) ⌝ }
 {
     list::find(handles, station, number)
+}
+
+// The packed form of the SID that has a number in the SID table, and its size; 0, and nothing written, where there is none or no room for
+// it. It tests nothing else of the memory.
+#[no_mangle]
+pub extern "C" fn obriska_sid(control: &[u64], number: u32, out: &mut [u8]) -> usize
+    ensures { λ r. ⌜ SidWritten (now (control .entry)) number (now (out .entry)) (now (out .exit)) r ⌝ }
+{
+    sids::write(control, number, out)
 }

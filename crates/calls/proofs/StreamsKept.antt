@@ -9,7 +9,7 @@ use Rattle.rules.specs.Basic.{changeAt}
 use Rattle.rules.specs.Number.{Read, got, bad}
 use Rattle.rules.specs.Token.{Token}
 use Rattle.rules.specs.Station.{Station, withToken, withClient}
-use Rattle.rules.specs.State.{State, withTokens, withHandles, withStations, changeStation, setToken, setClient, putToken, changeToken, used, addToken, addHandle, dropHandle, withPairs, setPair, held, released}
+use Rattle.rules.specs.State.{State, withSids, entering, withTokens, withHandles, withStations, changeStation, setToken, setClient, putToken, changeToken, used, addToken, addHandle, dropHandle, withPairs, setPair, held, released}
 use Rattle.rules.specs.Memory.{pendingBytes, pendingRow}
 use Rattle.rules.specs.Decision.{Decision, need_else_then_, success, carriedOut, withHandle, issued}
 use Rattle.rules.specs.Request as Request
@@ -58,7 +58,7 @@ Keeps σ (need_else_then_ b r rest) = Keeps σ rest
 Keeps σ (success τ bytes) = rows τ ≡ rows σ
 
 by-rule : (σ : State) (s : ℕ) (r : Request) → Keeps σ (rule σ s r)
-unfolding Keeps rule withHandle issued OpenClose.openOwn OpenClose.close Create.create Query.query AdjustPrivileges.adjust AdjustGroups.adjust AdjustScope.scope AdjustDefaults.adjust Duplicate.duplicate Restrict.restrict Install.install Impersonate.impersonate Impersonate.revert Link.withBoth Link.linked Link.link Link.getLinked Evaluate.evaluate withPairs setPair withTokens withHandles withStations changeStation setToken setClient withToken withClient putToken changeToken used addToken addHandle dropHandle released
+unfolding Keeps rule withHandle issued OpenClose.openOwn OpenClose.close Create.create Create.createNumbered entering withSids Query.query AdjustPrivileges.adjust AdjustGroups.adjust AdjustScope.scope AdjustDefaults.adjust Duplicate.duplicate Restrict.restrict Restrict.restrictNumbered Install.install Impersonate.impersonate Impersonate.revert Link.withBoth Link.linked Link.link Link.getLinked Evaluate.evaluate withPairs setPair withTokens withHandles withStations changeStation setToken setClient withToken withClient putToken changeToken used addToken addHandle dropHandle released
 by-rule σ s (Request.openOwn mask) = refl
 by-rule σ s (Request.close n) = refl
 by-rule σ s (Request.create user session integrity present byDefault gs) = refl

@@ -4,3 +4,4 @@ pub mod StationRows
 pub mod PairRows
 pub mod Referring
 pub mod Beginning
+pub mod SidSection

@@ -3,3 +3,4 @@ pub mod Counters
 pub mod Stations
 pub mod Pairs
 pub mod References
+pub mod Sids

@@ -1,5 +1,7 @@
 // The places of the control words: sections one after the other. What is new goes to the end, a section behind the last and a word behind
 // the others of its row.
+use sid::layout::SIDS;
+
 pub const STATIONS: usize = 8;
 
 // The next numbers.
@@ -42,7 +44,11 @@ pub const PAIRS_AT: usize = STATIONS_END;
 
 pub const PAIRS_END: usize = PAIRS_AT + PAIRS * PAIR_WORDS;
 
-pub const CONTROL_WORDS: usize = PAIRS_END;
+pub const SIDS_AT: usize = PAIRS_END;
+
+pub const SIDS_END: usize = SIDS_AT + SIDS;
+
+pub const CONTROL_WORDS: usize = SIDS_END;
 
 // The largest numbers of their types, which are given to no token and to no handle.
 pub const MAX_TOKEN: u64 = 0xFFFF_FFFF_FFFF_FFFF;

@@ -5,4 +5,5 @@ pub mod initial;
 pub mod layout;
 pub mod pairs;
 pub mod references;
+pub mod sids;
 pub mod stations;

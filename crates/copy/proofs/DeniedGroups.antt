@@ -9,7 +9,7 @@ use lib.Bits.{bitOr}
 use lib.Dec.{ltb}
 use lib.ListN.{length, drop}
 use borrow.Author.Tests.{ltb-true}
-use Rattle.rules.specs.Basic.{if_then_else_, all, distinct, changeAt}
+use Rattle.rules.specs.Basic.{if_then_else_, all, distinct, changeAt, isBelow}
 use Rattle.rules.specs.Bits.{has}
 use Rattle.rules.specs.Number.{max32}
 use Rattle.rules.specs.Entry.{Entry, keyOf, applyAll}
@@ -18,7 +18,7 @@ use Rattle.rules.specs.Group.{Group, denied}
 use Rattle.rules.specs.Token.{Token, maxGroups, withGroups}
 use Rattle.rules.specs.Memory.{tokenWords, tokenRow}
 use Rattle.rules.specs.Request.{times, u32}
-use Rattle.rules.specs.Restrict.{isBelow, deniedAll}
+use Rattle.rules.specs.Restrict.{deniedAll}
 use Rattle.rules.proofs.Logic.{and-l, and-r, length-changeAt, mem-changeAt}
 use Rattle.number.specs.declared.Number.{Number}
 use Rattle.number.specs.declared.Number.the-variants as number

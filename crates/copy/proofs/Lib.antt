@@ -4,4 +4,5 @@ pub mod Numbers
 pub mod RestrictedRow
 pub mod DeniedGroups
 pub mod RestrictingSids
+pub mod AskedNumbers
 pub mod RestrictEnding

@@ -10,14 +10,14 @@ use lib.Dec.{eqb}
 use lib.ListN.{length, take, getD, set, replicate, length-map, length-set, List·getD-append}
 use lib.Seq.{getD-append-add, getD-take, set-append-left, take-set-lt}
 use Rattle.table.specs.Lists.{pad, length-pad, set-append-add}
-use Rattle.rules.specs.Basic.{if_then_else_, changeAt}
+use Rattle.rules.specs.Basic.{if_then_else_, changeAt, word32}
 use Rattle.rules.specs.Growth.{Mem, here, there}
 use Rattle.rules.specs.Group.{Group, denied}
 use Rattle.rules.specs.Privileges as rules
 use Rattle.rules.specs.Privileges.{remove}
 use Rattle.rules.specs.Token.{Token, maxGroups, maxRestricting, withPrivileges, withGroups}
 use Rattle.rules.specs.Head as Head
-use Rattle.rules.specs.Memory.{headWords, tokenWords, word32, mark, pack, unpack, head, tokenRow}
+use Rattle.rules.specs.Memory.{headWords, tokenWords, mark, pack, unpack, head, tokenRow}
 use Rattle.rules.proofs.Logic.{length-changeAt}
 use Rattle.privilege.specs.Meaning.{privilegesOf}
 use Rattle.privilege.specs.declared.privileges.Privileges.{Privileges}

@@ -59,7 +59,7 @@ adds sid list h = record {
 abbrev pub noSids : Sids
 noSids = record { count = 0; words = replicate maxRestricting 0 }
 
-none-listed : Listed [] noSids
+pub none-listed : Listed [] noSids
 unfolding pad
 none-listed = record { count = refl; words = λ few. refl }
 
@@ -168,61 +168,69 @@ sid-in-row t i h l =
     ∙ getD-append-add (head t) (gs ++ rs) (length gs + i) 0 ∙ getD-append-add gs rs i 0
     ∙ getD-pad maxRestricting (t .limits .restricting) i h l
 
--- so far in the loop
-pub record Keeping (own : ℕ) (ws s : List ℕ) (at count : ℕ) (list : Sids) (i : ℕ) : Type 0 where
+-- so far in the loop, by each test that is one of G's
+pub record Keeping (G : (ℕ → Bool) → Type 0) (own : ℕ) (ws : List ℕ) (list : Sids) (i : ℕ) : Type 0 where
   pub inside : i ≤ own
   pub few : list .count ≤ i
-  pub so-far : (given later : List ℕ) → times count u32 (drop at s) ≡ got given later
-      → (t : Token) → length (t .limits .restricting) ≡ own → ws ≡ tokenRow t → Listed (filter (isKept given) (take i (t .limits .restricting))) list
+  pub so-far : (f : ℕ → Bool) → G f → (t : Token) → length (t .limits .restricting) ≡ own → ws ≡ tokenRow t → Listed (filter f (take i (t .limits .restricting))) list
 
-module _ {own : ℕ} {ws s : List ℕ} {at count : ℕ} where
-  pub keep-begin : Keeping own ws s at count noSids 0
+module _ (G : (ℕ → Bool) → Type 0) {own : ℕ} {ws : List ℕ} where
+  pub keep-begin : Keeping G own ws noSids 0
   unfolding filter
-  keep-begin = record { inside = omega arith; few = omega arith; so-far = λ given later e t n q. none-listed }
+  keep-begin = record { inside = omega arith; few = omega arith; so-far = λ f e t n q. none-listed }
 
-  module _ {list : Sids} {i : ℕ} (k : Keeping own ws s at count list i) where
-    pub keep-end : own ≤ i → OwnKept own ws s at count list
-    keep-end h = record {
-      listed = λ given later e t n q.
-          let inside = k .inside in
-          let all : take i (t .limits .restricting) ≡ t .limits .restricting =
-          ap (λ (j : ℕ). take j (t .limits .restricting)) {x = i} {y = length (t .limits .restricting)} (omega arith) ∙ take-length (t .limits .restricting) in
-          subst (λ (l : List ℕ). Listed (filter (isKept given) l) list) all (k .so-far given later e t n q);
-    }
+  module _ {list : Sids} {i : ℕ} (k : Keeping G own ws list i) where
+    pub keep-all : own ≤ i → (f : ℕ → Bool) → G f → (t : Token) → length (t .limits .restricting) ≡ own → ws ≡ tokenRow t → Listed (filter f (t .limits .restricting)) list
+    keep-all h f e t n q =
+        let inside = k .inside in
+        let all : take i (t .limits .restricting) ≡ t .limits .restricting =
+        ap (λ (j : ℕ). take j (t .limits .restricting)) {x = i} {y = length (t .limits .restricting)} (omega arith) ∙ take-length (t .limits .restricting) in
+        subst (λ (l : List ℕ). Listed (filter f l) list) all (k .so-far f e t n q)
 
-    module _ (small : own ≤ maxRestricting) (h : i < own) (v : ℕ) (ev : v ≡ getD ws (sidsAt + i) 0) where
+    module _ (small : own ≤ maxRestricting) (h : i < own) (v : ℕ) (ev : v ≡ getD ws (sidsAt + i) 0) {b : Bool} (j : (f : ℕ → Bool) → G f → b ≡ f v) where
       -- the list with the SID, or without it
-      more : {b : Bool} → Stays v s at count b → (given later : List ℕ) → times count u32 (drop at s) ≡ got given later
-          → (t : Token) → length (t .limits .restricting) ≡ own → ws ≡ tokenRow t
-          → filter (isKept given) (take i (t .limits .restricting)) ++ (if b then v ∷ [] else []) ≡ filter (isKept given) (take (i + 1) (t .limits .restricting))
-      more {b} j given later e t n q =
-          filter-more (isKept given) (t .limits .restricting) i (omega arith)
-          (ev ∙ ap (λ (l : List ℕ). getD l (sidsAt + i) 0) q ∙ sid-in-row t i (omega arith) (omega arith)) (j .judged given later e)
+      more : (f : ℕ → Bool) → G f → (t : Token) → length (t .limits .restricting) ≡ own → ws ≡ tokenRow t
+          → filter f (take i (t .limits .restricting)) ++ (if b then v ∷ [] else []) ≡ filter f (take (i + 1) (t .limits .restricting))
+      more f e t n q =
+          filter-more f (t .limits .restricting) i (omega arith)
+          (ev ∙ ap (λ (l : List ℕ). getD l (sidsAt + i) 0) q ∙ sid-in-row t i (omega arith) (omega arith)) (j f e)
 
-      pub keep-one : {b : Bool} → Stays v s at count b → b ≡ true → {r now : Sids} → SidAdded v list r → now ≡ r → Keeping own ws s at count now (i + 1)
-      keep-one j y {r} d w = rw w (record {
+      pub keep-one : b ≡ true → {r now : Sids} → SidAdded v list r → now ≡ r → Keeping G own ws now (i + 1)
+      keep-one y {r} d w = rw w (record {
         inside = omega arith;
         few = let few = k .few in let one = d .count in omega arith;
-        so-far = λ given later e t n q.
+        so-far = λ f e t n q.
             subst (λ (l : List ℕ). Listed l r)
-            (ap (λ (b : Bool). filter (isKept given) (take i (t .limits .restricting)) ++ (if b then v ∷ [] else [])) (sym y) ∙ more j given later e t n q)
-            (d .listed _ (k .so-far given later e t n q));
+            (ap (λ (b : Bool). filter f (take i (t .limits .restricting)) ++ (if b then v ∷ [] else [])) (sym y) ∙ more f e t n q)
+            (d .listed _ (k .so-far f e t n q));
       })
 
-      pub keep-none : {b : Bool} → Stays v s at count b → b ≡ false → {now : Sids} → now ≡ list → Keeping own ws s at count now (i + 1)
-      keep-none j y w = rw w (record {
+      pub keep-none : b ≡ false → {now : Sids} → now ≡ list → Keeping G own ws now (i + 1)
+      keep-none y w = rw w (record {
         inside = omega arith;
         few = let few = k .few in omega arith;
-        so-far = λ given later e t n q.
+        so-far = λ f e t n q.
             subst (λ (l : List ℕ). Listed l list)
-            (sym (append-nil (filter (isKept given) (take i (t .limits .restricting))))
-            ∙ ap (λ (b : Bool). filter (isKept given) (take i (t .limits .restricting)) ++ (if b then v ∷ [] else [])) (sym y) ∙ more j given later e t n q)
-            (k .so-far given later e t n q);
+            (sym (append-nil (filter f (take i (t .limits .restricting))))
+            ∙ ap (λ (b : Bool). filter f (take i (t .limits .restricting)) ++ (if b then v ∷ [] else [])) (sym y) ∙ more f e t n q)
+            (k .so-far f e t n q);
       })
+
+-- the test by the numbers at a place
+abbrev pub ByNumbers : (s : List ℕ) (at count : ℕ) → (ℕ → Bool) → Type 0
+ByNumbers s at count f = (given : List ℕ) × (later : List ℕ) × (times count u32 (drop at s) ≡ got given later) × (isKept given ≡ f)
+
+pub judged-by : {sid : ℕ} {s : List ℕ} {at count : ℕ} {b : Bool} → Stays sid s at count b → (f : ℕ → Bool) → ByNumbers s at count f → b ≡ f sid
+judged-by {sid} j f (given, later, e, q) = j .judged given later e ∙ ap (λ (g : ℕ → Bool). g sid) q
+
+pub keep-end : {own : ℕ} {ws s : List ℕ} {at count : ℕ} {list : Sids} {i : ℕ} → Keeping (ByNumbers s at count) own ws list i → own ≤ i → OwnKept own ws s at count list
+keep-end {s = s} {at = at} {count = count} k h = record {
+  listed = λ given later e t n q. keep-all (ByNumbers s at count) k h (isKept given) (given, later, e, refl) t n q;
+}
 
 -- ---- the copy's list
 
-given-to : (given own : List ℕ) → length own ≡ 0 → given ≡ restrictingTo given own
+pub given-to : (given own : List ℕ) → length own ≡ 0 → given ≡ restrictingTo given own
 unfolding restrictingTo isEmpty
 given-to given [] h = refl
 given-to given (x ∷ xs) h = absurd (omega arith)
@@ -232,7 +240,7 @@ unfolding filter
 all-stay [] = refl
 all-stay (x ∷ xs) = ap (λ (l : List ℕ). x ∷ l) (all-stay xs)
 
-kept-of : (given own : List ℕ) → (length own ≡ 0 → ⊥) → filter (isKept given) own ≡ restrictingTo given own
+pub kept-of : (given own : List ℕ) → (length own ≡ 0 → ⊥) → filter (isKept given) own ≡ restrictingTo given own
 unfolding restrictingTo isEmpty
 kept-of given [] h = absurd (h refl)
 kept-of [] (x ∷ xs) h = all-stay (x ∷ xs)

@@ -4,15 +4,15 @@ use mathlib.Core.Path.{_≡_}
 use mathlib.Core.Bool.{Bool, _&&_}
 use mathlib.Core.List.{List}
 use lib.ListN.{length, drop}
-use Rattle.rules.specs.Basic.{if_then_else_, all, distinct, changeAt}
+use Rattle.rules.specs.Basic.{if_then_else_, all, distinct, changeAt, isBelow, word32}
 use Rattle.rules.specs.Number.{got}
 use Rattle.rules.specs.Entry.{Entry}
 use Rattle.rules.specs.Growth.{Mem}
 use Rattle.rules.specs.Group.{Group, denied}
 use Rattle.rules.specs.Token.{Token, withGroups}
-use Rattle.rules.specs.Memory.{tokenWords, word32, tokenRow}
+use Rattle.rules.specs.Memory.{tokenWords, tokenRow}
 use Rattle.rules.specs.Request.{times, u32}
-use Rattle.rules.specs.Restrict.{isBelow, deniedAll}
+use Rattle.rules.specs.Restrict.{deniedAll}
 use Rattle.body.specs.Entries.{entryOf, Progress, going, stopped, turned}
 use Rattle.copy.specs.declared.denied_groups.Marks.{Marks}
 

@@ -1,4 +1,4 @@
--- What request 10 makes and does, where the indexes and the SIDs are all there. Assumes nothing.
+-- What requests 10 and 15 make and do, where the indexes and the SIDs are all there. Assumes nothing.
 use Prim.Native.Nat.{ℕ, _≤_, _<_}
 use mathlib.Core.Path.{_≡_}
 use mathlib.Core.Bool.{Bool, true, _&&_, _||_}
@@ -6,14 +6,17 @@ use mathlib.Core.List.{List}
 use lib.Dec.{eqb, leb}
 use lib.ListN.{length, drop}
 use Rattle.table.specs.Table.{record-at}
-use Rattle.rules.specs.Basic.{if_then_else_}
+use Rattle.rules.specs.Basic.{if_then_else_, all}
 use Rattle.rules.specs.Number.{got}
 use Rattle.rules.specs.Privileges.{remove}
 use Rattle.rules.specs.Token.{Token, maxGroups, maxRestricting}
+use Rattle.rules.specs.Sid.{Sid}
+use Rattle.rules.specs.SidTable.{isNumber, fitsTable}
+use Rattle.rules.specs.Given.{Given}
 use Rattle.rules.specs.State.{State}
 use Rattle.rules.specs.Valid.{valid, tokenValid}
 use Rattle.rules.specs.Memory.{tokenWords, tokenRow}
-use Rattle.rules.specs.Request.{times, u32}
+use Rattle.rules.specs.Request.{Reader, times, u32}
 use Rattle.rules.specs.Decision.{canIssue}
 use Rattle.rules.specs.Restrict.{restrictingTo, validRestrict, restricted, restrict}
 use Rattle.handle.specs.declared.Handle.{Handle}
@@ -21,18 +24,19 @@ use Rattle.state.specs.ReleaseFacts.{PartsIn}
 use Rattle.decide.specs.declared.outcome.Outcome.{Outcome}
 use Rattle.decide.specs.Carried.{Carried}
 use Rattle.decide.specs.Issue.{NumbersLeft}
+use Rattle.copy.specs.declared.asked.Asked.{Asked}
 use Rattle.copy.specs.declared.restricted_row.Source.{Source}
 use Rattle.copy.specs.declared.restricting.Sids.{Sids}
 use Rattle.copy.specs.Copies.{CopyIssued}
 use Rattle.copy.specs.DeniedGroups.{Packed}
 use Rattle.copy.specs.Restricting.{Listed}
 
--- the two lists of a body
-pub record Lists (s : List ℕ) (denyAt denyCount sidAt sidCount : ℕ) (deny given : List ℕ) : Type 0 where
+-- the two lists of a body; p reads a SID
+pub record Lists (p : Reader Given) (s : List ℕ) (denyAt denyCount sidAt sidCount : ℕ) (deny : List ℕ) (given : List Given) : Type 0 where
   pub after : List ℕ
   pub denied : times denyCount u32 (drop denyAt s) ≡ got deny after
   pub later : List ℕ
-  pub sids : times sidCount u32 (drop sidAt s) ≡ got given later
+  pub sids : times sidCount p (drop sidAt s) ≡ got given later
 
 -- ---- the token that is copied
 
@@ -74,18 +78,21 @@ pub record CopyMade (n groups : ℕ) (list : Sids) (mark removed : ℕ) (s : Lis
 abbrev pub refusalNumber : (ok room : Bool) → ℕ
 refusalNumber ok room = if ok then (if room then 0 else 8) else 5
 
-abbrev pub hasRoom : ℕ → State → Bool
-hasRoom listed σ = leb listed maxRestricting && canIssue σ
+-- in the state, with the table that the SIDs given lead to
+abbrev pub hasRoom : ℕ → State → List Sid → Bool
+hasRoom listed σ sids = leb listed maxRestricting && canIssue σ && fitsTable sids
 
-pub record RestrictRefusal (x : Source) (listed mark removed : ℕ) (s : List ℕ) (denyAt denyCount : ℕ) (ts : List ℕ) (hs : List Handle) (cs : List ℕ) (r : ℕ) : Type 0 where
+pub record RestrictRefusal (x : Source) (a : Asked) (mark removed : ℕ) (s : List ℕ) (denyAt denyCount : ℕ) (ts : List ℕ) (hs : List Handle) (cs : List ℕ) (r : ℕ) : Type 0 where
   pub small : r < 128
   -- what issuing asks
   pub left : r ≡ 0 → NumbersLeft cs
-  pub few : r ≡ 0 → listed ≤ maxRestricting
+  pub few : r ≡ 0 → a .listed ≤ maxRestricting
+  pub fits : r ≡ 0 → a .fits ≡ true
   pub refusal : (deny later : List ℕ) → times denyCount u32 (drop denyAt s) ≡ got deny later
-      → (given : List ℕ) (t : Token) → IsSource t x → listed ≡ length (restrictingTo given (t .limits .restricting))
+      → (given : List ℕ) (t : Token) → IsSource t x → a .listed ≡ length (restrictingTo given (t .limits .restricting))
+      → (sids : List Sid) → a .known ≡ all (isNumber sids) given → a .fits ≡ fitsTable sids
       → (σ : State) → valid σ ≡ true → {ds : List ℕ} → PartsIn σ ts ds hs cs
-      → r ≡ refusalNumber (validRestrict t mark removed deny given) (hasRoom listed σ)
+      → r ≡ refusalNumber (validRestrict sids t mark removed deny given) (hasRoom (a .listed) σ sids)
 
 -- by the next number last but the token
 unfoldable pub restrictedAs : (mark removed : ℕ) → (deny given : List ℕ) → ℕ → Token → Token
@@ -97,7 +104,7 @@ pub record RestrictedIssued (slot groups : ℕ) (list : Sids) (mark removed : �
       → ((t : Token) → tokenValid t ≡ true → record-at tokenWords slot ts ≡ tokenRow t → TakesFrom given groups list t)
       → CopyIssued (restrictedAs mark removed deny given) slot station mask ts ds hs cs ts′ ds′ cs′ r
 
-pub record RestrictCarried (station number mark removed : ℕ) (s : List ℕ) (denyAt denyCount sidAt sidCount : ℕ) (ts ds : List ℕ) (hs : List Handle)
+pub record RestrictCarried (p : Reader Given) (station number mark removed : ℕ) (s : List ℕ) (denyAt denyCount sidAt sidCount : ℕ) (ts ds : List ℕ) (hs : List Handle)
     (cs ts′ ds′ cs′ : List ℕ) (r : Outcome) : Type 0 where
-  pub carried : (deny given : List ℕ) → Lists s denyAt denyCount sidAt sidCount deny given
+  pub carried : (deny : List ℕ) (given : List Given) → Lists p s denyAt denyCount sidAt sidCount deny given
       → Carried (λ σ. restrict σ station number mark removed deny given) ts ds hs cs ts′ ds′ cs′ r

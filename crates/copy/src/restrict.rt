@@ -8,10 +8,13 @@ ghost use Rattle.rules.specs.Basic.{implies};
 ghost use Rattle.rules.specs.Token.{maxGroups};
 ghost use Rattle.rules.specs.State.{tokenSlots, stationCount};
 ghost use Rattle.rules.specs.Memory.{tokenWords, controlWords};
+ghost use Rattle.rules.specs.Request.{sidNumber};
 ghost use Rattle.handle.specs.Words.{recordsIn};
 ghost use Rattle.state.specs.Parts.{Lent};
 ghost use Rattle.decide.specs.Issue.{NumbersLeft};
 ghost use Rattle.copy.specs.Restrict.{RestrictRefusal, RestrictedIssued, RestrictCarried};
+use crate::asked;
+use crate::asked::Asked;
 use crate::denied_groups::valid_indexes;
 use crate::restricted_row;
 use crate::restricted_row::Source;
@@ -41,10 +44,10 @@ fn narrows(source: Source, mark: u32, listed: u64) -> bool
     (source.restricting == 0) | ((listed != 0) & ((mark != 1) | source.write_restricted))
 }
 
-// What a copy of the source with so many restricting SIDs is refused for: 0 if nothing.
-fn refusal_of(
+// What a copy of the source is refused for: 0 if nothing.
+pub fn refusal_of(
     source: Source,
-    listed: u64,
+    a: Asked,
     f: RestrictFields,
     s: &[u8],
     handles: &[u64; HANDLE_WORDS],
@@ -52,24 +55,24 @@ fn refusal_of(
     control: &[u64],
 ) -> u64
     requires { ⌜ (source .groups ≤ maxGroups) × (length (now tokens) ≡ tokenSlots * tokenWords) × (length (now control) ≡ controlWords) ⌝ }
-    ensures { λ r. ⌜ RestrictRefusal source listed (f .mark) (f .removed) (now (s .entry)) (f .«deny_at») (f .«deny_count») (now (tokens .entry)) (recordsIn (now (handles .entry))) (now (control .entry)) r ⌝ }
+    ensures { λ r. ⌜ RestrictRefusal source a (f .mark) (f .removed) (now (s .entry)) (f .«deny_at») (f .«deny_count») (now (tokens .entry)) (recordsIn (now (handles .entry))) (now (control .entry)) r ⌝ }
 {
     let indexes = valid_indexes(source.groups, s, f.deny_at, f.deny_count as u64);
     let valid = (f.mark <= 1) & words::within(f.removed, Privileges::EXISTING) & indexes;
-    if !(valid & narrows(source, f.mark, listed)) {
+    if !(valid & narrows(source, f.mark, a.listed) & a.known) {
         return refusal::BAD_FIELD;
     }
-    if (MAX_RESTRICTING as u64) < listed {
+    if (MAX_RESTRICTING as u64) < a.listed {
         return refusal::TABLE_FULL;
     }
-    if can_issue(handles, tokens, control) {
+    if can_issue(handles, tokens, control) & a.fits {
         return 0;
     }
     refusal::TABLE_FULL
 }
 
 // Of the token in a slot, where nothing speaks against it.
-fn issue_restricted(
+pub fn issue_restricted(
     station: u32,
     mask: u16,
     slot: usize,
@@ -102,7 +105,7 @@ pub fn restrict(
     control: &mut [u64],
 ) -> Outcome
     requires { ⌜ Lent (now tokens) (now dacls) (now control) × (station < stationCount) ⌝ }
-    ensures { λ r. ⌜ RestrictCarried station (f .handle) (f .mark) (f .removed) (now (s .entry)) (f .«deny_at») (f .«deny_count») (f .«sid_at») (f .«sid_count») (now (tokens .entry)) (now (dacls .entry)) (recordsIn (now (handles .entry))) (now (control .entry)) (now (tokens .exit)) (now (dacls .exit)) (now (control .exit)) r ⌝ }
+    ensures { λ r. ⌜ RestrictCarried sidNumber station (f .handle) (f .mark) (f .removed) (now (s .entry)) (f .«deny_at») (f .«deny_count») (f .«sid_at») (f .«sid_count») (now (tokens .entry)) (now (dacls .entry)) (recordsIn (now (handles .entry))) (now (control .entry)) (now (tokens .exit)) (now (dacls .exit)) (now (control .exit)) r ⌝ }
 {
     let found = find_handle(station, f.handle, handles);
     let x = locate(found, mask_of(found).may_duplicate(), tokens);
@@ -112,7 +115,8 @@ pub fn restrict(
     let source = restricted_row::source_at(x.slot, tokens);
     let own = source.restricting;
     let list = restricting::list_of(x.slot, own, tokens, s, f.sid_at, f.sid_count as u64);
-    let refusal = refusal_of(source, list.count, f, s, handles, tokens, control);
+    let a = asked::by_number(list.count, f, s, control);
+    let refusal = refusal_of(source, a, f, s, handles, tokens, control);
     if refusal != 0 {
         return outcome::refused(refusal);
     }

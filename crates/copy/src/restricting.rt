@@ -1,4 +1,4 @@
-// Request 10: the copy's restricting SIDs, from the source's and those given in a body.
+// Requests 10 and 15: the copy's restricting SIDs, from the source's and those given in a body.
 ghost use mathlib.Core.Path.{_≡_};
 ghost use Prim.Native.Nat.{_*_, _≤_, _<_};
 ghost use lib.ListN.{length};
@@ -20,7 +20,7 @@ pub struct Sids {
 }
 
 // One SID more.
-fn with_sid(list: Sids, sid: u64) -> Sids
+pub fn with_sid(list: Sids, sid: u64) -> Sids
     requires { ⌜ list .count < maxRestricting ⌝ }
     ensures { λ r. ⌜ SidAdded sid list r ⌝ }
 {

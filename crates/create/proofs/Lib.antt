@@ -1,2 +1,4 @@
-pub mod CreateEnding
 pub mod NewGroups
+pub mod CreateEnding
+pub mod PackedGroups
+pub mod PackedEnding

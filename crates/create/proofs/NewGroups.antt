@@ -1,12 +1,12 @@
--- The groups of a new token: one pair more, and all pairs as the rule has them. Assumes nothing.
+-- The groups of a new token: one more, and all of them as the rule has them. Assumes nothing.
 use Prim.Native.Nat.{ℕ, suc, _+_, _-_, _^_, _≤_, _<_}
 use native.Mathlib.Nat.{zero-add}
 use native.Mathlib.Omega.{arith}
 use mathlib.Core.Path.{_≡_, refl, sym, ap, ap₂, subst, _∙_}
 use mathlib.Core.Bool.{Bool, true, false, not, _&&_, _||_, and-false}
-use mathlib.Core.List.{List, [], _∷_, _++_, map, append-nil}
+use mathlib.Core.List.{List, [], _∷_, _++_, map, append-nil, map-append}
 use lib.Dec.{leb, ltb}
-use lib.ListN.{length, drop, set, replicate, length-set, length-append}
+use lib.ListN.{length, drop, set, replicate, length-set, length-append, length-map}
 use lib.Seq.{append-snoc}
 use borrow.Author.Tests.{le-leb, lt-leb, ltb-true, ltb-false, not-false, not-true}
 use Rattle.rules.specs.Basic.{if_then_else_, all, implies, bothOrNeither}
@@ -17,21 +17,24 @@ use Rattle.rules.specs.Group as rules
 use Rattle.rules.specs.Group.{isFixed, isEnabledByDefault, isDenyOnly, withEnabled}
 use Rattle.rules.specs.Token.{maxGroups}
 use Rattle.rules.specs.Memory.{headWords, tokenWords, pack}
-use Rattle.rules.specs.Request.{follow, _>>=_, give, times, u32, entry, group}
+use Rattle.rules.specs.Sid.{Sid}
+use Rattle.rules.specs.Given.{byNumber, GivenGroup, numberIn, groupIn}
+use Rattle.rules.specs.Request.{Reader, follow, _>>=_, give, times, u32, entry, sidNumber, group}
 use Rattle.rules.specs.Create.{givable, validPair, entered}
 use Rattle.rules.proofs.Logic.{and-l}
 use Rattle.token.specs.declared.Group as Code
 use Rattle.token.specs.Meaning.{groupOf}
 use Rattle.token.specs.Row.{wordOf}
 use Rattle.token.specs.NewRow.{headless}
-use Rattle.token.proofs.NewRow.{length-headless, no-groups, one-group}
+use Rattle.token.proofs.NewRow.{no-groups, one-group}
 use Rattle.body.specs.declared.entry.Pair.{Pair}
 use Rattle.body.specs.declared.entry.Pair.the-variants as pair
 use Rattle.body.specs.Layout.{whole}
 use Rattle.body.specs.Entries.{entryOf, Bounds, PairAt, foldAll, folded}
 use Rattle.body.proofs.Pairs.{is-none, is-pair}
 use Rattle.body.proofs.Folding.{fold-end, fold-lost, fold-next}
-use Rattle.create.specs.NewGroups.{GroupsRead}
+use Rattle.sid.specs.Numbers.{NumberIn}
+use Rattle.create.specs.NewGroups.{fitsPair, fitsGroup, PairFits, GroupsRead}
 
 -- ---- the test of a pair
 
@@ -67,77 +70,55 @@ module _ (g q : rules.Group) (on : Bool) (e : on ≡ isEnabledByDefault g) where
   unfolding entered
   entered-off h = rw (sym e, h)
 
+-- ---- the number's test
+
+pub pair-fits : (user known : ℕ) (g : rules.Group) {v r : Bool} → v ≡ validPair user g → NumberIn (g .sid) known r → PairFits user known g (v && r)
+unfolding fitsPair
+pair-fits user known g e i = record { fits = λ sids l. ap₂ (λ (x y : Bool). x && y) e (i .is sids l) }
+
 -- ---- the rule
 
--- the groups so far, until a pair is bad
-unfoldable pub step : ℕ → rules.Group → Read (List rules.Group) → Read (List rules.Group)
-step user g x = follow x λ gs later. if ltb (length gs) maxGroups && validPair user g then got (gs ++ (entered g ∷ [])) later else bad
+-- the ones so far, until one is bad
+module _ {A : Type 0} (good : A → Bool) where
+  unfoldable pub step : A → Read (List A) → Read (List A)
+  step g x = follow x λ gs later. if ltb (length gs) maxGroups && good g then got (gs ++ (g ∷ [])) later else bad
 
-module _ (user : ℕ) where
-  stays : (gs : List rules.Group) → foldAll (step user) gs bad ≡ bad
+  stays : (gs : List A) → foldAll step gs bad ≡ bad
   unfolding foldAll step follow
   stays [] = refl
   stays (g ∷ gs) = stays gs
 
-  folded-stays : (x : Read (List rules.Group)) → folded (step user) bad bad x ≡ bad
+  folded-stays : (x : Read (List A)) → folded step bad bad x ≡ bad
   unfolding folded
   folded-stays (got gs later) = stays gs
   folded-stays bad = refl
 
-  abbrev AllEntered : List rules.Group → Type 0
-  AllEntered gs =
-      (xs : List rules.Group) → length xs ≤ maxGroups
-      → foldAll (step user) gs (got xs []) ≡ whole (leb (length xs + length gs) maxGroups && all (validPair user) gs) (xs ++ map entered gs)
+  abbrev AllKept : List A → Type 0
+  AllKept gs =
+      (xs : List A) → length xs ≤ maxGroups → foldAll step gs (got xs []) ≡ whole (leb (length xs + length gs) maxGroups && all good gs) (xs ++ gs)
 
-  entered-next : (g : rules.Group) (gs xs : List rules.Group) → length xs ≤ maxGroups → AllEntered gs → (b v : Bool) → ltb (length xs) maxGroups ≡ b
-      → foldAll (step user) gs (if b && v then got (xs ++ (entered g ∷ [])) [] else bad)
-      ≡ whole (leb (length xs + suc (length gs)) maxGroups && (v && all (validPair user) gs)) (xs ++ entered g ∷ map entered gs)
-  entered-next g gs xs h ih true true e =
-      let one : length (xs ++ (entered g ∷ [])) ≡ length xs + 1 = length-append xs (entered g ∷ []) in
-      let more : length (xs ++ (entered g ∷ [])) + length gs ≡ length xs + suc (length gs) = omega arith in
-      ih (xs ++ (entered g ∷ [])) (omega (arith, ltb-true (length xs) maxGroups e))
-      ∙ ap₂ (λ (n : ℕ) (ys : List rules.Group). whole (leb n maxGroups && all (validPair user) gs) ys) more (append-snoc xs (entered g) (map entered gs))
-  entered-next g gs xs h ih true false e =
-      stays gs ∙ ap (λ (b : Bool). whole b (xs ++ entered g ∷ map entered gs)) (sym (and-false (leb (length xs + suc (length gs)) maxGroups)))
-  entered-next g gs xs h ih false v e =
+  kept-next : (g : A) (gs xs : List A) → length xs ≤ maxGroups → AllKept gs → (b v : Bool) → ltb (length xs) maxGroups ≡ b
+      → foldAll step gs (if b && v then got (xs ++ (g ∷ [])) [] else bad)
+      ≡ whole (leb (length xs + suc (length gs)) maxGroups && (v && all good gs)) (xs ++ g ∷ gs)
+  kept-next g gs xs h ih true true e =
+      let one : length (xs ++ (g ∷ [])) ≡ length xs + 1 = length-append xs (g ∷ []) in
+      let more : length (xs ++ (g ∷ [])) + length gs ≡ length xs + suc (length gs) = omega arith in
+      ih (xs ++ (g ∷ [])) (omega (arith, ltb-true (length xs) maxGroups e))
+      ∙ ap₂ (λ (n : ℕ) (ys : List A). whole (leb n maxGroups && all good gs) ys) more (append-snoc xs g gs)
+  kept-next g gs xs h ih true false e =
+      stays gs ∙ ap (λ (b : Bool). whole b (xs ++ g ∷ gs)) (sym (and-false (leb (length xs + suc (length gs)) maxGroups)))
+  kept-next g gs xs h ih false v e =
       stays gs
-      ∙ ap (λ (b : Bool). whole (b && (v && all (validPair user) gs)) (xs ++ entered g ∷ map entered gs))
+      ∙ ap (λ (b : Bool). whole (b && (v && all good gs)) (xs ++ g ∷ gs))
       (sym (lt-leb (length xs + suc (length gs)) maxGroups (omega (arith, ltb-false (length xs) maxGroups e))))
 
-  all-entered : (gs : List rules.Group) → AllEntered gs
+  all-kept : (gs : List A) → AllKept gs
   unfolding foldAll all step follow
-  all-entered [] xs h = rw (le-leb (length xs + 0) maxGroups (omega arith)) (ap (λ (ys : List rules.Group). got ys []) (sym (append-nil xs)))
-  all-entered (g ∷ gs) xs h = entered-next g gs xs h (all-entered gs) (ltb (length xs) maxGroups) (validPair user g) refl
+  all-kept [] xs h = rw (le-leb (length xs + 0) maxGroups (omega arith)) (ap (λ (ys : List A). got ys []) (sym (append-nil xs)))
+  all-kept (g ∷ gs) xs h = kept-next g gs xs h (all-kept gs) (ltb (length xs) maxGroups) (good g) refl
 
--- ---- the loop
-
--- the numbers of an entry are of 32 bits
-module _ (s : List ℕ) (at : ℕ) (r : Pair) (f : PairAt s at r) (k v q : ℕ) (g : r ≡ pair.Got k v q) where
-  narrow : Bounds (length s) at (pair.Got k v q)
-  narrow = subst (λ (x : Pair). Bounds (length s) at x) g (f .bounds)
-
-  pub key-narrow : k < 2 ^ 32
-  key-narrow = omega (arith, narrow)
-
-  pub value-narrow : v < 2 ^ 32
-  value-narrow = omega (arith, narrow)
-
--- two numbers are read as a group as they are as an entry
-abbrev asGroup : Read Entry → Read rules.Group
-asGroup (got e later) = got (record { sid = e .key; attributes = e .value }) later
-asGroup bad = bad
-
-group-read : (bytes : List ℕ) → asGroup (entry bytes) ≡ group bytes
-unfolding entry group _>>=_ follow give
-group-read bytes = first (u32 bytes)
-  where
-    second : (k : ℕ) (x : Read ℕ) → asGroup (follow x (λ v. give (entryOf k v))) ≡ follow x (λ v. give (record { sid = k; attributes = v }))
-    second k (got v later) = refl
-    second k bad = refl
-
-    first : (x : Read ℕ) → asGroup (follow x (λ k. _>>=_ u32 (λ v. give (entryOf k v)))) ≡ follow x (λ k. _>>=_ u32 (λ v. give (record { sid = k; attributes = v })))
-    first (got k later) = second k (u32 later)
-    first bad = refl
+pub below-most : (n : ℕ) (v : Bool) → not (ltb n maxGroups && v) ≡ false → n < maxGroups
+below-most n v t = ltb-true n maxGroups (and-l (ltb n maxGroups) v (not-false (ltb n maxGroups && v) t))
 
 module _ {A : Type 0} (x y : A) where
   whole-ok : (a b : Bool) → whole a x ≡ whole b y → a ≡ b
@@ -151,90 +132,174 @@ module _ {A : Type 0} (x y : A) where
   whole-same true false e h = cc
   whole-same false b e h = cc
 
--- ---- the loop's state: the groups that are entered, and that what is left gives what all give
+-- ---- a loop that reads them with p: those so far, and that what is left gives what all give
 
-module _ (user : ℕ) (s : List ℕ) (at count : ℕ) where
-  abbrev result : Read (List rules.Group)
-  result = folded (step user) bad (got [] []) (times count group (drop at s))
+module _ {A : Type 0} (p : Reader A) (good : A → Bool) (s : List ℕ) (at count : ℕ) where
+  abbrev result : Read (List A)
+  result = folded (step good) bad (got [] []) (times count p (drop at s))
 
-  pub record Entering (ws : List ℕ) (n from left : ℕ) : Type 0 where
-    pub groups : List rules.Group
-    pub row : ws ≡ headless groups
-    pub long : length ws ≡ tokenWords
-    pub counted : length groups ≡ n
+  pub record Kept (gs : List A) (n from left : ℕ) : Type 0 where
+    pub counted : length gs ≡ n
     pub room : n ≤ maxGroups
-    pub rest : folded (step user) bad (got groups []) (times left group (drop from s)) ≡ result
+    pub rest : folded (step good) bad (got gs []) (times left p (drop from s)) ≡ result
 
-  pub none-entered : {ws : List ℕ} → ws ≡ replicate tokenWords 0 → Entering ws 0 at count
-  none-entered e = record { groups = []; row = e ∙ no-groups; long = ap length e; counted = refl; room = omega arith; rest = refl }
+  -- how it ends
+  pub record Ended (ok : Bool) (xs : List A) : Type 0 where
+    pub judged : (gs : List A) (later : List ℕ) → times count p (drop at s) ≡ got gs later → ok ≡ (leb (length gs) maxGroups && all good gs)
+    pub same : (gs : List A) (later : List ℕ) → times count p (drop at s) ≡ got gs later → ok ≡ true → xs ≡ gs
 
-  read-as : {ws : List ℕ} {n : ℕ} (ok : Bool) (xs : List rules.Group) → ws ≡ headless xs → length xs ≡ n → whole ok xs ≡ result
-      → GroupsRead user s at count ws (record { ok = ok; count = n })
+  pub none-kept : Kept [] 0 at count
+  none-kept = record { counted = refl; room = omega arith; rest = refl }
+
+  ended-as : (ok : Bool) (xs : List A) → whole ok xs ≡ result → Ended ok xs
   unfolding folded
-  read-as ok xs row counted e = record {
-    long = ap length row ∙ length-headless xs;
-    valid = λ gs later t. whole-ok xs (map entered gs) ok (leb (length gs) maxGroups && all (validPair user) gs) (out gs later t);
-    given = λ gs later t o. row ∙ ap headless (same gs later t o);
-    counted = λ gs later t o. ap length (sym (same gs later t o)) ∙ counted;
+  ended-as ok xs e = record {
+    judged = λ gs later t. whole-ok xs gs ok (leb (length gs) maxGroups && all good gs) (out gs later t);
+    same = λ gs later t o. whole-same xs gs ok (leb (length gs) maxGroups && all good gs) (out gs later t) o;
   }
     where
-      out : (gs : List rules.Group) (later : List ℕ) → times count group (drop at s) ≡ got gs later
-          → whole ok xs ≡ whole (leb (length gs) maxGroups && all (validPair user) gs) (map entered gs)
+      out : (gs : List A) (later : List ℕ) → times count p (drop at s) ≡ got gs later → whole ok xs ≡ whole (leb (length gs) maxGroups && all good gs) gs
       out gs later t =
-          e ∙ ap (folded (step user) bad (got [] [])) t ∙ all-entered user gs [] (omega arith)
-          ∙ ap (λ (n : ℕ). whole (leb n maxGroups && all (validPair user) gs) (map entered gs)) (zero-add (length gs))
+          e ∙ ap (folded (step good) bad (got [] [])) t ∙ all-kept good gs [] (omega arith)
+          ∙ ap (λ (n : ℕ). whole (leb n maxGroups && all good gs) gs) (zero-add (length gs))
 
-      same : (gs : List rules.Group) (later : List ℕ) → times count group (drop at s) ≡ got gs later → ok ≡ true → xs ≡ map entered gs
-      same gs later t o = whole-same xs (map entered gs) ok (leb (length gs) maxGroups && all (validPair user) gs) (out gs later t) o
+  module _ {gs : List A} {n from left : ℕ} (i : Kept gs n from left) where
+    pub kept-end : left ≤ 0 → Ended true gs
+    kept-end h = ended-as true gs (fold-end p (step good) bad s from left (got gs []) result (i .rest) h)
+
+    module _ (h : 0 < left) where
+      pub kept-lost : bad ≡ p (drop from s) → Ended false gs
+      kept-lost e = ended-as false gs (fold-lost p (step good) bad s from left (got gs []) result (i .rest) h e)
+
+      -- v is the test of the one that is read
+      module _ (one : A) (q : ℕ) (e : got one (drop q s) ≡ p (drop from s)) (v : Bool) (f : v ≡ good one) where
+        -- what a step gives is what is left to go on from
+        stepped : (y : Read (List A)) → y ≡ step good one (got gs []) → folded (step good) bad y (times (left - 1) p (drop q s)) ≡ result
+        stepped y b = fold-next p (step good) bad s from left (got gs []) result (i .rest) h one q e y b
+
+        test : (ltb (length gs) maxGroups && good one) ≡ (ltb n maxGroups && v)
+        test = ap₂ (λ (m : ℕ) (w : Bool). ltb m maxGroups && w) (i .counted) (sym f)
+
+        pub kept-bad : not (ltb n maxGroups && v) ≡ true → Ended false gs
+        unfolding step follow
+        kept-bad t =
+            ended-as false gs
+            (sym (folded-stays good (times (left - 1) p (drop q s))) ∙ stepped bad (rw (test, not-true (ltb n maxGroups && v) t)))
+
+        pub kept-one : not (ltb n maxGroups && v) ≡ false → Kept (gs ++ (one ∷ [])) (n + 1) q (left - 1)
+        unfolding step follow
+        kept-one t = record {
+          counted = length-append gs (one ∷ []) ∙ ap (λ (m : ℕ). m + 1) (i .counted);
+          room = omega (arith, below-most n v t);
+          rest = stepped (got (gs ++ (one ∷ [])) []) (rw (test, not-false (ltb n maxGroups && v) t));
+        }
+
+-- ---- groups by number
+
+-- the numbers of an entry are of 32 bits
+module _ (s : List ℕ) (at : ℕ) (r : Pair) (f : PairAt s at r) (k v q : ℕ) (g : r ≡ pair.Got k v q) where
+  narrow : Bounds (length s) at (pair.Got k v q)
+  narrow = subst (λ (x : Pair). Bounds (length s) at x) g (f .bounds)
+
+  pub key-narrow : k < 2 ^ 32
+  key-narrow = omega (arith, narrow)
+
+  pub value-narrow : v < 2 ^ 32
+  value-narrow = omega (arith, narrow)
+
+abbrev numbered : ℕ → ℕ → GivenGroup
+numbered n a = record { sid = byNumber n; attributes = a }
+
+-- two numbers are read as a group as they are as an entry
+abbrev asGroup : Read Entry → Read GivenGroup
+asGroup (got e later) = got (numbered (e .key) (e .value)) later
+asGroup bad = bad
+
+group-read : (bytes : List ℕ) → asGroup (entry bytes) ≡ group sidNumber bytes
+unfolding entry group sidNumber _>>=_ follow give
+group-read bytes = first (u32 bytes)
+  where
+    second : (k : ℕ) (x : Read ℕ) → asGroup (follow x (λ v. give (entryOf k v))) ≡ follow x (λ v. give (numbered k v))
+    second k (got v later) = refl
+    second k bad = refl
+
+    first : (x : Read ℕ) → asGroup (follow x (λ k. _>>=_ u32 (λ v. give (entryOf k v)))) ≡ follow (follow x (λ k. give (byNumber k))) (λ g. _>>=_ u32 (λ v. give (record { sid = g; attributes = v })))
+    first (got k later) = second k (u32 later)
+    first bad = refl
+
+-- ---- the loop's state
+
+-- the row with one more
+pub row-more : (f : GivenGroup → rules.Group) (gs : List GivenGroup) (one : GivenGroup) {ws : List ℕ} {n w : ℕ} → ws ≡ headless (map entered (map f gs)) → length gs ≡ n → n < maxGroups
+    → w ≡ pack (entered (f one)) → set ws (headWords + n) w ≡ headless (map entered (map f (gs ++ (one ∷ []))))
+row-more f gs one {ws} {n} {w} e c l o =
+    let long : length (map entered (map f gs)) ≡ n = length-map (map f gs) entered ∙ length-map gs f ∙ c in
+    ap (λ (x : List ℕ). set x (headWords + n) w) e
+    ∙ one-group (map entered (map f gs)) (entered (f one)) (omega arith) (ap (λ (m : ℕ). headWords + m) (sym long)) o
+    ∙ ap headless (sym (ap (map entered) (map-append f gs (one ∷ [])) ∙ map-append entered (map f gs) (f one ∷ [])))
+
+module _ (user known : ℕ) (s : List ℕ) (at count : ℕ) where
+  abbrev SoFar : List Sid → List GivenGroup → ℕ → ℕ → ℕ → Type 0
+  SoFar sids gs n from left = Kept (group sidNumber) (fitsGroup sids user) s at count gs n from left
+
+  pub record Entering (ws : List ℕ) (n from left : ℕ) : Type 0 where
+    pub groups : List GivenGroup
+    pub long : length ws ≡ tokenWords
+    pub row : (sids : List Sid) → ws ≡ headless (map entered (map (groupIn sids) groups))
+    pub counted : length groups ≡ n
+    pub room : n ≤ maxGroups
+    pub kept : (sids : List Sid) → length sids ≡ known → SoFar sids groups n from left
+
+  pub none-entered : {ws : List ℕ} → ws ≡ replicate tokenWords 0 → Entering ws 0 at count
+  none-entered e = record { groups = []; long = ap length e; row = λ sids. e ∙ no-groups; counted = refl; room = omega arith; kept = λ sids l. none-kept (group sidNumber) (fitsGroup sids user) s at count }
+
+  read-as : {ws : List ℕ} {n : ℕ} (ok : Bool) (xs : List GivenGroup) → length ws ≡ tokenWords → ((sids : List Sid) → ws ≡ headless (map entered (map (groupIn sids) xs))) → length xs ≡ n
+      → ((sids : List Sid) → length sids ≡ known → Ended (group sidNumber) (fitsGroup sids user) s at count ok xs)
+      → GroupsRead user known s at count ws (record { ok = ok; count = n })
+  read-as ok xs long row counted e = record {
+    long = long;
+    valid = λ sids l gs later t. e sids l .judged gs later t;
+    given = λ sids l gs later t o. let q : xs ≡ gs = e sids l .same gs later t o in (row sids ∙ ap (λ (x : List GivenGroup). headless (map entered (map (groupIn sids) x))) q, ap length (sym q) ∙ counted);
+  }
 
   module _ {ws : List ℕ} {n from left : ℕ} (i : Entering ws n from left) where
-    pub all-read : left ≤ 0 → GroupsRead user s at count ws (record { ok = true; count = n })
-    all-read h = read-as true (i .groups) (i .row) (i .counted) (fold-end group (step user) bad s from left (got (i .groups) []) result (i .rest) h)
+    ends-as : (ok : Bool) → ((sids : List Sid) → length sids ≡ known → Ended (group sidNumber) (fitsGroup sids user) s at count ok (i .groups))
+        → GroupsRead user known s at count ws (record { ok = ok; count = n })
+    ends-as ok e = read-as ok (i .groups) (i .long) (i .row) (i .counted) e
+
+    pub all-read : left ≤ 0 → GroupsRead user known s at count ws (record { ok = true; count = n })
+    all-read h = ends-as true (λ sids l. kept-end (group sidNumber) (fitsGroup sids user) s at count (i .kept sids l) h)
 
     module _ (h : 0 < left) (p : Pair) (f : PairAt s from p) where
-      pub one-missing : p ≡ pair.Bad → GroupsRead user s at count ws (record { ok = false; count = n })
+      pub one-missing : p ≡ pair.Bad → GroupsRead user known s at count ws (record { ok = false; count = n })
       one-missing g =
-          read-as false (i .groups) (i .row) (i .counted)
-          (fold-lost group (step user) bad s from left (got (i .groups) []) result (i .rest) h (ap asGroup (is-none s from p f g) ∙ group-read (drop from s)))
+          ends-as false (λ sids l. kept-lost (group sidNumber) (fitsGroup sids user) s at count (i .kept sids l) h (ap asGroup (is-none s from p f g) ∙ group-read (drop from s)))
 
       -- v is the test of the pair
-      module _ (k a q : ℕ) (g : p ≡ pair.Got k a q) (v : Bool) (e : v ≡ validPair user (record { sid = k; attributes = a })) where
-        abbrev one : rules.Group
-        one = record { sid = k; attributes = a }
+      module _ (k a q : ℕ) (g : p ≡ pair.Got k a q) (v : Bool) (e : PairFits user known (record { sid = k; attributes = a }) v) where
+        there : got (numbered k a) (drop q s) ≡ group sidNumber (drop from s)
+        there = ap asGroup (is-pair s from p f k a q g) ∙ group-read (drop from s)
 
-        -- what a step gives is what is left to go on from
-        stepped : (y : Read (List rules.Group)) → y ≡ step user one (got (i .groups) []) → folded (step user) bad y (times (left - 1) group (drop q s)) ≡ result
-        stepped y b =
-            fold-next group (step user) bad s from left (got (i .groups) []) result (i .rest) h one q
-            (ap asGroup (is-pair s from p f k a q g) ∙ group-read (drop from s)) y b
+        good : (sids : List Sid) → length sids ≡ known → v ≡ fitsGroup sids user (numbered k a)
+        unfolding fitsGroup groupIn numberIn
+        good sids l = e .fits sids l
 
-        test : (ltb (length (i .groups)) maxGroups && validPair user one) ≡ (ltb n maxGroups && v)
-        test = ap₂ (λ (m : ℕ) (w : Bool). ltb m maxGroups && w) (i .counted) (sym e)
-
-        pub one-bad : not (ltb n maxGroups && v) ≡ true → GroupsRead user s at count ws (record { ok = false; count = n })
-        unfolding step follow
-        one-bad t =
-            read-as false (i .groups) (i .row) (i .counted)
-            (sym (folded-stays user (times (left - 1) group (drop q s))) ∙ stepped bad (rw (test, not-true (ltb n maxGroups && v) t)))
+        pub one-bad : not (ltb n maxGroups && v) ≡ true → GroupsRead user known s at count ws (record { ok = false; count = n })
+        one-bad t = ends-as false (λ sids l. kept-bad (group sidNumber) (fitsGroup sids user) s at count (i .kept sids l) h (numbered k a) q there v (good sids l) t)
 
         module _ (t : not (ltb n maxGroups && v) ≡ false) where
-          below : n < maxGroups
-          below = ltb-true n maxGroups (and-l (ltb n maxGroups) v (not-false (ltb n maxGroups && v) t))
-
           pub place-in : headWords + n < length ws
-          place-in = omega (arith, below, i .long)
+          place-in = omega (arith, below-most n v t, i .long)
 
-          pub one-entered : {w : ℕ} → w ≡ pack (entered one) → Entering (set ws (headWords + n) w) (n + 1) q (left - 1)
-          unfolding step follow
+          pub one-entered : {w : ℕ} → w ≡ pack (entered (record { sid = k; attributes = a })) → Entering (set ws (headWords + n) w) (n + 1) q (left - 1)
+          unfolding groupIn numberIn
           one-entered {w} o = record {
-            groups = i .groups ++ (entered one ∷ []);
-            row =
-                ap (λ (l : List ℕ). set l (headWords + n) w) (i .row)
-                ∙ one-group (i .groups) (entered one) (omega (arith, below, i .counted)) (ap (λ (m : ℕ). headWords + m) (sym (i .counted))) o;
+            groups = i .groups ++ (numbered k a ∷ []);
             long = length-set ws (headWords + n) w ∙ i .long;
-            counted = length-append (i .groups) (entered one ∷ []) ∙ ap (λ (m : ℕ). m + 1) (i .counted);
-            room = omega (arith, below);
-            rest = stepped (got (i .groups ++ (entered one ∷ [])) []) (rw (test, not-false (ltb n maxGroups && v) t));
+            row = λ sids. row-more (groupIn sids) (i .groups) (numbered k a) (i .row sids) (i .counted) (below-most n v t) o;
+            counted = length-append (i .groups) (numbered k a ∷ []) ∙ ap (λ (m : ℕ). m + 1) (i .counted);
+            room = omega (arith, below-most n v t);
+            kept = λ sids l. kept-one (group sidNumber) (fitsGroup sids user) s at count (i .kept sids l) h (numbered k a) q there v (good sids l) t;
           }
 
 -- the word of a group that is entered

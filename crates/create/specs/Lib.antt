@@ -1,2 +1,4 @@
-pub mod Create
 pub mod NewGroups
+pub mod PackedGroups
+pub mod Create
+pub mod PackedCreate

@@ -6,7 +6,7 @@ use native.Mathlib.Omega.{arith}
 use lib.Arith.{digits-div, digits-mod}
 use lib.ListN.{length, drop, getD, set, replicate, length-set, List·getD-eq-default}
 use Rattle.rules.specs.State.{handleSlots}
-use Rattle.rules.specs.Memory.{word32}
+use Rattle.rules.specs.Basic.{word32}
 use Rattle.handle.specs.declared.Handle.{Handle}
 use Rattle.handle.specs.Meaning.{none}
 use Rattle.handle.specs.Words.{slotWords, word16, firstWord, recordIn, recordsFrom, recordsIn}

@@ -3,7 +3,7 @@ use mathlib.Core.List.{List, [], _∷_}
 use Prim.Native.Nat.{ℕ, zero, suc, _+_, _*_, _/_, _%_}
 use lib.ListN.{getD, drop}
 use Rattle.rules.specs.State.{handleSlots}
-use Rattle.rules.specs.Memory.{word32}
+use Rattle.rules.specs.Basic.{word32}
 use Rattle.handle.specs.declared.Handle.{Handle}
 
 abbrev pub slotWords : ℕ

@@ -8,8 +8,7 @@ use native.Mathlib.Omega.{arith}
 use borrow.Author.Tests.{eq-eqb, ne-eqb, lt-ltb, eqb-true, ltb-true, ltb-false}
 use lib.Dec.{eqb, ltb}
 use lib.ListN.{take, getD}
-use Rattle.rules.specs.Basic.{if_then_else_, all, member, implies}
-use Rattle.rules.specs.Memory.{word32}
+use Rattle.rules.specs.Basic.{if_then_else_, all, member, implies, word32}
 use Rattle.rules.proofs.Logic.{all-mem, mem-all, member-mem}
 
 -- two tests that pass together are one

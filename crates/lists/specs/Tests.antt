@@ -4,12 +4,8 @@ use mathlib.Core.Bool.{Bool, _&&_}
 use mathlib.Core.List.{List, [], _∷_}
 use lib.Dec.{eqb, leb, ltb}
 use lib.ListN.{length}
-use Rattle.rules.specs.Basic.{if_then_else_, all}
+use Rattle.rules.specs.Basic.{if_then_else_, all, word32}
 use Rattle.rules.specs.State.{handleSlots, stationCount, pairSlots}
-use Rattle.rules.specs.Memory.{word32}
-
-abbrev pub isZero : ℕ → Bool
-isZero w = eqb w 0
 
 abbrev pub isNarrow : ℕ → Bool
 isNarrow w = ltb w word32

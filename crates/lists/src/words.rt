@@ -1,7 +1,7 @@
 // Tests of every element of a slice. What is bad is gathered by `|`, and no loop is left early: the compiler makes vectors of them.
 ghost use mathlib.Core.Path.{_≡_};
-ghost use Rattle.rules.specs.Basic.{all};
-ghost use Rattle.lists.specs.Tests.{isZero, isNarrow};
+ghost use Rattle.rules.specs.Basic.{all, isZero};
+ghost use Rattle.lists.specs.Tests.{isNarrow};
 use table::WORD_32;
 
 pub fn zero_words(s: &[u64]) -> bool

@@ -12,7 +12,7 @@ use lib.Seq.{take-all}
 use Rattle.table.specs.Lists.{named-take}
 use Rattle.table.specs.Table.{flat, record-at, part-at}
 use Rattle.table.specs.Rows.{readRows, testRows, length-rows, rows-at}
-use Rattle.rules.specs.Basic.{if_then_else_, all, distinct}
+use Rattle.rules.specs.Basic.{if_then_else_, all, distinct, same}
 use Rattle.rules.specs.Token.{Token, maxDacl, full, limited, newToken}
 use Rattle.rules.specs.Table.{Slot, free, live, isLive, orElse, lives, found}
 use Rattle.rules.specs.Pair.{Pair}
@@ -21,7 +21,7 @@ use Rattle.rules.specs.State.{tokenSlots, pairSlots, isNumbered, noToken, eleva
 use Rattle.rules.specs.Index.{foundIndex}
 use Rattle.rules.specs.Valid.{sessionOf, pairFits}
 use Rattle.rules.specs.Head as Head
-use Rattle.rules.specs.Memory.{low8, low32, same, slotAt, tokenAt, identityAt, pairAt, slotPair, pairRow, tokenWords, pairWords, sessionWord, elevatedWord, filteredWord}
+use Rattle.rules.specs.Memory.{low8, low32, slotAt, tokenAt, identityAt, pairAt, slotPair, pairRow, tokenWords, pairWords, sessionWord, elevatedWord, filteredWord}
 use Rattle.rules.proofs.Logic.{not-both}
 use Rattle.rules.proofs.Same.{same-refl}
 use Rattle.rules.proofs.Rows.{length-slotPair}

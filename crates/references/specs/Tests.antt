@@ -6,7 +6,7 @@ use mathlib.Core.List.{List, [], _∷_, _++_}
 use lib.Dec.{eqb, leb}
 use lib.ListN.{length, take, drop, getD}
 use Rattle.table.specs.Rows.{readRows, testRows}
-use Rattle.rules.specs.Basic.{if_then_else_, all, distinct}
+use Rattle.rules.specs.Basic.{if_then_else_, all, distinct, same}
 use Rattle.rules.specs.Number.{max32}
 use Rattle.rules.specs.Token.{Token, primary, impersonation}
 use Rattle.rules.specs.Table.{orElse, found}
@@ -15,7 +15,7 @@ use Rattle.rules.specs.Pair.{Pair}
 use Rattle.rules.specs.State.{handleNumber, handleToken, tokenSlots, stationCount, pairSlots, isNumbered, noToken}
 use Rattle.rules.specs.Valid.{handleValid, pairFits}
 use Rattle.rules.specs.Head as Head
-use Rattle.rules.specs.Memory.{same, tokenWords, stationWords, primaryWord, clientWord, levelWord, pairWords, sessionWord, elevatedWord, filteredWord, nextToken, nextHandle, stationsIn, pairsIn, pairAt, slotPair}
+use Rattle.rules.specs.Memory.{tokenWords, stationWords, primaryWord, clientWord, levelWord, pairWords, sessionWord, elevatedWord, filteredWord, nextToken, nextHandle, stationsIn, pairsIn, pairAt, slotPair}
 use Rattle.token.specs.Meaning.{slotsOf}
 use Rattle.token_rows.specs.Tests.{slotTest}
 use Rattle.lists.specs.Tests.{stationReferences, referenceSlots, isGiven, isApart, refsTest}

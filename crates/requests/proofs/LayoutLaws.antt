@@ -9,9 +9,11 @@ use borrow.Author.Tests.{not-true, not-false}
 use Rattle.rules.specs.Basic.{if_then_else_}
 use Rattle.rules.specs.Number.{Read, got, bad, readNumber, max32}
 use Rattle.rules.specs.Entry.{Entry}
+use Rattle.rules.specs.Sid.{sidIn}
+use Rattle.rules.specs.Given.{Given, byNumber, bySid}
 use Rattle.rules.specs.Refusal.{refusal}
 use Rattle.rules.specs.Request as requests
-use Rattle.rules.specs.Request.{Request, Reader, end, byte, group, u32, numberLayout, entriesLayout, createLayout, defaultsLayout, restrictLayout, evaluateLayout, follow, _>>=_}
+use Rattle.rules.specs.Request.{Request, Reader, end, byte, sidNumber, packedSid, group, u32, numberLayout, entriesLayout, createLayout, defaultsLayout, restrictLayout, evaluateLayout, follow, _>>=_}
 use Rattle.rules.specs.Decision.{carriedOut}
 use Rattle.rules.specs.Serve.{rule, decided}
 use Rattle.number.specs.Rest.{Rest, rest, lost, readFrom}
@@ -20,11 +22,12 @@ use Rattle.number.specs.declared.cursor.Cursor.{Cursor}
 use Rattle.number.specs.declared.cursor.Field.{Field}
 use Rattle.handle.specs.declared.Handle.{Handle}
 use Rattle.answer.specs.declared.Answer.the-variants as answers
-use Rattle.body.specs.Layout.{whole, valuesAt, There, NothingRead, NumberRead, Listed, EntriesRead, RestrictRead}
+use Rattle.body.specs.Layout.{whole, valuesAt, There, NothingRead, NumberRead, Listed, EntriesRead, RestrictRead, PackedCreateRead}
 use Rattle.decide.specs.declared.outcome.Outcome.{Outcome}
 use Rattle.decide.specs.Carried.{Ends, Carried}
 use Rattle.decide.proofs.Deciding.{refuses}
 use Rattle.create.specs.Create.{CreateCarried}
+use Rattle.create.specs.PackedCreate.{PackedCreateCarried}
 use Rattle.decide.specs.EntriesCarried.{EntriesCarried}
 use Rattle.copy.specs.Restrict.{RestrictCarried}
 use Rattle.evaluate.specs.Evaluate.{asks}
@@ -84,21 +87,33 @@ module _ (request : ℕ → List Entry → Request) (station : ℕ) {s : List �
 module _ (station : ℕ) {s : List ℕ} {c : Cursor} (ok : Bool) {hs : List Handle} {cs ts ds cs′ ts′ ds′ : List ℕ} (r : Outcome) (f : not ok ≡ false) where
   -- request 3
   pub create-served : (user session integrity present byDefault at count : ℕ)
-      → Listed s c group createLayout (requests.create user session integrity present byDefault (valuesAt group s at count)) ok at count
+      → Listed s c (group sidNumber) (createLayout sidNumber) (requests.create (byNumber user) session integrity present byDefault (valuesAt (group sidNumber) s at count)) ok at count
       → CreateCarried station user session integrity present byDefault s at count ts ds hs cs ts′ ds′ cs′ r
-      → LayoutCarried createLayout station s c ts ds hs cs ts′ ds′ cs′ r
+      → LayoutCarried (createLayout sidNumber) station s c ts ds hs cs ts′ ds′ cs′ r
   unfolding rule
   create-served user session integrity present byDefault at count n x =
-      served station r (requests.create user session integrity present byDefault (valuesAt group s at count)) ok (n .parsed) f (x .carried (valuesAt group s at count) [] (n .there (not-false ok f)))
+      let gs = valuesAt (group sidNumber) s at count in
+      served station r (requests.create (byNumber user) session integrity present byDefault gs) ok (n .parsed) f (x .carried gs [] (n .there (not-false ok f)))
 
-  -- request 10
-  pub restrict-served : (handle mark removed denyAt denyCount sidAt sidCount : ℕ)
-      → RestrictRead s c ok handle mark removed denyAt denyCount sidAt sidCount
-      → RestrictCarried station handle mark removed s denyAt denyCount sidAt sidCount ts ds hs cs ts′ ds′ cs′ r
-      → LayoutCarried restrictLayout station s c ts ds hs cs ts′ ds′ cs′ r
+  -- request 14
+  pub packed-create-served : (userAt session integrity present byDefault at count : ℕ)
+      → PackedCreateRead s c ok userAt session integrity present byDefault at count
+      → PackedCreateCarried station userAt session integrity present byDefault s at count ts ds hs cs ts′ ds′ cs′ r
+      → LayoutCarried (createLayout packedSid) station s c ts ds hs cs ts′ ds′ cs′ r
   unfolding rule
-  restrict-served handle mark removed denyAt denyCount sidAt sidCount n x =
-      served station r (requests.restrict handle mark removed (valuesAt u32 s denyAt denyCount) (valuesAt u32 s sidAt sidCount)) ok (n .sids .parsed) f (x .carried (valuesAt u32 s denyAt denyCount) (valuesAt u32 s sidAt sidCount) (record {
+  packed-create-served userAt session integrity present byDefault at count n x =
+      let gs = valuesAt (group packedSid) s at count in
+      let good = not-false ok f in
+      served station r (requests.create (bySid (sidIn (drop userAt s))) session integrity present byDefault gs) ok (n .groups .parsed) f (x .carried gs [] (n .groups .there good) (n .user good))
+
+  -- requests 10 and 15, by how they give SIDs
+  pub restrict-served : (p : Reader Given) (handle mark removed denyAt denyCount sidAt sidCount : ℕ)
+      → RestrictRead p s c ok handle mark removed denyAt denyCount sidAt sidCount
+      → RestrictCarried p station handle mark removed s denyAt denyCount sidAt sidCount ts ds hs cs ts′ ds′ cs′ r
+      → LayoutCarried (restrictLayout p) station s c ts ds hs cs ts′ ds′ cs′ r
+  unfolding rule
+  restrict-served p handle mark removed denyAt denyCount sidAt sidCount n x =
+      served station r (requests.restrict handle mark removed (valuesAt u32 s denyAt denyCount) (valuesAt p s sidAt sidCount)) ok (n .sids .parsed) f (x .carried (valuesAt u32 s denyAt denyCount) (valuesAt p s sidAt sidCount) (record {
         after = drop sidAt s;
         denied = n .deny (not-false ok f);
         later = [];

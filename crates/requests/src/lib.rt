@@ -4,7 +4,7 @@ ghost use Prim.Native.Nat.{_≤_, _<_};
 ghost use lib.ListN.{length};
 ghost use Rattle.rules.specs.State.{stationCount};
 ghost use Rattle.rules.specs.Request as rules;
-ghost use Rattle.rules.specs.Request.{end, numberLayout, createLayout, queryLayout, entriesLayout, scopeLayout, defaultsLayout, duplicateLayout, restrictLayout, linkLayout, evaluateLayout};
+ghost use Rattle.rules.specs.Request.{end, sidNumber, packedSid, numberLayout, createLayout, queryLayout, entriesLayout, scopeLayout, defaultsLayout, duplicateLayout, restrictLayout, linkLayout, evaluateLayout};
 ghost use Rattle.handle.specs.Words.{recordsIn};
 ghost use Rattle.state.specs.Parts.{Lent};
 ghost use Rattle.requests.specs.Layouts.{LayoutCarried};
@@ -64,7 +64,7 @@ pub fn create(
     control: &mut [u64],
 ) -> Outcome
     requires { ⌜ Lent (now tokens) (now dacls) (now control) × (station < stationCount) ⌝ }
-    ensures { λ r. ⌜ LayoutCarried createLayout station (now (s .entry)) c (now (tokens .entry)) (now (dacls .entry)) (recordsIn (now (handles .entry))) (now (control .entry)) (now (tokens .exit)) (now (dacls .exit)) (now (control .exit)) r ⌝ }
+    ensures { λ r. ⌜ LayoutCarried (createLayout sidNumber) station (now (s .entry)) c (now (tokens .entry)) (now (dacls .entry)) (recordsIn (now (handles .entry))) (now (control .entry)) (now (tokens .exit)) (now (dacls .exit)) (now (control .exit)) r ⌝ }
 {
     let f = layout::create(s, c);
     if !f.ok {
@@ -197,7 +197,7 @@ pub fn restrict(
     control: &mut [u64],
 ) -> Outcome
     requires { ⌜ Lent (now tokens) (now dacls) (now control) × (station < stationCount) ⌝ }
-    ensures { λ r. ⌜ LayoutCarried restrictLayout station (now (s .entry)) c (now (tokens .entry)) (now (dacls .entry)) (recordsIn (now (handles .entry))) (now (control .entry)) (now (tokens .exit)) (now (dacls .exit)) (now (control .exit)) r ⌝ }
+    ensures { λ r. ⌜ LayoutCarried (restrictLayout sidNumber) station (now (s .entry)) c (now (tokens .entry)) (now (dacls .entry)) (recordsIn (now (handles .entry))) (now (control .entry)) (now (tokens .exit)) (now (dacls .exit)) (now (control .exit)) r ⌝ }
 {
     let f = layout::restrict(s, c);
     if !f.ok {
@@ -260,6 +260,44 @@ pub fn revert(
         return outcome::refused(refusal::MALFORMED);
     }
     impersonate::revert(station, handles, tokens, dacls, control)
+}
+
+pub fn create_packed(
+    station: u32,
+    s: &[u8],
+    c: Cursor,
+    handles: &[u64; HANDLE_WORDS],
+    tokens: &mut [u64],
+    dacls: &mut [u8],
+    control: &mut [u64],
+) -> Outcome
+    requires { ⌜ Lent (now tokens) (now dacls) (now control) × (station < stationCount) ⌝ }
+    ensures { λ r. ⌜ LayoutCarried (createLayout packedSid) station (now (s .entry)) c (now (tokens .entry)) (now (dacls .entry)) (recordsIn (now (handles .entry))) (now (control .entry)) (now (tokens .exit)) (now (dacls .exit)) (now (control .exit)) r ⌝ }
+{
+    let f = layout::create_packed(s, c);
+    if !f.ok {
+        return outcome::refused(refusal::MALFORMED);
+    }
+    create::create_packed(station, f, s, handles, tokens, dacls, control)
+}
+
+pub fn restrict_packed(
+    station: u32,
+    s: &[u8],
+    c: Cursor,
+    handles: &[u64; HANDLE_WORDS],
+    tokens: &mut [u64],
+    dacls: &mut [u8],
+    control: &mut [u64],
+) -> Outcome
+    requires { ⌜ Lent (now tokens) (now dacls) (now control) × (station < stationCount) ⌝ }
+    ensures { λ r. ⌜ LayoutCarried (restrictLayout packedSid) station (now (s .entry)) c (now (tokens .entry)) (now (dacls .entry)) (recordsIn (now (handles .entry))) (now (control .entry)) (now (tokens .exit)) (now (dacls .exit)) (now (control .exit)) r ⌝ }
+{
+    let f = layout::restrict_packed(s, c);
+    if !f.ok {
+        return outcome::refused(refusal::MALFORMED);
+    }
+    restrict_packed::restrict_packed(station, f, s, handles, tokens, dacls, control)
 }
 
 pub fn link(

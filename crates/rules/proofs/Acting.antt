@@ -32,7 +32,7 @@ use Rattle.rules.specs.Request.{parse, Request}
 use Rattle.rules.specs.Restrict as Restrict
 use Rattle.rules.specs.Run.{Serving, servedBy}
 use Rattle.rules.specs.Serve.{rule, decided, decision, serve}
-use Rattle.rules.specs.State.{State, withTokens, withHandles, withStations, withPairs, held, setPair, stationAt, changeStation, setToken, clientAt, setClient, numberOf, putToken, changeToken, used, addToken, addHandle, dropHandle, clientToken, released}
+use Rattle.rules.specs.State.{State, withTokens, withHandles, withStations, withPairs, held, setPair, stationAt, changeStation, setToken, clientAt, setClient, numberOf, putToken, changeToken, used, addToken, addHandle, dropHandle, clientToken, entering, withSids, released}
 use Rattle.rules.specs.Station.{Station, Client, noClient, startStation, withToken, withClient}
 use Rattle.rules.specs.Table.{lives}
 use Rattle.rules.specs.Token.{Token}
@@ -113,7 +113,7 @@ module _ (d : State) (s : ℕ) where
   sets e c r same q k = ⊎-elim (λ h. inl (ap (λ xs. getD (changeAt s (withClient c) xs) k startStation .client) same ∙ h)) (λ h. inr (h, q)) (other-station (d .stations) s k (withClient c))
 
   leaves : (r : Read Request) → Ends (Leaves r) (decided d s r)
-  unfolding decided rule Ends Leaves setsClient SameStations clientAt stationAt withHandle issued OpenClose.openOwn OpenClose.close Create.create Query.query AdjustPrivileges.adjust AdjustGroups.adjust AdjustScope.scope AdjustDefaults.adjust Duplicate.duplicate Restrict.restrict Install.install Impersonate.impersonate Impersonate.revert Link.withBoth Link.link Link.linked Link.getLinked Evaluate.evaluate released addToken addHandle dropHandle setPair withPairs withHandles withTokens used changeToken putToken
+  unfolding decided rule Ends Leaves setsClient SameStations clientAt stationAt withHandle issued OpenClose.openOwn OpenClose.close Create.create Create.createNumbered entering withSids Query.query AdjustPrivileges.adjust AdjustGroups.adjust AdjustScope.scope AdjustDefaults.adjust Duplicate.duplicate Restrict.restrict Restrict.restrictNumbered Install.install Impersonate.impersonate Impersonate.revert Link.withBoth Link.link Link.linked Link.getLinked Evaluate.evaluate released addToken addHandle dropHandle setPair withPairs withHandles withTokens used changeToken putToken
   leaves bad = λ h. absurd (not-both h refl)
   leaves (got (Request.openOwn mask) bytes) = λ ok room k. inl refl
   leaves (got (Request.close n) bytes) = λ known k. inl refl

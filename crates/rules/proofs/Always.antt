@@ -20,13 +20,13 @@ use Rattle.rules.specs.Run.{returned, after, answered, ofBytes, eventsOf
 use Rattle.rules.specs.State.{stationCount, start, withStations, stationAt, changeStation, numberOf, handleNumber, State}
 use Rattle.rules.specs.Station.{startStation, withPending, cleared, brokenOff, Station}
 use Rattle.rules.specs.Token.{Token}
-use Rattle.rules.specs.Valid.{isByte, isPart, streamValid, valid}
+use Rattle.rules.specs.Valid.{isByte, isPart, streamValid, valid, isListed}
 use Rattle.rules.proofs.Computes.{computes}
 use Rattle.rules.specs.Throughout.{IsAnswer}
 use Rattle.rules.proofs.Logic.{and-l, and-r, and-i, all-mem, mem-none, mem-append, getD-mem, map-mem, mem-map, all-append}
 use Rattle.rules.proofs.Tables.{on-if, only-one}
 use Rattle.rules.proofs.Facts.{StateFacts}
-use Rattle.rules.proofs.Changes.{carried, of-later, later-refl, handles-refl, OnlyStream, only-pending, only-cleared, only-broken, stream-facts}
+use Rattle.rules.proofs.Changes.{carried, of-later, later-refl, handles-refl, sids-refl, OnlyStream, only-pending, only-cleared, only-broken, stream-facts}
 use Rattle.rules.proofs.PrivilegesKept.{sound}
 use Rattle.rules.proofs.Steps.{Advance, stays, _then_}
 use Rattle.rules.proofs.Kept.{serve-step}
@@ -72,7 +72,7 @@ in-frame bytes h = by-length (lengthOf bytes) (first bytes h)
 -- another stream at a station, that could have come from a stream
 streams : (p : State) (s : ℕ) (f : Station → Station) → OnlyStream f → ((x : Station) → streamValid (f x) ≡ true) → StateFacts p → Advance p (changeStation s f p)
 unfolding changeStation withStations
-streams p s f e ok k = record { facts = stream-facts p s f e (λ x m. ok x) k; later = later-refl (p .tokens); handles = handles-refl (p .handles) }
+streams p s f e ok k = record { facts = stream-facts p s f e (λ x m. ok x) k; later = later-refl (p .tokens); handles = handles-refl (p .handles); sids = sids-refl (p .sids) }
 
 pub clears : (p : State) (s : ℕ) → StateFacts p → Advance p (changeStation s cleared p)
 unfolding cleared withPending streamValid all isPart framed framedBy lengthOf implies
@@ -217,6 +217,10 @@ module _ (σ : State) (f : StateFacts σ) where
   token-given : (t : Token) → Live t σ → (1 ≤ t .number) × (t .number < σ .tokens .next)
   unfolding Live numberOf
   token-given t m = f .loose .tokens .given (t .number) (map-mem numberOf m)
+
+  pub sids-listed : (t : Token) → Live t σ → isListed (σ .sids) t ≡ true
+  unfolding Live
+  sids-listed t m = f .loose .listed t m
 
   -- numbers are from 1, and the largest of their type is never given
   pub handle-numbers : (h : Handle) → LiveHandle h σ → (1 ≤ h .number) × (h .number < max32)

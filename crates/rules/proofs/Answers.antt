@@ -1,7 +1,7 @@
 -- Every answer fits: on a valid state each is one valid frame of at most 1,024 bytes. Assumes nothing.
 use Prim.Native.Nat.{ℕ, zero, suc, _+_, _*_, _^_, _≤_, _<_}
 use native.Mathlib.Omega.{arith}
-use mathlib.Core.Path.{_≡_, refl, ap}
+use mathlib.Core.Path.{_≡_, refl, ap, subst, sym}
 use mathlib.Core.Bool.{Bool, true, false}
 use mathlib.Core.Logic.{_⊎_, ⊎-elim}
 use mathlib.Core.List.{List, [], _∷_, _++_}
@@ -11,6 +11,7 @@ use native.Mathlib.Nat.{pow-suc}
 use lib.Dec.{leb}
 use lib.ListN.{length, getD, take, drop, length-append, length-take}
 use borrow.Author.Tests.{ltb-true, leb-true}
+use Rattle.rules.specs.Given.{Given}
 use Rattle.rules.specs.Acting.{ActsFor}
 use Rattle.rules.specs.AdjustDefaults as AdjustDefaults
 use Rattle.rules.specs.AdjustGroups as AdjustGroups
@@ -43,7 +44,7 @@ use Rattle.rules.specs.Request.{group, parse, Request}
 use Rattle.rules.specs.Restrict as Restrict
 use Rattle.rules.specs.Run.{after}
 use Rattle.rules.specs.Serve.{rule, decided, decision, serve}
-use Rattle.rules.specs.State.{withTokens, clientAt, numberOf, tokenOf, held, putToken, changeToken, used, handleOf, State}
+use Rattle.rules.specs.State.{withTokens, clientAt, numberOf, tokenOf, held, putToken, changeToken, used, handleOf, entering, withSids, State}
 use Rattle.rules.specs.Station.{noClient, Client}
 use Rattle.rules.specs.Token.{primary, impersonation, maxGroups, sidAt, Token}
 use Rattle.rules.specs.Valid.{is32, is64, between, identityValid, groupValid, limitsValid, defaultsValid}
@@ -56,7 +57,7 @@ use Rattle.rules.proofs.Numbers.{encode-width}
 use Rattle.rules.proofs.Tables.{on-if}
 use Rattle.rules.proofs.Facts.{TokenFacts, StateFacts, few-groups, each-group, between-high}
 use Rattle.rules.proofs.PrivilegesKept.{sound}
-use Rattle.rules.proofs.Steps.{token-ok, Found, found-handle}
+use Rattle.rules.proofs.Steps.{token-ok, Found, found-handle, enter-handle}
 use Rattle.rules.proofs.Kept.{in-force}
 use Rattle.rules.proofs.Acting.{acting}
 use Rattle.rules.proofs.Frames.{frame-whole}
@@ -348,8 +349,13 @@ module _ (σ : State) (f : StateFacts σ) (s : ℕ) where
   evaluates n c = on-handle n _ _ λ k.
       (omega arith, λ ok. on-if (λ (x : ℕ). length (encode x) ≤ most) (holds (tokenOf σ (handleOf σ s n .token)) c) 1 0 (λ t. omega (arith, word 1 (omega arith))) (λ t. omega (arith, word 0 (omega arith))))
 
+  restricts : (n mark removed : ℕ) (deny : List ℕ) (given : List Given) → Fits (Restrict.restrict σ s n mark removed deny given)
+  unfolding Restrict.restrict Restrict.restrictNumbered issued entering withSids Fits refusal
+  restricts n mark removed deny given =
+      subst Fits (sym (enter-handle given σ s n _ _)) (on-handle n _ _ λ k. (omega arith, λ a. (omega arith, λ b. next-handle)))
+
   by-rule : (r : Request) → Fits (rule σ s r)
-  unfolding rule OpenClose.openOwn OpenClose.close Create.create AdjustScope.scope AdjustDefaults.adjust Duplicate.duplicate Restrict.restrict Install.install Link.withBoth Link.link Link.getLinked issued used changeToken putToken withTokens Fits refusal
+  unfolding rule OpenClose.openOwn OpenClose.close Create.create Create.createNumbered entering withSids AdjustScope.scope AdjustDefaults.adjust Duplicate.duplicate Install.install Link.withBoth Link.link Link.getLinked issued used changeToken putToken withTokens Fits refusal
   by-rule (Request.openOwn mask) = (omega arith, λ a. (omega arith, λ b. next-handle))
   by-rule (Request.close n) = (omega arith, λ a. omega arith)
   by-rule (Request.create user session integrity present byDefault gs) = (omega arith, λ a. (omega arith, λ b. (omega arith, λ c. next-handle)))
@@ -359,7 +365,7 @@ module _ (σ : State) (f : StateFacts σ) (s : ℕ) where
   by-rule (Request.scope n v) = on-handle n _ _ λ k. (omega arith, λ a. omega arith)
   by-rule (Request.defaults n owner group flag bytes) = on-handle n _ _ λ k. (omega arith, λ a. omega arith)
   by-rule (Request.duplicate n type level mask) = on-handle n _ _ λ k. (omega arith, λ a. (omega arith, λ b. next-handle))
-  by-rule (Request.restrict n mark removed deny sids) = on-handle n _ _ λ k. (omega arith, λ a. (omega arith, λ b. next-handle))
+  by-rule (Request.restrict n mark removed deny sids) = restricts n mark removed deny sids
   by-rule (Request.install n) = on-handle n _ _ λ k. (omega arith, λ a. (omega arith, λ b. (omega arith, λ c. omega arith)))
   by-rule (Request.impersonate n) = impersonates n
   by-rule Request.revert = reverts

@@ -7,9 +7,11 @@ use mathlib.Core.Logic.{_⊎_, inl, inr, ⊎-elim}
 use mathlib.Core.List.{List, [], _∷_, _++_, map}
 use lib.Dec.{leb, ltb}
 use lib.ListN.{length, take, drop, getD, length-map}
-use lib.Seq.{drop-at}
+use lib.Seq.{drop-at, drop-drop}
 use Rattle.table.specs.Table.{flat, length-flat}
 use Rattle.table.specs.Column.{column}
+use Rattle.rules.specs.Sid.{Sid}
+use Rattle.rules.specs.SidRows.{sidWords, writeSids}
 use Rattle.rules.specs.Basic.{changeAt}
 use Rattle.rules.specs.Refusal.{ranks, streamBroken, noStation, shortBuffer, invalidMemory}
 use Rattle.rules.specs.Table.{Slot, Table}
@@ -21,7 +23,7 @@ use Rattle.rules.specs.State.{State, start, stationCount, pairSlots, sta
 use Rattle.rules.specs.Serve.{serve}
 use Rattle.rules.specs.Frame.{maxAnswer, frame, lengthOf, framedBy, framed, Framed, part, broken, whole}
 use Rattle.rules.specs.Model.{Result, Step, silent, answers, joined, byteAt, step, fedOn, fedFrom, reconnect}
-use Rattle.rules.specs.Memory.{Memory, stationWords, pairWords, primaryWord, clientWord, levelWord, pairsIn, slotRow, slotDacl, slotHandle, stationRow, slotPair, sections, control, encode, decode, valid}
+use Rattle.rules.specs.Memory.{Memory, stationWords, pairWords, primaryWord, clientWord, levelWord, pairsIn, slotRow, slotDacl, slotHandle, stationRow, slotPair, sections, control, encode, decode, valid, sidsIn}
 use Rattle.rules.specs.Run.{Call, feeds, reconnects, returned, ofBytes, SameRights}
 use Rattle.rules.specs.Growth.{Mem, here, there}
 use Rattle.rules.specs.Calls.{Done, refusedOn, written, feedOn, reconnectOn}
@@ -129,17 +131,25 @@ module _ {A : Type 0} (p : Station → A) (h : A → ℕ) (k : ℕ) (word : (x :
 same-length : {A : Type 0} (p : Station → A) (xs ys : List Station) → map p xs ≡ map p ys → length xs ≡ length ys
 same-length p xs ys e = sym (length-map xs p) ∙ ap length e ∙ length-map ys p
 
--- the pairs stand behind the stations' rows
-pairs-behind : (a b : ℕ) (xs : List Station) (l : List ℕ) → length xs ≡ stationCount → pairsIn (a ∷ b ∷ (flat stationRow xs ++ l)) ≡ take (pairSlots * pairWords) l
-pairs-behind a b xs l e =
-    ap (take (pairSlots * pairWords)) (drop-at (flat stationRow xs) l (stationCount * stationWords) (length-flat stationRow stationWords length-stationRow xs ∙ ap (λ (n : ℕ). n * stationWords) e))
+-- the pairs and the SID table stand behind the stations' rows
+module _ (a b : ℕ) (xs : List Station) (l : List ℕ) (e : length xs ≡ stationCount) where
+  behind-rows : drop (stationCount * stationWords) (flat stationRow xs ++ l) ≡ l
+  behind-rows = drop-at (flat stationRow xs) l (stationCount * stationWords) (length-flat stationRow stationWords length-stationRow xs ∙ ap (λ (n : ℕ). n * stationWords) e)
+
+  pairs-behind : pairsIn (a ∷ b ∷ (flat stationRow xs ++ l)) ≡ take (pairSlots * pairWords) l
+  pairs-behind = ap (take (pairSlots * pairWords)) behind-rows
+
+  sids-behind : sidsIn (a ∷ b ∷ (flat stationRow xs ++ l)) ≡ take sidWords (drop (pairSlots * pairWords) l)
+  sids-behind =
+      ap (take sidWords) (sym (drop-drop (pairSlots * pairWords) (stationCount * stationWords) (flat stationRow xs ++ l)) ∙ ap (drop (pairSlots * pairWords)) behind-rows)
 
 rights-left : {p q : State} → length (p .stations) ≡ stationCount → SameRights p q → LeftAlone (encode p) (encode q)
 unfolding encode control sections flat counters stationColumn stationRow stationToken stationClient
 rights-left {p} {q} long h =
     let t = sym (h .tokens) in
-    let behind : State → List ℕ = λ x. flat slotPair (x .pairs) ++ [] in
-    let same : behind q ≡ behind p = ap (λ (ps : List (Slot Pair)). flat slotPair ps ++ []) (sym (h .pairs)) in
+    let behind : State → List ℕ = λ x. flat slotPair (x .pairs) ++ (writeSids (x .sids) ++ []) in
+    let same : behind q ≡ behind p = ap₂ (λ (ps : List (Slot Pair)) (ss : List Sid). flat slotPair ps ++ (writeSids ss ++ [])) (sym (h .pairs)) (sym (h .sids)) in
+    let long-q = same-length stationToken (q .stations) (p .stations) (sym (h .primary)) ∙ long in
     let at : ℕ → List ℕ → List ℕ = λ k l. column stationWords stationCount (drop k (flat stationRow (q .stations) ++ l)) in
     record {
       tokens = ap (λ (x : Table Token). flat slotRow (x .slots)) t;
@@ -150,8 +160,11 @@ rights-left {p} {q} long h =
       clients = ap (at clientWord) same ∙ same-column stationClient (λ c. c .token) clientWord (λ x l. refl) (λ x l. refl) stationCount (q .stations) (p .stations) (behind p) (sym (h .clients));
       levels = ap (at levelWord) same ∙ same-column stationClient (λ c. c .level) levelWord (λ x l. refl) (λ x l. refl) stationCount (q .stations) (p .stations) (behind p) (sym (h .clients));
       pairs =
-          pairs-behind (q .tokens .next) (q .handles .next) (q .stations) (behind q) (same-length stationToken (q .stations) (p .stations) (sym (h .primary)) ∙ long)
+          pairs-behind (q .tokens .next) (q .handles .next) (q .stations) (behind q) long-q
           ∙ ap (take (pairSlots * pairWords)) same ∙ sym (pairs-behind (p .tokens .next) (p .handles .next) (p .stations) (behind p) long);
+      sids =
+          sids-behind (q .tokens .next) (q .handles .next) (q .stations) (behind q) long-q
+          ∙ ap (λ (l : List ℕ). take sidWords (drop (pairSlots * pairWords) l)) same ∙ sym (sids-behind (p .tokens .next) (p .handles .next) (p .stations) (behind p) long);
     }
 
 -- ---- a call
@@ -172,7 +185,7 @@ module _ (m : Memory) where
       record {
         isAnswer = e .isAnswer;
         status = e .status;
-        leftAlone = λ z. record { tokens = refl; dacls = refl; handles = refl; counted = refl; primary = refl; clients = refl; levels = refl; pairs = refl };
+        leftAlone = λ z. record { tokens = refl; dacls = refl; handles = refl; counted = refl; primary = refl; clients = refl; levels = refl; pairs = refl; sids = refl };
         listed = i;
         refused = λ k. refl;
       }

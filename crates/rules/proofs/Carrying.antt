@@ -1,10 +1,11 @@
 -- What a request leaves alone of every token: any relation that holds of a token and itself, goes on, and holds over the used marks and over
 -- the request's own change of the token that it is on holds of each token before and after it. Assumes nothing.
 use Prim.Native.Nat.{ℕ, _<_}
-use mathlib.Core.Path.{_≡_, refl, sym}
+use mathlib.Core.Path.{_≡_, refl, sym, subst}
 use mathlib.Core.Logic.{_⊎_, inl, inr, ⊎-elim}
-use mathlib.Core.List.{List}
+use mathlib.Core.List.{List, _∷_, map}
 use lib.Dec.{eqb}
+use Rattle.rules.specs.Given.{Given, GivenGroup, groupSid}
 use Rattle.rules.specs.AdjustDefaults as AdjustDefaults
 use Rattle.rules.specs.AdjustGroups as AdjustGroups
 use Rattle.rules.specs.AdjustPrivileges as AdjustPrivileges
@@ -30,13 +31,13 @@ use Rattle.rules.specs.Request.{parse, Request}
 use Rattle.rules.specs.Restrict as Restrict
 use Rattle.rules.specs.Run.{Serving, servedBy}
 use Rattle.rules.specs.Serve.{rule, decided, decision, serve}
-use Rattle.rules.specs.State.{State, stationCount, withHandles, withStations, withPairs, changeStation, setToken, setClient, tokenOf, held, changeToken, usedOn, used, addToken, handleOf, addHandle, dropHandle, setPair, released}
+use Rattle.rules.specs.State.{State, stationCount, withHandles, withStations, withPairs, changeStation, setToken, setClient, tokenOf, held, changeToken, usedOn, used, addToken, handleOf, addHandle, dropHandle, setPair, entering, withSids, released}
 use Rattle.rules.specs.Token.{Token, full, limited, primary, newToken, withPrivileges, withGroups, withDefaults, withElevation, withScope, nextModified}
 use Rattle.rules.proofs.Logic.{not-both}
 use Rattle.rules.proofs.Tables.{on-if}
 use Rattle.rules.proofs.Facts.{StateFacts}
 use Rattle.rules.proofs.Changes.{Carries, carried, carries-refl, carries-trans, put-carries, add-carries, release-carries}
-use Rattle.rules.proofs.Steps.{Is, Found, Ends, ended, after-handle, after-both, install-marked, client-marked}
+use Rattle.rules.proofs.Steps.{Is, Found, Ends, ended, after-handle, after-both, install-marked, client-marked, enter-handle, enter-used}
 use Rattle.rules.proofs.Kept.{changed-is, mark, marks-carry, marked-next}
 use Rattle.rules.proofs.Ladder.{succeeds-or-same}
 use Rattle.rules.proofs.Always.{Onward}
@@ -146,18 +147,35 @@ module _ (R : Token → Token → Type 0) (l : Lasting R) (d : State) (f : State
   gets-linked n = on-handle n _ _ λ k paired.
       on-if (Ends Goes) (held d s tcb) _ _ (λ h room. marked tcb) (λ h room. issues _ _ d refl stay)
 
+  -- SIDs that enter change no token
+  enters : (xs : List Given) (e : State) → Goes e → Goes (entering xs e)
+  unfolding Goes entering withSids
+  enters xs e a = a
+
+  creates : (user : Given) (session integrity present byDefault : ℕ) (gs : List GivenGroup) → Ends Goes (Create.create d s user session integrity present byDefault gs)
+  unfolding Create.create Create.createNumbered Ends newToken
+  creates user session integrity present byDefault gs may ok room =
+      let xs = user ∷ map groupSid gs in
+      let e = used createToken s (entering xs d) in
+      issues _ _ e (sym (marked-next (entering xs d) s createToken)) (subst Goes (sym (enter-used xs d createToken s)) (enters xs _ (marked createToken)))
+
+  restricts : (n mark removed : ℕ) (deny : List ℕ) (given : List Given) → Ends Goes (Restrict.restrict d s n mark removed deny given)
+  unfolding Restrict.restrict Restrict.restrictNumbered Restrict.restricted Ends
+  restricts n mark removed deny given =
+      subst (Ends Goes) (sym (enter-handle given d s n _ _)) (on-handle n _ _ λ k ok room. issues _ _ (entering given d) refl (enters given d stay))
+
   by-rule : (r : Request) → Allows R d s r → Ends Goes (rule d s r)
-  unfolding rule Ends Goes OpenClose.openOwn OpenClose.close Create.create Query.query AdjustPrivileges.adjust AdjustPrivileges.adjustedToken AdjustGroups.adjust AdjustGroups.adjustedToken AdjustDefaults.adjust AdjustDefaults.adjustedToken Duplicate.duplicate Restrict.restrict Restrict.restricted Install.install Impersonate.impersonate Impersonate.revert Evaluate.evaluate newToken withPrivileges withGroups withDefaults nextModified addHandle dropHandle setToken setClient changeStation withHandles withStations
+  unfolding rule Ends Goes OpenClose.openOwn OpenClose.close Query.query AdjustPrivileges.adjust AdjustPrivileges.adjustedToken AdjustGroups.adjust AdjustGroups.adjustedToken AdjustDefaults.adjust AdjustDefaults.adjustedToken Duplicate.duplicate Install.install Impersonate.impersonate Impersonate.revert Evaluate.evaluate newToken withPrivileges withGroups withDefaults nextModified addHandle dropHandle setToken setClient changeStation withHandles withStations
   by-rule (Request.openOwn mask) r = λ ok room. stay
   by-rule (Request.close n) r = λ known. frees (dropHandle s n d) stay
-  by-rule (Request.create u e i p b gs) r = λ may ok room. issues _ _ (used createToken s d) (sym (marked-next d s createToken)) (marked createToken)
+  by-rule (Request.create u e i p b gs) r = creates u e i p b gs
   by-rule (Request.query n class capacity) r = on-handle n _ _ λ k ok fits. stay
   by-rule (Request.privileges n es) r = on-handle n _ _ λ k ok. changes d _ (AdjustPrivileges.adjustedToken es) (k .token) (λ t. refl) (r .privileges n es refl) stay
   by-rule (Request.groups n es) r = on-handle n _ _ λ k ok may. changes d _ (AdjustGroups.adjustedToken es) (k .token) (λ t. refl) (r .groups n es refl) stay
   by-rule (Request.scope n v) r = scopes n v (r .scope n v refl)
   by-rule (Request.defaults n o g x bytes) r = on-handle n _ _ λ k ok. changes d _ (AdjustDefaults.adjustedToken o g x bytes) (k .token) (λ t. refl) (r .defaults n o g x bytes refl) stay
   by-rule (Request.duplicate n type level mask) r = on-handle n _ _ λ k ok room. issues mask _ d (duplicate-number (d .tokens .next) type level _) stay
-  by-rule (Request.restrict n mark removed deny sids) r = on-handle n _ _ λ k ok room. issues _ _ d refl stay
+  by-rule (Request.restrict n mark removed deny sids) r = restricts n mark removed deny sids
   by-rule (Request.install n) r = on-handle n _ _ λ k may ok match. frees (setToken s _ _) (install-marks _)
   by-rule (Request.impersonate n) r = on-handle n _ _ λ k ok gate. frees (setClient s _ _) (client-marks _)
   by-rule Request.revert r = frees (setClient s _ d) stay

@@ -6,7 +6,7 @@ use mathlib.Core.List.{List, [], _∷_}
 use Rattle.rules.proofs.Computes.{computes}
 use Rattle.rules.proofs.Logic.{and-l, and-r, not-both}
 use Rattle.rules.proofs.Same.{same-eq}
-use Rattle.rules.specs.Memory.{same}
+use Rattle.rules.specs.Basic.{same}
 use Rattle.rules.specs.Cases.{Row, _gives_, _is_, Holds, table, at, answersFrom, answers, openWith, adjust, queryWords, status, handle, handles, words}
 
 sames : List (List ℕ) → List (List ℕ) → Bool

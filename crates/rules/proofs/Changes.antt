@@ -5,24 +5,28 @@ use native.Mathlib.Omega.{arith}
 use mathlib.Core.Path.{_≡_, refl, sym, ap, ap₂, _∙_, subst}
 use mathlib.Core.Bool.{true, false}
 use mathlib.Core.Logic.{_⊎_, inl, inr, ⊎-elim}
-use mathlib.Core.List.{List, [], _∷_, _++_, map}
-use lib.ListN.{length}
+use mathlib.Core.List.{List, [], _∷_, _++_, map, append-nil, append-assoc}
+use lib.ListN.{length, drop, take-append-drop}
 use borrow.Author.Tests.{eq-eqb}
-use Rattle.rules.specs.Basic.{distinct, nonZero, changeAt}
+use Rattle.rules.specs.Basic.{all, distinct, nonZero, changeAt}
 use Rattle.rules.specs.Decision.{canIssue}
-use Rattle.rules.specs.Growth.{Mem, Live, Follows, Later, HandlesLater}
+use Rattle.rules.specs.Growth.{Mem, Live, Follows, Later, HandlesLater, SidsLater}
+use Rattle.rules.specs.Given.{Given, enteredAll}
 use Rattle.rules.specs.Handle.{isHandle, Handle}
 use Rattle.rules.specs.Linking.{InPair, Linked}
 use Rattle.rules.specs.Number.{max32, max64}
 use Rattle.rules.specs.Pair.{isOf, Pair}
-use Rattle.rules.specs.State.{tokenSlots, handleSlots, withTokens, withHandles, withStations, changeStation, setToken, setClient, numberOf, isNumbered, putToken, canAddToken, addToken, handleNumber, canAddHandle, addHandle, dropHandle, pairSlots, withPairs, hasPair, setPair, handleToken, stationToken, clientToken, elevatedToken, filteredToken, references, isReferred, released, State}
+use Rattle.rules.specs.Sid.{Sid}
+use Rattle.rules.specs.SidTable.{isNumber, sidsValid}
+use Rattle.rules.specs.State.{tokenSlots, handleSlots, withSids, entering, withTokens, withHandles, withStations, changeStation, setToken, setClient, numberOf, isNumbered, putToken, canAddToken, addToken, handleNumber, canAddHandle, addHandle, dropHandle, pairSlots, withPairs, hasPair, setPair, handleToken, stationToken, clientToken, elevatedToken, filteredToken, references, isReferred, released, State}
 use Rattle.rules.specs.Station.{noClient, withToken, withClient, withPending, cleared, brokenOff, Station, Client}
 use Rattle.rules.specs.Table.{isLive, lives, withSlots, canAdd, added, found, retained, Slot, Table, free, live}
-use Rattle.rules.specs.Token.{primary, impersonation, defaultElevation, Token, Identity}
-use Rattle.rules.specs.Valid.{handleValid, streamValid, sessionOf}
-use Rattle.rules.proofs.Logic.{and-l, not-both, mem-nonZero, nonZero-mem, mem-left, mem-right, mem-append, length-changeAt, mem-changeAt, map-mem, mem-by, mem-map}
+use Rattle.rules.specs.Token.{primary, impersonation, defaultElevation, Token, Identity, Limits}
+use Rattle.rules.specs.Valid.{handleValid, streamValid, sessionOf, sidNumbers, isListed}
+use Rattle.rules.proofs.Logic.{and-l, all-mem, mem-all, not-both, mem-nonZero, nonZero-mem, mem-left, mem-right, mem-append, length-changeAt, mem-changeAt, map-mem, mem-by, mem-map}
 use Rattle.rules.proofs.Bits.{within-refl, within-trans}
 use Rattle.rules.proofs.Tables.{on-if, in-placed, placed-new, length-placed, found-none, in-exchanged, exchanged-new, length-exchanged, distinct-placed, some-free, in-retained, retained-in, number-placed, placed-number, in-freed, number-freed, same-numbers, only-one}
+use Rattle.rules.proofs.SidNumbers.{number-more, enteredAll-prefix, enteredAll-long}
 use Rattle.rules.proofs.Facts.{TokenFacts, added-facts, put-facts, freed-facts, retained-facts, Acts, Loose, StateFacts, is-referred, referred-is}
 
 -- ---- what lasts, over any time
@@ -127,6 +131,17 @@ pub handles-trans : (x y z : Table Handle) → HandlesLater x y → HandlesLater
 handles-trans x y z a b =
     record { next = le-trans (a .next) (b .next); old = λ h m k. a .old h (b .old h m (let g = a .next in omega arith)) k }
 
+pub sids-refl : (x : List Sid) → SidsLater x x
+sids-refl x = record { more = []; behind = sym (append-nil x) }
+
+pub sids-trans : {x y z : List Sid} → SidsLater x y → SidsLater y z → SidsLater x z
+sids-trans {x} a b = record { more = a .more ++ b .more; behind = b .behind ∙ ap (λ (l : List Sid). l ++ b .more) (a .behind) ∙ append-assoc x (a .more) (b .more) }
+
+pub sids-entered : (xs : List Given) (x : List Sid) → SidsLater x (enteredAll xs x)
+sids-entered xs x =
+    let y = enteredAll xs x in
+    record { more = drop (length x) y; behind = sym (take-append-drop (length x) y) ∙ ap (λ (l : List Sid). l ++ drop (length x) y) (enteredAll-prefix xs x) }
+
 -- a new handle has the next number, and a dropped one leaves the others as they were
 pub handle-later : (d : State) (s n mask : ℕ) → HandlesLater (d .handles) (addHandle s n mask d .handles)
 unfolding addHandle withHandles added
@@ -211,6 +226,15 @@ module _ (d e : State) (l : Loose d) (later : Later (d .tokens) (e .tokens)) whe
   linked-later kept p m =
       still-linked (kept _ (by-elevated d (map-mem elevatedToken m))) (kept _ (by-filtered d (map-mem filteredToken m))) (l .pairs p m)
 
+-- ---- the SIDs that a token keeps
+
+pub still-listed : (sids : List Sid) (t u : Token) → Follows t u → isListed sids t ≡ true → isListed sids u ≡ true
+unfolding isListed sidNumbers
+still-listed sids t u f h =
+    let same : sidNumbers u ≡ sidNumbers t =
+    ap₂ (λ (i : Identity) (x : List ℕ × Limits). i .user ∷ (x .0 ++ x .1 .restricting)) (f .identity) (λ i. (f .sids i, f .limits i)) in
+    ap (all (isNumber sids)) same ∙ h
+
 -- ---- a token is put in the place of one that it follows
 
 pub put-numbers : (d : State) (u : Token) → numbersOf (putToken u d) ≡ numbersOf d
@@ -254,6 +278,8 @@ module _ (d : State) (t u : Token) (was : Mem t (lives (d .tokens .slots))) (f :
         pairsSized = l .pairsSized;
         sessions = l .sessions;
         pairs = linked-later d (putToken u d) l put-later (put-kept l);
+        sids = l .sids;
+        listed = λ v m. ⊎-elim (λ e. rw e (still-listed (d .sids) t u f (l .listed t was))) (l .listed v) (put-in d u m);
       }
 
   pub put-reached : ((n : ℕ) → Mem n (numbersOf d) → Mem n (references d)) → (n : ℕ) → Mem n (numbersOf (putToken u d)) → Mem n (references (putToken u d))
@@ -278,9 +304,9 @@ module _ (d : State) (t : Token) (number : t .number ≡ d .tokens .next) where
   unfolding addToken withTokens added
   add-kept l n m = placed-number numberOf t (d .tokens .slots) (l .live n m)
 
-  pub add-loose : canAddToken d ≡ true → TokenFacts t → Loose d → Loose (addToken t d)
+  pub add-loose : canAddToken d ≡ true → TokenFacts t → isListed (d .sids) t ≡ true → Loose d → Loose (addToken t d)
   unfolding addToken withTokens added references canAddToken numberOf
-  add-loose room g l =
+  add-loose room g known l =
       record {
         tokens = added-facts tokenSlots max64 numberOf (d .tokens) (l .tokens) t number room;
         handles = l .handles;
@@ -296,6 +322,8 @@ module _ (d : State) (t : Token) (number : t .number ≡ d .tokens .next) where
         pairsSized = l .pairsSized;
         sessions = l .sessions;
         pairs = linked-later d (addToken t d) l add-later (add-kept l);
+        sids = l .sids;
+        listed = λ v m. ⊎-elim (λ e. rw e known) (l .listed v) (in-placed t (d .tokens .slots) m);
       }
 
 -- ---- a new handle
@@ -321,6 +349,8 @@ module _ (d : State) (s n mask : ℕ) where
         pairsSized = l .pairsSized;
         sessions = l .sessions;
         pairs = linked-later d (addHandle s n mask d) l (later-refl (d .tokens)) (l .live);
+        sids = l .sids;
+        listed = l .listed;
       }
 
   -- every token but token n was referred to before
@@ -352,6 +382,8 @@ drop-loose d s n l =
       pairsSized = l .pairsSized;
       sessions = l .sessions;
       pairs = linked-later d (dropHandle s n d) l (later-refl (d .tokens)) (l .live);
+      sids = l .sids;
+      listed = l .listed;
     }
 
 -- ---- a session gets another pair: then too
@@ -414,6 +446,32 @@ pair-loose d p new l =
           ⊎-elim (λ e. subst (Linked (setPair p d)) (sym e) (still-linked d (setPair p d) l (later-refl (d .tokens)) i j new))
           (linked-later d (setPair p d) l (later-refl (d .tokens)) (l .live) q)
           (set-in d p m);
+      sids = l .sids;
+      listed = l .listed;
+    }
+
+-- ---- SIDs enter the table
+
+pub enter-loose : (d : State) (xs : List Given) → sidsValid (entering xs d .sids) ≡ true → Loose d → Loose (entering xs d)
+unfolding entering withSids references isListed
+enter-loose d xs ok l =
+    record {
+      tokens = l .tokens;
+      handles = l .handles;
+      stations = l .stations;
+      eachToken = l .eachToken;
+      eachHandle = l .eachHandle;
+      eachStation = l .eachStation;
+      live = l .live;
+      stationPrimary = l .stationPrimary;
+      clients = l .clients;
+      idle = l .idle;
+      pairsSized = l .pairsSized;
+      sessions = l .sessions;
+      pairs = linked-later d (entering xs d) l (later-refl (d .tokens)) (l .live);
+      sids = ok;
+      listed = λ t m.
+          mem-all (isNumber _) (sidNumbers t) (λ n k. number-more (d .sids) _ n (enteredAll-long xs (d .sids)) (all-mem (isNumber (d .sids)) (sidNumbers t) (l .listed t m) k));
     }
 
 -- ---- a change of one station
@@ -465,6 +523,8 @@ token-loose d s t was p l =
       pairsSized = l .pairsSized;
       sessions = l .sessions;
       pairs = linked-later d (setToken s (t .number) d) l (later-refl (d .tokens)) (l .live);
+      sids = l .sids;
+      listed = l .listed;
     }
   where
     token-set : (n : ℕ) → Mem n (map stationToken (changeAt s (withToken (t .number)) (d .stations))) → (n ≡ numberOf t) ⊎ Mem n (map stationToken (d .stations))
@@ -516,6 +576,8 @@ client-loose d s c may l =
       pairsSized = l .pairsSized;
       sessions = l .sessions;
       pairs = linked-later d (setClient s c d) l (later-refl (d .tokens)) (l .live);
+      sids = l .sids;
+      listed = l .listed;
     }
   where
     client-set : (n : ℕ) → Mem n (map clientToken (changeAt s (withClient c) (d .stations))) → 1 ≤ n → Mem n (numbersOf d)
@@ -570,6 +632,8 @@ stream-facts d s f only ok k =
         pairsSized = l .pairsSized;
         sessions = l .sessions;
         pairs = linked-later d (changeStation s f d) l (later-refl (d .tokens)) (l .live);
+        sids = l .sids;
+        listed = l .listed;
       };
       reached = λ n m. subst (Mem n) (sym same) (k .reached n m);
     }
@@ -602,6 +666,8 @@ release-facts d l =
         pairsSized = l .pairsSized;
         sessions = l .sessions;
         pairs = linked-later d (released d) l (release-later d) (release-kept d l);
+        sids = l .sids;
+        listed = λ v m. l .listed v (in-retained (isReferred d) (d .tokens .slots) m .0);
       };
       reached = λ n m. let r = mem-map numberOf (lives (retained (isReferred d) (d .tokens .slots))) m in is-referred d n (r .0) (r .2) (in-retained (isReferred d) (d .tokens .slots) (r .1) .1);
     }

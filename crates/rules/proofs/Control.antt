@@ -8,6 +8,7 @@ use mathlib.Core.List.{List, [], _∷_}
 use lib.ListN.{length, getD, set}
 use Rattle.table.specs.Table.{flat, put-record, length-flat, put-flat}
 use Rattle.table.specs.Sections.{Sectioned, sections-long, section-part}
+use Rattle.rules.specs.SidRows.{writeSids}
 use Rattle.rules.specs.Basic.{if_then_else_}
 use Rattle.rules.specs.Table.{live, someFree, placed, exchanged}
 use Rattle.rules.specs.Station.{Station, startStation}
@@ -15,12 +16,13 @@ use Rattle.rules.specs.Pair.{Pair, isOf}
 use Rattle.rules.specs.State.{State, withStations, stationAt, changeStation, withPairs, hasPair, canLink, setPair}
 use Rattle.rules.specs.Index.{freeIndex, foundIndex}
 use Rattle.rules.specs.Valid.{valid}
-use Rattle.rules.specs.Memory.{counterWords, stationWords, pairWords, stationSection, pairSection, controlSizes, controlWords, stationsIn, pairsIn, stationRow, pairRow, slotPair, sections, control}
+use Rattle.rules.specs.Memory.{counterWords, stationWords, pairWords, stationSection, pairSection, controlSizes, controlWords, stationsIn, pairsIn, stationRow, pairRow, slotPair, sections, control, sidSection, sidsIn}
 use Rattle.rules.proofs.Logic.{or-e, not-both, changeAt-set}
 use Rattle.rules.proofs.Tables.{on-if}
 use Rattle.rules.proofs.Index.{placed-set, exchanged-set, free-below, found-below}
 use Rattle.rules.proofs.Facts.{valid-facts}
 use Rattle.rules.proofs.Rows.{length-stationRow, length-slotPair}
+use Rattle.rules.proofs.SidWords.{length-sids}
 
 module _ (σ : State) (v : valid σ ≡ true) where
   pub control-sections : Sectioned controlSizes (sections σ) (control σ)
@@ -28,9 +30,11 @@ module _ (σ : State) (v : valid σ ≡ true) where
   control-sections = record {
     words = refl;
     fixed =
-        ap₂ (λ (n k : ℕ). counterWords ∷ n ∷ k ∷ [])
-        (length-flat stationRow stationWords length-stationRow (σ .stations) ∙ ap (λ (n : ℕ). n * stationWords) (valid-facts σ v .loose .stations))
-        (length-flat slotPair pairWords length-slotPair (σ .pairs) ∙ ap (λ (n : ℕ). n * pairWords) (valid-facts σ v .loose .pairsSized));
+        λ i. counterWords
+        ∷ (length-flat stationRow stationWords length-stationRow (σ .stations) ∙ ap (λ (n : ℕ). n * stationWords) (valid-facts σ v .loose .stations)) i
+        ∷ (length-flat slotPair pairWords length-slotPair (σ .pairs) ∙ ap (λ (n : ℕ). n * pairWords) (valid-facts σ v .loose .pairsSized)) i
+        ∷ length-sids (σ .sids) i
+        ∷ [];
   }
 
   pub control-long : length (control σ) ≡ controlWords
@@ -43,6 +47,10 @@ module _ (σ : State) (v : valid σ ≡ true) where
   pub pairs-read : pairsIn (control σ) ≡ flat slotPair (σ .pairs)
   unfolding sections
   pairs-read = section-part control-sections pairSection
+
+  pub sids-read : sidsIn (control σ) ≡ writeSids (σ .sids)
+  unfolding sections
+  sids-read = section-part control-sections sidSection
 
 -- in its words as in its pending bytes
 pub row-put : (row : Station → List ℕ) (w : ℕ) → ((x : Station) → length (row x) ≡ w) → (σ : State) (s : ℕ) (f : Station → Station) → s < length (σ .stations)

@@ -16,11 +16,12 @@ use Rattle.rules.specs.Link.{isOfSession}
 use Rattle.rules.specs.Linking.{InPair, Linked}
 use Rattle.rules.specs.Number.{max32, max64}
 use Rattle.rules.specs.Pair.{Pair}
+use Rattle.rules.specs.SidTable.{sidsValid}
 use Rattle.rules.specs.State.{tokenSlots, handleSlots, stationCount, pairSlots, numberOf, isNumbered, noToken, tokenOf, handleNumber, stationToken, clientToken, references, isReferred, State}
 use Rattle.rules.specs.Station.{Station, Client}
 use Rattle.rules.specs.Table.{orElse, lives, someFree, withSlots, canAdd, added, found, exchanged, retained, Slot, Table, free, live}
 use Rattle.rules.specs.Token.{primary, impersonation, defaultElevation, full, limited, maxGroups, newToken, Token, Identity}
-use Rattle.rules.specs.Valid.{is32, is64, between, identityValid, privilegesValid, groupValid, groupsValid, limitsValid, defaultsValid, tokenValid, handleValid, streamValid, tableValid, isToken, primaryAtStation, clientFits, clientAtStations, levelValid, sessionOf, pairFits, pairValid, pairsValid, valid}
+use Rattle.rules.specs.Valid.{is32, is64, between, identityValid, privilegesValid, groupValid, groupsValid, limitsValid, defaultsValid, tokenValid, handleValid, streamValid, tableValid, isToken, primaryAtStation, clientFits, clientAtStations, levelValid, sessionOf, pairFits, pairValid, pairsValid, isListed, valid}
 use Rattle.rules.proofs.Logic.{and-l, and-r, and-i, implies-e, implies-i, all-mem, mem-all, map-mem, mem-by, mem-map, member-mem, mem-member}
 use Rattle.rules.proofs.Tables.{length-placed, length-exchanged, length-retained, number-placed, number-retained, number-freed, distinct-placed, distinct-retained, distinct-freed, same-numbers, found-in, found-some, only-one}
 
@@ -173,6 +174,8 @@ pub record Loose (d : State) : Type 0 where
   pub pairsSized : length (d .pairs) ≡ pairSlots
   pub sessions : distinct (map sessionOf (lives (d .pairs))) ≡ true
   pub pairs : (p : Pair) → Mem p (lives (d .pairs)) → Linked d p
+  pub sids : sidsValid (d .sids) ≡ true
+  pub listed : (t : Token) → Mem t (lives (d .tokens .slots)) → isListed (d .sids) t ≡ true
 
 pub record StateFacts (d : State) : Type 0 where
   pub loose : Loose d
@@ -304,18 +307,20 @@ pub valid-facts : (d : State) → valid d ≡ true → StateFacts d
 unfolding valid clientAtStations pairsValid
 valid-facts d h =
     let ts = lives (d .tokens .slots) in
-    let tokens : tableValid tokenSlots max64 numberOf (d .tokens) ≡ true = search (and-l, and-r) depth 14 in
-    let handles : tableValid handleSlots max32 handleNumber (d .handles) ≡ true = search (and-l, and-r) depth 14 in
-    let stations : eqb (length (d .stations)) stationCount ≡ true = search (and-l, and-r) depth 14 in
-    let each : all tokenValid ts ≡ true = search (and-l, and-r) depth 14 in
-    let eachHandle : all handleValid (lives (d .handles .slots)) ≡ true = search (and-l, and-r) depth 14 in
-    let eachStation : all streamValid (d .stations) ≡ true = search (and-l, and-r) depth 14 in
-    let alive : all (isToken d) (references d) ≡ true = search (and-l, and-r) depth 14 in
-    let reached : all (isReferred d) ts ≡ true = search (and-l, and-r) depth 14 in
-    let primaries : all (primaryAtStation d) ts ≡ true = search (and-l, and-r) depth 14 in
-    let acts : all (clientAtStations d) ts ≡ true = search (and-l, and-r) depth 14 in
-    let idle : all levelValid (d .stations) ≡ true = search (and-l, and-r) depth 14 in
-    let paired : pairsValid d ≡ true = search (and-l, and-r) depth 14 in
+    let tokens : tableValid tokenSlots max64 numberOf (d .tokens) ≡ true = search (and-l, and-r) depth 16 in
+    let handles : tableValid handleSlots max32 handleNumber (d .handles) ≡ true = search (and-l, and-r) depth 16 in
+    let stations : eqb (length (d .stations)) stationCount ≡ true = search (and-l, and-r) depth 16 in
+    let each : all tokenValid ts ≡ true = search (and-l, and-r) depth 16 in
+    let eachHandle : all handleValid (lives (d .handles .slots)) ≡ true = search (and-l, and-r) depth 16 in
+    let eachStation : all streamValid (d .stations) ≡ true = search (and-l, and-r) depth 16 in
+    let alive : all (isToken d) (references d) ≡ true = search (and-l, and-r) depth 16 in
+    let reached : all (isReferred d) ts ≡ true = search (and-l, and-r) depth 16 in
+    let primaries : all (primaryAtStation d) ts ≡ true = search (and-l, and-r) depth 16 in
+    let acts : all (clientAtStations d) ts ≡ true = search (and-l, and-r) depth 16 in
+    let idle : all levelValid (d .stations) ≡ true = search (and-l, and-r) depth 16 in
+    let paired : pairsValid d ≡ true = search (and-l, and-r) depth 16 in
+    let sids : sidsValid (d .sids) ≡ true = search (and-l, and-r) depth 16 in
+    let listed : all (isListed (d .sids)) ts ≡ true = search (and-l, and-r) depth 16 in
     let pairsSized : eqb (length (d .pairs)) pairSlots ≡ true = search (and-l, and-r) in
     let sessions : distinct (map sessionOf (lives (d .pairs))) ≡ true = search (and-l, and-r) in
     let linked : all (pairValid d) (lives (d .pairs)) ≡ true = search (and-l, and-r) in
@@ -334,6 +339,8 @@ valid-facts d h =
         pairsSized = eqb-true (length (d .pairs)) pairSlots pairsSized;
         sessions = sessions;
         pairs = λ p m. is-linked d p (all-mem (pairValid d) (lives (d .pairs)) linked m);
+        sids = sids;
+        listed = λ t m. all-mem (isListed (d .sids)) ts listed m;
       };
       reached = λ n m. let r = mem-map numberOf ts m in is-referred d n (r .0) (r .2) (all-mem (isReferred d) ts reached (r .1));
     }
@@ -343,7 +350,7 @@ unfolding valid clientAtStations pairsValid
 facts-valid d f =
     let l = f .loose in
     let ts = lives (d .tokens .slots) in
-    and-i (and-i (and-i (and-i (and-i (and-i (and-i (and-i (and-i (and-i (and-i
+    and-i (and-i (and-i (and-i (and-i (and-i (and-i (and-i (and-i (and-i (and-i (and-i (and-i
     (facts-table tokenSlots max64 numberOf (d .tokens) (l .tokens))
     (facts-table handleSlots max32 handleNumber (d .handles) (l .handles)))
     (eq-eqb (length (d .stations)) stationCount (l .stations)))
@@ -356,4 +363,6 @@ facts-valid d f =
     (mem-all (clientAtStations d) ts (λ t m. mem-all (clientFits t) (d .stations) (λ x k. client-is t x (l .clients t m x k)))))
     (mem-all levelValid (d .stations) (λ x m. idle-is x (l .idle x m))))
     (and-i (and-i (eq-eqb (length (d .pairs)) pairSlots (l .pairsSized)) (l .sessions))
-    (mem-all (pairValid d) (lives (d .pairs)) (λ p m. linked-is d p (l .tokens .apart) (l .pairs p m))))
+    (mem-all (pairValid d) (lives (d .pairs)) (λ p m. linked-is d p (l .tokens .apart) (l .pairs p m)))))
+    (l .sids))
+    (mem-all (isListed (d .sids)) ts (l .listed))

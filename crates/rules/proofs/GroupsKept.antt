@@ -13,15 +13,14 @@ use Rattle.rules.specs.Basic.{if_then_else_, implies, bothOrNeither, all
 use Rattle.rules.specs.Bits.{has, without, within}
 use Rattle.rules.specs.Create.{givable, validPair, entered}
 use Rattle.rules.specs.Entry.{applyAll, Entry}
-use Rattle.rules.specs.Group.{noGroup, isEnabledByDefault, isEnabled, isOwner, isDenyOnly, withEnabled, denied, Group}
-use Rattle.rules.specs.Growth.{sidOf, Mem, here, there}
+use Rattle.rules.specs.Group.{noGroup, isEnabledByDefault, isEnabled, isOwner, isDenyOnly, withEnabled, denied, Group, sidOf}
+use Rattle.rules.specs.Growth.{Mem, here, there}
 use Rattle.rules.specs.Restrict.{deniedAll}
 use Rattle.rules.specs.Token.{maxGroups, Defaults, Token}
 use Rattle.rules.specs.Valid.{is32, groupValid, groupsValid, defaultsValid}
 use Rattle.rules.proofs.Logic.{and-l, and-r, and-i, or-l, or-r, not-both, not-e, not-i, implies-e, implies-i, all-mem}
 use Rattle.rules.proofs.Bits.{has-or, or-same, without-same, without-none, within-has, within-trans, without-within, within-or}
 use Rattle.rules.proofs.Tables.{on-if}
-use Rattle.rules.proofs.Widths.{sid32}
 use Rattle.rules.proofs.Facts.{each-group}
 
 -- ---- one group
@@ -215,6 +214,9 @@ unfolding deniedAll
 all-denied [] gs o = groups-refl gs
 all-denied (i ∷ is) gs o =
     let p = at-index denied gs i (denies (getD gs i noGroup)) o in groups-trans p (all-denied is (changeAt i denied gs) (groups-order p o))
+
+unfoldable pub sid32 : Group → Bool
+sid32 g = is32 (g .sid)
 
 pub all-entered : (user : ℕ) (gs : List Group) → all (validPair user) gs ≡ true → all sid32 gs ≡ true → all groupValid (map entered gs) ≡ true
 unfolding all sid32

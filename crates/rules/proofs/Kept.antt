@@ -3,10 +3,13 @@ use Prim.Native.Nat.{ℕ, _^_, _<_, _≤_}
 use native.Mathlib.Omega.{arith}
 use mathlib.Core.Path.{_≡_, refl, sym, ap, _∙_, subst}
 use mathlib.Core.Bool.{true, not, _&&_}
-use mathlib.Core.List.{List, map}
+use mathlib.Core.List.{List, map, [], _∷_}
 use lib.Dec.{eqb, leb, ltb}
 use lib.ListN.{length, length-map}
 use borrow.Author.Tests.{eqb-true, eq-eqb, lt-ltb, ltb-true, le-leb}
+use Rattle.rules.specs.SidTable.{isNumber, fitsTable}
+use Rattle.rules.specs.Sid.{Sid}
+use Rattle.rules.specs.Given.{Given, GivenGroup, numberIn, groupSid, groupIn}
 use Rattle.rules.specs.AdjustDefaults as AdjustDefaults
 use Rattle.rules.specs.AdjustGroups as AdjustGroups
 use Rattle.rules.specs.AdjustPrivileges as AdjustPrivileges
@@ -15,11 +18,11 @@ use Rattle.rules.specs.Basic.{implies, all}
 use Rattle.rules.specs.Bits.{has, within}
 use Rattle.rules.specs.Condition.{Condition}
 use Rattle.rules.specs.Create as Create
-use Rattle.rules.specs.Decision.{canIssue, issued}
+use Rattle.rules.specs.Decision.{canIssue, issued, withHandle}
 use Rattle.rules.specs.Duplicate as Duplicate
 use Rattle.rules.specs.Entry.{Entry}
 use Rattle.rules.specs.Evaluate as Evaluate
-use Rattle.rules.specs.Group.{Group}
+use Rattle.rules.specs.Group.{Group, sidOf}
 use Rattle.rules.specs.Growth.{Mem, Live, Follows}
 use Rattle.rules.specs.Handle.{Handle}
 use Rattle.rules.specs.Impersonate as Impersonate
@@ -37,20 +40,21 @@ use Rattle.rules.specs.Request as Request
 use Rattle.rules.specs.Request.{parse, Request}
 use Rattle.rules.specs.Restrict as Restrict
 use Rattle.rules.specs.Serve.{rule, decided, decision, serve}
-use Rattle.rules.specs.State.{stationCount, withTokens, setToken, setClient, numberOf, tokenOf, callerNumber, caller, held, putToken, changeToken, usedOn, used, canAddToken, handleOf, canAddHandle, released, State}
+use Rattle.rules.specs.State.{stationCount, withTokens, setToken, setClient, numberOf, tokenOf, callerNumber, caller, held, putToken, changeToken, usedOn, used, canAddToken, handleOf, canAddHandle, released, entering, withSids, State}
 use Rattle.rules.specs.Station.{noClient}
 use Rattle.rules.specs.Table.{someFree, withSlots, canAdd}
 use Rattle.rules.specs.Token.{maxGroups, maxRestricting, primary, impersonation, full, limited, primaryOf, newToken, withPrivileges, withElevation, Token, Identity}
-use Rattle.rules.specs.Valid.{isByte, is32, is64, between, identityValid, privilegesValid, groupsValid, handleValid}
-use Rattle.rules.proofs.Logic.{and-l, and-r, and-i, not-both, not-e, mem-by}
+use Rattle.rules.specs.Valid.{isByte, is32, is64, between, identityValid, privilegesValid, groupsValid, handleValid, isListed}
+use Rattle.rules.proofs.Logic.{and-l, and-r, and-i, not-both, not-e, mem-by, all-mem, mem-all}
 use Rattle.rules.proofs.Bits.{none-within}
 use Rattle.rules.proofs.Tables.{on-if}
 use Rattle.rules.proofs.Facts.{TokenFacts, token-at, StateFacts}
 use Rattle.rules.proofs.Changes.{Carries, carried, put-carries, of-later, numbersOf, put-numbers, put-there, put-room, none-may, token-may}
-use Rattle.rules.proofs.Widths.{Got, sid32, Fits, parsed}
-use Rattle.rules.proofs.GroupsKept.{all-entered}
-use Rattle.rules.proofs.TokensKept.{After, used-after, privileges-after, groups-after, scope-after, defaults-after, full-after, limited-after, new-facts, clone-made, duplicated-made, restricted-made}
-use Rattle.rules.proofs.Steps.{Advance, stays, _then_, Is, token-ok, is-live, is-caller, partner-live, change, open-step, issue-step, close-step, token-step, client-step, pair-step, Ends, Keeps, ended, Found, after-both, on-handle, install-marked, client-marked}
+use Rattle.rules.proofs.Widths.{Got, Fits, parsed}
+use Rattle.rules.proofs.GroupsKept.{sid32, all-entered}
+use Rattle.rules.proofs.TokensKept.{After, used-after, privileges-after, groups-after, scope-after, defaults-after, full-after, limited-after, new-facts, clone-made, duplicated-made, restricted-made, duplicated-listed, clone-listed, restricted-listed, created-listed}
+use Rattle.rules.proofs.Steps.{Advance, stays, _then_, Is, token-ok, is-live, is-caller, partner-live, change, open-step, issue-step, close-step, token-step, client-step, pair-step, Ends, Keeps, ended, Found, after-both, on-handle, install-marked, client-marked, enter-step}
+use Rattle.rules.proofs.SidNumbers.{givenValid, number-32}
 
 -- ---- the token of a number, over a step
 
@@ -150,10 +154,24 @@ in-force d s t =
 
 -- ---- what request 3 makes
 
-created : (n user session integrity present byDefault : ℕ) (gs : List Group) → is64 n ≡ true → is32 user ≡ true → is64 session ≡ true → all sid32 gs ≡ true → Create.validCreate user integrity present byDefault gs ≡ true
+-- a SID's number is within its field's width
+numbers-32 : (sids : List Sid) (ns : List ℕ) → fitsTable sids ≡ true → all (isNumber sids) ns ≡ true → all is32 ns ≡ true
+unfolding is32
+numbers-32 sids ns fits h = mem-all is32 ns (λ n m. number-32 sids n fits (all-mem (isNumber sids) ns h m))
+
+all-sids : (gs : List Group) → all is32 (map sidOf gs) ≡ true → all sid32 gs ≡ true
+unfolding all sidOf sid32
+all-sids [] h = refl
+all-sids (g ∷ gs) h = and-i (and-l (is32 (g .sid)) _ h) (all-sids gs (and-r (is32 (g .sid)) _ h))
+
+created : (sids : List Sid) (n user session integrity present byDefault : ℕ) (gs : List Group) → fitsTable sids ≡ true → is64 n ≡ true → is64 session ≡ true → Create.validCreate sids user integrity present byDefault gs ≡ true
     → TokenFacts (newToken n (primaryOf n user session integrity) (granted present byDefault) (map Create.entered gs))
-unfolding Create.validCreate primaryOf granted identityValid privilegesValid groupsValid between implies
-created n user session integrity present byDefault gs w wu ws wg ok =
+unfolding Create.validCreate primaryOf granted identityValid privilegesValid groupsValid between implies all
+created sids n user session integrity present byDefault gs fits w ws ok =
+    let known : all (isNumber sids) (user ∷ map sidOf gs) ≡ true = search (and-l, and-r) in
+    let narrow = numbers-32 sids (user ∷ map sidOf gs) fits known in
+    let wu = and-l (is32 user) (all is32 (map sidOf gs)) narrow in
+    let wg = all-sids gs (and-r (is32 user) _ narrow) in
     let level : Create.validIntegrity integrity ≡ true = search (and-l, and-r) in
     let inside : within byDefault present ≡ true = search (and-l, and-r) in
     let known : within present existing ≡ true = search (and-l, and-r) in
@@ -226,6 +244,9 @@ module _ (d : State) (f : StateFacts d) (s : ℕ) (in8 : s < stationCount) where
       let a = scope-after (tokenOf e (h .token)) v w (token-ok e (h .token) (m .step .facts) i) in
       m .step then change e (h .token) (AdjustScope.scopedToken v) (m .step .facts) i (a .facts) (a .follows)
 
+  listed-at : (n : ℕ) → Is d n → isListed (d .sids) (tokenOf d n) ≡ true
+  listed-at n i = f .loose .listed (tokenOf d n) (i .was)
+
   duplicate-ok : (h : Handle) (t : Token) (type level mask : ℕ) → Duplicate.validDuplicate h t type level mask ≡ true → (leb level 3 ≡ true) × (validMask mask ≡ true)
   unfolding Duplicate.validDuplicate
   duplicate-ok h t type level mask ok = search (and-l, and-r)
@@ -239,31 +260,40 @@ module _ (d : State) (f : StateFacts d) (s : ℕ) (in8 : s < stationCount) where
       let r = duplicate-ok h t type level mask ok in
       let u = duplicated-made t (d .tokens .next) type level (older d (h .token) f (k .token)) (next-64 d room) (r .0) (token-ok d (h .token) f (k .token)) in
       issue-step d s mask (Duplicate.duplicated (d .tokens .next) type level t) f in8 (r .1) room (u .number) (u .facts)
+      (duplicated-listed (d .sids) t (d .tokens .next) type level (listed-at (h .token) (k .token)))
 
   mask-ok : (h : Handle) → Found d h → validMask (h .mask) ≡ true
   unfolding handleValid
   mask-ok h k = and-r (ltb (h .station) stationCount) _ (f .loose .eachHandle h (k .was))
 
-  restricts : (n mark removed : ℕ) (deny sids : List ℕ) → all is32 sids ≡ true → Keeps d (Restrict.restrict d s n mark removed deny sids)
-  unfolding Restrict.restrict issued Ends
-  restricts n mark removed deny sids w =
+  -- over numbers, where the table has room
+  restricts-numbered : (n mark removed : ℕ) (deny given : List ℕ) → Keeps d (Restrict.restrictNumbered d s n mark removed deny given)
+  unfolding Restrict.restrictNumbered Restrict.validRestrict issued Ends
+  restricts-numbered n mark removed deny given =
       on-handle d s n _ _ f λ k ok fits.
       let h = handleOf d s n in
       let t = tokenOf d (h .token) in
-      let few = leb (length (Restrict.restrictingTo sids (t .limits .restricting))) maxRestricting in
-      let room = and-r few (canIssue d) fits in
-      let u = restricted-made t (d .tokens .next) mark removed deny sids (older d (h .token) f (k .token)) (next-64 d room) (and-l few (canIssue d) fits) w (token-ok d (h .token) f (k .token)) in
-      issue-step d s (h .mask) (Restrict.restricted (d .tokens .next) mark removed deny sids t) f in8 (mask-ok h k) room (u .number) (u .facts)
+      let few : leb (length (Restrict.restrictingTo given (t .limits .restricting))) maxRestricting ≡ true = search (and-l, and-r) in
+      let room : canIssue d ≡ true = search (and-l, and-r) in
+      let table : fitsTable (d .sids) ≡ true = search (and-l, and-r) in
+      let known : all (isNumber (d .sids)) given ≡ true = search (and-l, and-r) in
+      let u = restricted-made t (d .tokens .next) mark removed deny given (older d (h .token) f (k .token)) (next-64 d room) few (numbers-32 (d .sids) given table known) (token-ok d (h .token) f (k .token)) in
+      issue-step d s (h .mask) (Restrict.restricted (d .tokens .next) mark removed deny given t) f in8 (mask-ok h k) room (u .number) (u .facts)
+      (restricted-listed (d .sids) t (d .tokens .next) mark removed deny given (token-ok d (h .token) f (k .token)) known (listed-at (h .token) (k .token)))
 
-  creates : (user session integrity present byDefault : ℕ) (gs : List Group) → is32 user ≡ true → is64 session ≡ true → all sid32 gs ≡ true → Keeps d (Create.create d s user session integrity present byDefault gs)
-  unfolding Create.create issued Ends has validMask within newToken
-  creates user session integrity present byDefault gs wu ws wg =
-      λ may ok room.
+  creates-numbered : (user session integrity present byDefault : ℕ) (gs : List Group) → is64 session ≡ true → Keeps d (Create.createNumbered d s user session integrity present byDefault gs)
+  unfolding Create.createNumbered Create.validCreate issued Ends has validMask within newToken primaryOf used changeToken putToken withTokens
+  creates-numbered user session integrity present byDefault gs ws =
+      λ may ok fits.
+      let room = and-l (canIssue d) (fitsTable (d .sids)) fits in
+      let table = and-r (canIssue d) (fitsTable (d .sids)) fits in
+      let known : all (isNumber (d .sids)) (user ∷ map sidOf gs) ≡ true = search (and-l, and-r) in
       let e = used createToken s d in
       let m : Marked d e = mark d s createToken f in8 refl in
       let n = d .tokens .next in
       m .step then issue-step e s allRights (newToken n (primaryOf n user session integrity) (granted present byDefault) (map Create.entered gs)) (m .step .facts) in8 refl (marked-room d s createToken room) (sym (marked-next d s createToken))
-      (created n user session integrity present byDefault gs (next-64 d room) wu ws wg ok)
+      (created (d .sids) n user session integrity present byDefault gs table (next-64 d room) ws ok)
+      (created-listed (d .sids) n (primaryOf n user session integrity) (granted present byDefault) gs known)
 
   installs : (n : ℕ) → Keeps d (Install.install d s n)
   unfolding Install.install Ends
@@ -421,26 +451,49 @@ module _ (d : State) (f : StateFacts d) (s : ℕ) (in8 : s < stationCount) where
       (λ t room. m .step then open-step (used tcb s d) s r allRights (m .step .facts) in8 refl (marked-handles d s tcb room) (is-number (used tcb s d) r (m .is r i)))
       (λ t room.
       let u = clone-made (tokenOf d r) (d .tokens .next) (older d r f i) (next-64 d room) (token-ok d r f i) in
-      issue-step d s Mask.query (Link.clone (d .tokens .next) (tokenOf d r)) f in8 refl room (u .number) (u .facts))
+      issue-step d s Mask.query (Link.clone (d .tokens .next) (tokenOf d r)) f in8 refl room (u .number) (u .facts)
+      (clone-listed (d .sids) (tokenOf d r) (d .tokens .next) (listed-at r i)))
 
+-- ---- SIDs as they are given: they enter, and then the rule is one over numbers
+
+module _ (d : State) (f : StateFacts d) (s : ℕ) (in8 : s < stationCount) where
+  creates : (user : Given) (session integrity present byDefault : ℕ) (gs : List GivenGroup) → is64 session ≡ true → all givenValid (user ∷ map groupSid gs) ≡ true
+      → Keeps d (Create.create d s user session integrity present byDefault gs)
+  unfolding Create.create Create.createNumbered issued Ends
+  creates user session integrity present byDefault gs ws w =
+      λ may ok fits.
+      let xs = user ∷ map groupSid gs in
+      let τ = entering xs d in
+      let g = enter-step d xs f w (and-r (canIssue τ) (fitsTable (τ .sids)) fits) in
+      g then creates-numbered τ (g .facts) s in8 (numberIn (τ .sids) user) session integrity present byDefault (map (groupIn (τ .sids)) gs) ws may ok fits
+
+  restricts : (n mark removed : ℕ) (deny : List ℕ) (given : List Given) → all givenValid given ≡ true → Keeps d (Restrict.restrict d s n mark removed deny given)
+  unfolding Restrict.restrict Restrict.restrictNumbered withHandle issued Ends
+  restricts n mark removed deny given w =
+      λ known permitted ok fits.
+      let τ = entering given d in
+      let g = enter-step d given f w (search (and-l, and-r)) in
+      g then restricts-numbered τ (g .facts) s in8 n mark removed deny (map (numberIn (τ .sids)) given) known permitted ok fits
+
+module _ (d : State) (f : StateFacts d) (s : ℕ) (in8 : s < stationCount) where
   by-rule : (r : Request) → Fits r → Keeps d (rule d s r)
   unfolding rule Fits
-  by-rule (Request.openOwn mask) w = opens mask
-  by-rule (Request.close n) w = closes n
-  by-rule (Request.create u e i p b gs) w = creates u e i p b gs (w .0) (w .1) (w .2)
-  by-rule (Request.query n class capacity) w = queries n class capacity
-  by-rule (Request.privileges n es) w = adjusts-privileges n es
-  by-rule (Request.groups n es) w = adjusts-groups n es
-  by-rule (Request.scope n v) w = scopes n v w
-  by-rule (Request.defaults n o g x bytes) w = defaults n o g x bytes w
-  by-rule (Request.duplicate n t l m) w = duplicates n t l m
-  by-rule (Request.restrict n m r ds ss) w = restricts n m r ds ss w
-  by-rule (Request.install n) w = installs n
-  by-rule (Request.impersonate n) w = impersonates n
-  by-rule Request.revert w = reverts
-  by-rule (Request.link n m session) w = links n m session
-  by-rule (Request.linked n) w = gets-linked n
-  by-rule (Request.evaluate n c) w = evaluates n c
+  by-rule (Request.openOwn mask) w = opens d f s in8 mask
+  by-rule (Request.close n) w = closes d f s in8 n
+  by-rule (Request.create u e i p b gs) w = creates d f s in8 u e i p b gs (w .0) (w .1)
+  by-rule (Request.query n class capacity) w = queries d f s in8 n class capacity
+  by-rule (Request.privileges n es) w = adjusts-privileges d f s in8 n es
+  by-rule (Request.groups n es) w = adjusts-groups d f s in8 n es
+  by-rule (Request.scope n v) w = scopes d f s in8 n v w
+  by-rule (Request.defaults n o g x bytes) w = defaults d f s in8 n o g x bytes w
+  by-rule (Request.duplicate n t l m) w = duplicates d f s in8 n t l m
+  by-rule (Request.restrict n m r ds ss) w = restricts d f s in8 n m r ds ss w
+  by-rule (Request.install n) w = installs d f s in8 n
+  by-rule (Request.impersonate n) w = impersonates d f s in8 n
+  by-rule Request.revert w = reverts d f s in8
+  by-rule (Request.link n m session) w = links d f s in8 n m session
+  by-rule (Request.linked n) w = gets-linked d f s in8 n
+  by-rule (Request.evaluate n c) w = evaluates d f s in8 n c
 
   by-read : (r : Read Request) → Got Fits r → Keeps d (decided d s r)
   unfolding decided Ends Got

@@ -12,7 +12,7 @@ use Rattle.rules.specs.Basic.{if_then_else_, filter, member}
 use Rattle.rules.specs.Number.{Read, got, bad}
 use Rattle.rules.specs.Refusal.{Refusal, refusal, capacityBelow, ranks}
 use Rattle.rules.specs.Privileges.{tcb}
-use Rattle.rules.specs.State.{State, held}
+use Rattle.rules.specs.State.{State, entering, withSids, held}
 use Rattle.rules.specs.Decision.{Decision, need_else_then_, success, carriedOut, withHandle, issued}
 use Rattle.rules.specs.Request.{Request, parse}
 use Rattle.rules.specs.OpenClose as OpenClose
@@ -55,7 +55,7 @@ rises k (success after bytes) = true
 -- ---- of every request
 
 in-order : (σ : State) (s : ℕ) (r : Request) → rises 0 (rule σ s r) ≡ true
-unfolding rises rank place member rule refusal capacityBelow withHandle issued OpenClose.openOwn OpenClose.close Create.create Query.query AdjustPrivileges.adjust AdjustGroups.adjust AdjustScope.scope AdjustDefaults.adjust Duplicate.duplicate Restrict.restrict Install.install Impersonate.impersonate Impersonate.revert Link.withBoth Link.link Link.getLinked Evaluate.evaluate
+unfolding rises rank place member rule refusal capacityBelow withHandle issued OpenClose.openOwn OpenClose.close Create.create Create.createNumbered entering withSids Query.query AdjustPrivileges.adjust AdjustGroups.adjust AdjustScope.scope AdjustDefaults.adjust Duplicate.duplicate Restrict.restrict Restrict.restrictNumbered Install.install Impersonate.impersonate Impersonate.revert Link.withBoth Link.link Link.getLinked Evaluate.evaluate
 in-order σ s (Request.openOwn mask) = refl
 in-order σ s (Request.close n) = refl
 in-order σ s (Request.create user session integrity present byDefault gs) = refl

@@ -4,6 +4,11 @@ pub mod Index
 pub mod Bits
 pub mod Numbers
 pub mod Tables
+pub mod Sids
+pub mod SidOrder
+pub mod SidNumbers
+pub mod SidWords
+pub mod SidGrowth
 pub mod Facts
 pub mod Changes
 pub mod Widths
@@ -18,6 +23,7 @@ pub mod Carrying
 pub mod Ladder
 pub mod Acting
 pub mod Linking
+pub mod EnteringSids
 pub mod Evaluating
 pub mod Frames
 pub mod Answers

@@ -24,7 +24,7 @@ use Rattle.rules.specs.Request.{parse, Request}
 use Rattle.rules.specs.Restrict as Restrict
 use Rattle.rules.specs.Run.{Serving, servedBy}
 use Rattle.rules.specs.Serve.{rule, decided, decision, serve}
-use Rattle.rules.specs.State.{State, withTokens, withHandles, withStations, changeStation, setToken, setClient, held, putToken, changeToken, usedOn, used, addToken, addHandle, dropHandle, released}
+use Rattle.rules.specs.State.{State, withTokens, withHandles, withStations, changeStation, setToken, setClient, held, putToken, changeToken, usedOn, used, addToken, addHandle, dropHandle, entering, withSids, released}
 use Rattle.rules.specs.Token.{Token, withPrivileges, withGroups, withDefaults, withScope, nextModified}
 use Rattle.rules.proofs.Logic.{not-both}
 use Rattle.rules.proofs.Tables.{on-if}
@@ -64,7 +64,7 @@ module _ (d : State) (s : ℕ) where
   client-marks t = client-marked SamePairs d s t refl refl
 
   pairs-stay : (r : Read Request) → Ends SamePairs (decided d s r) ⊎ IsLink r
-  unfolding decided rule Ends SamePairs withHandle issued OpenClose.openOwn OpenClose.close Create.create Query.query AdjustPrivileges.adjust AdjustGroups.adjust AdjustScope.scope AdjustDefaults.adjust Duplicate.duplicate Restrict.restrict Install.install Impersonate.impersonate Impersonate.revert Link.getLinked Evaluate.evaluate released addToken addHandle dropHandle setToken setClient changeStation withHandles withTokens withStations used changeToken putToken
+  unfolding decided rule Ends SamePairs withHandle issued OpenClose.openOwn OpenClose.close Create.create Create.createNumbered entering withSids Query.query AdjustPrivileges.adjust AdjustGroups.adjust AdjustScope.scope AdjustDefaults.adjust Duplicate.duplicate Restrict.restrict Restrict.restrictNumbered Install.install Impersonate.impersonate Impersonate.revert Link.getLinked Evaluate.evaluate released addToken addHandle dropHandle setToken setClient changeStation withHandles withTokens withStations used changeToken putToken
   pairs-stay bad = inl (λ h. absurd (not-both h refl))
   pairs-stay (got (Request.openOwn mask) bytes) = inl (λ ok room. refl)
   pairs-stay (got (Request.close n) bytes) = inl (λ known. refl)

@@ -9,6 +9,7 @@ use borrow.Author.Tests.{eq-eqb}
 use Rattle.table.specs.Lists.{map-undo}
 use Rattle.table.specs.Table.{flat, length-flat}
 use Rattle.table.specs.Rows.{readRows, rows-written}
+use Rattle.rules.specs.SidRows.{sidsAt}
 use Rattle.rules.specs.Token.{maxDacl}
 use Rattle.rules.specs.State.{State, start, tokenSlots, stationCount, pairSlots, numberOf, handleNumber, elevatedToken}
 use Rattle.rules.specs.Pair.{Pair}
@@ -21,7 +22,8 @@ use Rattle.rules.proofs.Facts.{facts-token, valid-facts}
 use Rattle.rules.proofs.Changes.{by-elevated}
 use Rattle.rules.proofs.Always.{start-valid}
 use Rattle.rules.proofs.Same.{memory-eq, memory-refl}
-use Rattle.rules.proofs.Control.{control-long, stations-read, pairs-read}
+use Rattle.rules.proofs.SidWords as SidWords
+use Rattle.rules.proofs.Control.{control-long, stations-read, pairs-read, sids-read}
 use Rattle.rules.proofs.Rows.{length-slotRow, length-slotDacl, length-stationRow, length-slotPair, length-pendingRow, each, each-slot, TokenSlot, slot-back, HandleSlot, handle-back, PairSlot, pair-back, station-back}
 
 module _ (m : Memory) (v : valid m ≡ true) where
@@ -65,6 +67,7 @@ module _ (σ : State) (v : Valid.valid σ ≡ true) where
             (ap₂ (readRows pairAt pairWords 0 pairSlots) (pairs-read σ v) (sym (flat-none (σ .pairs)))
             ∙ rows-written pairAt pairWords 0 slotPair (λ p. []) length-slotPair (λ p. refl) PairSlot pair-back
             pairSlots (σ .pairs) (f .pairsSized) (each-slot _ (σ .pairs) (λ p m. f .tokens .given (p .elevated) (f .live (p .elevated) (by-elevated σ (map-mem elevatedToken m))) .0))) i;
+        sids = (ap sidsAt (sids-read σ v) ∙ SidWords.read-back (σ .sids) (f .sids)) i;
       }
 
   written-sized : sized (encode σ) ≡ true

@@ -1,12 +1,13 @@
 -- Every token's root: none, or that of a token that was there, or the number that was given to a created one. Assumes nothing.
 use Prim.Native.Nat.{ℕ, _≤_}
 use native.Mathlib.Omega.{arith}
-use mathlib.Core.Path.{_≡_, refl, sym, ap, _∙_}
+use mathlib.Core.Path.{_≡_, refl, sym, ap, _∙_, subst}
 use mathlib.Core.Bool.{Bool, true, false}
 use mathlib.Core.Logic.{⊎-elim}
-use mathlib.Core.List.{List, [], _∷_}
+use mathlib.Core.List.{List, [], _∷_, map}
 use lib.Dec.{ltb}
 use borrow.Author.Tests.{ltb-true, ltb-false}
+use Rattle.rules.specs.Given.{Given, GivenGroup, groupSid}
 use Rattle.rules.specs.AdjustDefaults as AdjustDefaults
 use Rattle.rules.specs.AdjustGroups as AdjustGroups
 use Rattle.rules.specs.AdjustPrivileges as AdjustPrivileges
@@ -33,15 +34,15 @@ use Rattle.rules.specs.Request.{parse, Request}
 use Rattle.rules.specs.Restrict as Restrict
 use Rattle.rules.specs.Run.{Call, Outcome, Serving, serves, breaks, servedBy, after, ofBytes, events, outcomes, OneByOne}
 use Rattle.rules.specs.Serve.{rule, decided, decision, serve}
-use Rattle.rules.specs.State.{State, withTokens, withHandles, withStations, changeStation, setToken, setClient, numberOf, putToken, changeToken, used, findHandle, handleOf, addHandle, dropHandle, withPairs, pairOf, setPair, released}
+use Rattle.rules.specs.State.{State, withTokens, withHandles, withStations, changeStation, setToken, setClient, numberOf, putToken, changeToken, used, findHandle, handleOf, addHandle, dropHandle, withPairs, pairOf, setPair, entering, withSids, released}
 use Rattle.rules.specs.Table.{Slot, free, live, isLive, orElse, withSlots}
 use Rattle.rules.specs.Token.{Token, newToken, primaryOf}
 use Rattle.rules.proofs.Logic.{not-both, either, map-mem}
 use Rattle.rules.proofs.Facts.{StateFacts}
-use Rattle.rules.proofs.Steps.{partner-live, Ends, ended, install-marked, client-marked}
+use Rattle.rules.proofs.Steps.{partner-live, Ends, ended, install-marked, client-marked, enter-found, enter-used}
 use Rattle.rules.proofs.Ladder.{succeeds-or-same}
 use Rattle.rules.proofs.Always.{Onward, run-serves}
-use Rattle.rules.proofs.Sources.{Fresh, none-fresh, marked-fresh, made, issues, of-serving}
+use Rattle.rules.proofs.Sources.{entered-fresh, Fresh, none-fresh, marked-fresh, made, issues, of-serving}
 use Rattle.rules.proofs.Bound.{found-here, token-here}
 
 -- ---- one request: it makes no token, or copies one that is there, or makes a root
@@ -82,9 +83,11 @@ module _ (d : State) (f : StateFacts d) (s : ℕ) where
           (λ y. nothing z (refused (λ known paired. not-both paired (ap (λ p. isLive (pairOf d (orElse noHandle p .token))) k ∙ y))))
           (either (isLive (pairOf d (h .token))))
 
-  creates : (user session integrity present byDefault : ℕ) (gs : List Group) → Ends (Fresh d (IsRoot d)) (Create.create d s user session integrity present byDefault gs)
-  unfolding Create.create Ends IsRoot newToken primaryOf
-  creates user session integrity present byDefault gs may ok room = issues d (used createToken s d) (IsRoot d) s _ _ (marked-fresh d f (IsRoot d) createToken s) (refl, refl)
+  creates : (user : Given) (session integrity present byDefault : ℕ) (gs : List GivenGroup) → Ends (Fresh d (IsRoot d)) (Create.create d s user session integrity present byDefault gs)
+  unfolding Create.create Create.createNumbered entering withSids Ends IsRoot newToken primaryOf
+  creates user session integrity present byDefault gs may ok room =
+      let xs = user ∷ map groupSid gs in
+      issues d (used createToken s (entering xs d)) (IsRoot d) s _ _ (subst (Fresh d (IsRoot d)) (sym (enter-used xs d createToken s)) (entered-fresh d _ (IsRoot d) xs (marked-fresh d f (IsRoot d) createToken s))) (refl, refl)
 
   install-marks : (t : Token) → SameNext d (Install.marked s t d)
   unfolding SameNext used changeToken putToken withTokens withSlots
@@ -95,7 +98,7 @@ module _ (d : State) (f : StateFacts d) (s : ℕ) where
   client-marks t = client-marked (SameNext d) d s t refl refl
 
   gives : (r : Read Request) → Gives d s r
-  unfolding decided rule sourceOf makesRoot Ends SameNext withHandle OpenClose.openOwn OpenClose.close Query.query AdjustPrivileges.adjust AdjustGroups.adjust AdjustScope.scope AdjustDefaults.adjust Duplicate.duplicate Restrict.restrict Install.install Impersonate.impersonate Impersonate.revert Link.withBoth Link.link Link.linked Link.getLinked Evaluate.evaluate setPair withPairs released addHandle dropHandle setToken setClient changeStation withStations withHandles withTokens withSlots used changeToken putToken
+  unfolding decided rule sourceOf makesRoot Ends SameNext withHandle OpenClose.openOwn OpenClose.close Query.query AdjustPrivileges.adjust AdjustGroups.adjust AdjustScope.scope AdjustDefaults.adjust Duplicate.duplicate Restrict.restrict Restrict.restrictNumbered entering withSids Install.install Impersonate.impersonate Impersonate.revert Link.withBoth Link.link Link.linked Link.getLinked Evaluate.evaluate setPair withPairs released addHandle dropHandle setToken setClient changeStation withStations withHandles withTokens withSlots used changeToken putToken
   gives bad = nothing refl (λ h. absurd (not-both h refl))
   gives (got (Request.openOwn mask) bytes) = nothing refl (λ ok room. refl)
   gives (got (Request.close n) bytes) = nothing refl (λ known. refl)
@@ -106,7 +109,7 @@ module _ (d : State) (f : StateFacts d) (s : ℕ) where
   gives (got (Request.scope n v) bytes) = nothing refl (λ known may held. refl)
   gives (got (Request.defaults n o g x dacl) bytes) = nothing refl (λ known may ok. refl)
   gives (got (Request.duplicate n type level mask) bytes) = of-handle n (isAnonymous type level) _ refl refl (λ no known. absurd (no known))
-  gives (got (Request.restrict n mark removed deny sids) bytes) = of-handle n false _ refl refl (λ no known. absurd (no known))
+  gives (got (Request.restrict n mark removed deny sids) bytes) = of-handle n false _ refl refl (λ no known. absurd (no (ap isLive (sym (enter-found sids d s n)) ∙ known)))
   gives (got (Request.install n) bytes) = nothing refl (λ known may held ok match. install-marks _)
   gives (got (Request.impersonate n) bytes) = nothing refl (λ known may ok gate. client-marks _)
   gives (got Request.revert bytes) = nothing refl refl

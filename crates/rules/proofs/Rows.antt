@@ -12,7 +12,7 @@ use lib.ListN.{length, take, getD, length-append, length-map}
 use lib.Seq.{take-at, drop-at}
 use borrow.Author.Tests.{ne-eqb, leb-true, ltb-true, ltb-false}
 use Rattle.table.specs.Lists.{All, map-undo, map-same, pad, length-pad, take-pad}
-use Rattle.rules.specs.Basic.{if_then_else_, all}
+use Rattle.rules.specs.Basic.{if_then_else_, all, word32}
 use Rattle.rules.specs.Growth.{Mem, here, there}
 use Rattle.rules.specs.Group.{Group, noGroup, isOwner}
 use Rattle.rules.specs.Token.{Token, maxGroups, maxRestricting, maxDacl}
@@ -25,7 +25,7 @@ use Rattle.rules.specs.Create.{validIntegrity}
 use Rattle.rules.specs.AdjustDefaults.{validOwner, validGroup}
 use Rattle.rules.specs.Frame.{maxBody, Length, unread, invalid, size, secondOf, lengthOf, part, whole, framedBy, framed}
 use Rattle.rules.specs.Valid.{is32, between, identityValid, groupValid, groupsValid, limitsValid, defaultsValid, tokenValid, isPart, streamValid}
-use Rattle.rules.specs.Memory.{tokenWords, stationWords, pairWords, pendingBytes, word32, low32, mark, pack, unpack, head, tokenRow, daclRow, slotRow, slotDacl, slotHandle, stationRow, pairRow, slotPair, pendingRow, identityAt, privilegesAt, groupsAt, limitsAt, defaultsAt, tokenAt, slotAt, handleAt, stationAt, pairAt}
+use Rattle.rules.specs.Memory.{tokenWords, stationWords, pairWords, pendingBytes, low32, mark, pack, unpack, head, tokenRow, daclRow, slotRow, slotDacl, slotHandle, stationRow, pairRow, slotPair, pendingRow, identityAt, privilegesAt, groupsAt, limitsAt, defaultsAt, tokenAt, slotAt, handleAt, stationAt, pairAt}
 use Rattle.rules.proofs.Logic.{and-l, and-r, or-no, not-both, all-mem, member-mem}
 use Rattle.rules.proofs.Tables.{on-if}
 use Rattle.rules.proofs.Facts.{token-facts, few-groups}

@@ -6,7 +6,8 @@ use mathlib.Core.List.{List, [], _∷_}
 use lib.Dec.{eqb}
 use borrow.Author.Tests.{eqb-true, eq-eqb}
 use Rattle.rules.specs.Handle.{Handle}
-use Rattle.rules.specs.Memory.{Memory, same, sameHandle, sameHandles, sameMemory}
+use Rattle.rules.specs.Basic.{same}
+use Rattle.rules.specs.Memory.{Memory, sameHandle, sameHandles, sameMemory}
 use Rattle.rules.proofs.Logic.{and-l, and-r, and-i, not-both}
 
 -- ---- words and bytes

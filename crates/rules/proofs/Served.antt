@@ -41,13 +41,13 @@ answers-served n (e ∷ es) p =
 -- ---- one by one
 
 pub rights-refl : (p : State) → SameRights p p
-rights-refl p = record { tokens = refl; handles = refl; primary = refl; clients = refl; pairs = refl }
+rights-refl p = record { tokens = refl; handles = refl; primary = refl; clients = refl; pairs = refl; sids = refl }
 
 pub rights-trans : {p q r : State} → SameRights p q → SameRights q r → SameRights p r
-rights-trans a b = record { tokens = a .tokens ∙ b .tokens; handles = a .handles ∙ b .handles; primary = a .primary ∙ b .primary; clients = a .clients ∙ b .clients; pairs = a .pairs ∙ b .pairs }
+rights-trans a b = record { tokens = a .tokens ∙ b .tokens; handles = a .handles ∙ b .handles; primary = a .primary ∙ b .primary; clients = a .clients ∙ b .clients; pairs = a .pairs ∙ b .pairs; sids = a .sids ∙ b .sids }
 
 pub rights-sym : {p q : State} → SameRights p q → SameRights q p
-rights-sym a = record { tokens = sym (a .tokens); handles = sym (a .handles); primary = sym (a .primary); clients = sym (a .clients); pairs = sym (a .pairs) }
+rights-sym a = record { tokens = sym (a .tokens); handles = sym (a .handles); primary = sym (a .primary); clients = sym (a .clients); pairs = sym (a .pairs); sids = sym (a .sids) }
 
 -- another stream at a station
 stream-rights : (p : State) (s : ℕ) (f : Station → Station) → OnlyStream f → SameRights p (changeStation s f p)
@@ -59,6 +59,7 @@ stream-rights p s f only =
       primary = sym (same-map stationToken f (only .token) s (p .stations));
       clients = sym (same-map stationClient f (only .client) s (p .stations));
       pairs = refl;
+      sids = refl;
     }
 
 pub cleared-rights : (p : State) (s : ℕ) → SameRights p (changeStation s cleared p)

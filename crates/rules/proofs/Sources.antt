@@ -1,11 +1,12 @@
 -- A token made from another has no more than its source, in every run. Assumes nothing.
 use Prim.Native.Nat.{ℕ, _≤_}
 use native.Mathlib.Omega.{arith}
-use mathlib.Core.Path.{_≡_, refl, ap₂, _∙_}
+use mathlib.Core.Path.{_≡_, refl, ap₂, _∙_, subst, sym}
 use mathlib.Core.Bool.{Bool, true, false, not, _&&_}
 use mathlib.Core.Logic.{⊎-elim}
-use mathlib.Core.List.{List}
+use mathlib.Core.List.{List, map}
 use lib.Dec.{eqb}
+use Rattle.rules.specs.Given.{Given, numberIn}
 use Rattle.rules.specs.Basic.{implies, all, isEmpty}
 use Rattle.rules.specs.Decision.{carriedOut, withHandle, issued, Decision}
 use Rattle.rules.specs.Duplicate as Duplicate
@@ -22,7 +23,7 @@ use Rattle.rules.specs.Restrict as Restrict
 use Rattle.rules.specs.Restrict.{restrictingTo}
 use Rattle.rules.specs.Run.{ofBytes, events, outcomes, Call, Serving, serves}
 use Rattle.rules.specs.Serve.{rule, decided, decision, serve}
-use Rattle.rules.specs.State.{withTokens, withHandles, numberOf, tokenOf, held, changeToken, used, addToken, findHandle, handleOf, addHandle, State}
+use Rattle.rules.specs.State.{withTokens, withHandles, numberOf, tokenOf, held, changeToken, used, addToken, findHandle, handleOf, addHandle, entering, withSids, State}
 use Rattle.rules.specs.Table.{orElse, lives, added, Slot, free, live}
 use Rattle.rules.specs.Token.{primary, newToken, withElevation, Token, isRestricted}
 use Rattle.rules.proofs.Logic.{not-both, and-l, and-r, implies-e, map-mem}
@@ -31,7 +32,7 @@ use Rattle.rules.proofs.Restricting.{narrower}
 use Rattle.rules.proofs.Tables.{on-if, in-placed}
 use Rattle.rules.proofs.Facts.{StateFacts}
 use Rattle.rules.proofs.Changes.{put-numbers}
-use Rattle.rules.proofs.Steps.{Ends, ended}
+use Rattle.rules.proofs.Steps.{Ends, ended, enter-handle}
 use Rattle.rules.proofs.Always.{run-serves}
 
 stays : (mark : ℕ) (given own : List ℕ) (write : Bool) → not (isEmpty own) ≡ true
@@ -55,6 +56,11 @@ made d f P y = ended (Fresh d P) d y (none-fresh d f P)
 pub marked-fresh : (d : State) → StateFacts d → (P : Token → Type 0) (n s : ℕ) → Fresh d P (used n s d)
 unfolding Fresh used changeToken numberOf
 marked-fresh d f P n s u m h = absurd (let k = f .loose .tokens .given (u .number) (rw (put-numbers d _) at (map-mem numberOf m)) .1 in omega arith)
+
+-- SIDs that enter make no token
+pub entered-fresh : (d e : State) (P : Token → Type 0) (xs : List Given) → Fresh d P e → Fresh d P (entering xs e)
+unfolding Fresh entering withSids
+entered-fresh d e P xs h = h
 
 -- u is made in e, where no other is new to d
 pub issues : (d e : State) (P : Token → Type 0) (s mask : ℕ) (u : Token) → Fresh d P e → P u → Ends (Fresh d P) (issued s mask u e)
@@ -138,8 +144,18 @@ module _ (d : State) (f : StateFacts d) (x : Source) where
   none : {A : Type 0} → _≡_ {A = Slot Source} free (live x) → A
   none e = absurd (let z : _≡_ {A = ℕ} 0 1 = cc in omega arith)
 
+  restricts : (s n mark removed : ℕ) (deny : List ℕ) (given : List Given) → sourceAt d false (findHandle d s n) ≡ live x → Makes (Restrict.restrict d s n mark removed deny given)
+  unfolding Restrict.restrict Restrict.restrictNumbered Restrict.validRestrict Ends
+  restricts s n mark removed deny given e =
+      let τ = entering given d in
+      let numbers = map (numberIn (τ .sids)) given in
+      subst Makes (sym (enter-handle given d s n _ _))
+      (on-handle s n _ _ _ e λ b ok room.
+      let narrow : Restrict.narrows t mark numbers ≡ true = search (and-l, and-r) in
+      issues d τ (FromSource x) s (handleOf d s n .mask) _ (entered-fresh d d (FromSource x) given (none-fresh d f (FromSource x))) (restricted (τ .tokens .next) mark removed deny numbers b narrow))
+
   of-request : (s : ℕ) (r : Read Request) → sourceOf d s r ≡ live x → Makes (decided d s r)
-  unfolding sourceOf decided rule Duplicate.duplicate Restrict.restrict Restrict.validRestrict Ends
+  unfolding sourceOf decided rule Duplicate.duplicate Ends
   of-request s bad e = none e
   of-request s (got (Request.openOwn mask) bytes) e = none e
   of-request s (got (Request.close n) bytes) e = none e
@@ -151,8 +167,7 @@ module _ (d : State) (f : StateFacts d) (x : Source) where
   of-request s (got (Request.defaults n o g x dacl) bytes) e = none e
   of-request s (got (Request.duplicate n type level mask) bytes) e =
       on-handle s n _ _ _ e λ b ok room. copies s mask _ (duplicated (d .tokens .next) type level b)
-  of-request s (got (Request.restrict n mark removed deny sids) bytes) e =
-      on-handle s n _ _ _ e λ b ok room. copies s (handleOf d s n .mask) _ (restricted (d .tokens .next) mark removed deny sids b (search (and-l, and-r)))
+  of-request s (got (Request.restrict n mark removed deny sids) bytes) e = restricts s n mark removed deny sids e
   of-request s (got (Request.install n) bytes) e = none e
   of-request s (got (Request.impersonate n) bytes) e = none e
   of-request s (got Request.revert bytes) e = none e

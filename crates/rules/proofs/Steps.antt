@@ -3,11 +3,14 @@ use Prim.Native.Nat.{ℕ, _<_}
 use mathlib.Core.Path.{_≡_, refl}
 use mathlib.Core.Bool.{true, false, not, _&&_}
 use mathlib.Core.Logic.{_⊎_, inr}
-use mathlib.Core.List.{map}
+use mathlib.Core.List.{List, map}
 use lib.Dec.{eqb}
 use borrow.Author.Tests.{eqb-true, lt-ltb}
+use Rattle.rules.specs.Basic.{all}
+use Rattle.rules.specs.Given.{Given}
+use Rattle.rules.specs.SidTable.{fitsTable}
 use Rattle.rules.specs.Decision.{carriedOut, withHandle, canIssue, Decision, need_else_then_, success}
-use Rattle.rules.specs.Growth.{Mem, Follows, Later, HandlesLater, here}
+use Rattle.rules.specs.Growth.{Mem, Follows, Later, HandlesLater, SidsLater, here}
 use Rattle.rules.specs.Handle.{noHandle, isHandle, Handle}
 use Rattle.rules.specs.Impersonate as Impersonate
 use Rattle.rules.specs.Install as Install
@@ -16,27 +19,29 @@ use Rattle.rules.specs.Linking.{Linked}
 use Rattle.rules.specs.Mask.{validMask}
 use Rattle.rules.specs.Pair.{noPair, has, partner, Pair}
 use Rattle.rules.specs.Privileges.{assignPrimaryToken, tcb, impersonate}
-use Rattle.rules.specs.State.{stationCount, withHandles, withStations, stationAt, changeStation, setToken, setClient, numberOf, isNumbered, tokenOf, callerNumber, caller, held, putToken, withTokens, changeToken, used, canAddToken, addToken, findHandle, handleOf, canAddHandle, addHandle, dropHandle, handleToken, stationToken, elevatedToken, filteredToken, references, withPairs, pairOf, setPair, released, State}
+use Rattle.rules.specs.State.{stationCount, withSids, entering, withHandles, withStations, stationAt, changeStation, setToken, setClient, numberOf, isNumbered, tokenOf, callerNumber, caller, held, putToken, withTokens, changeToken, used, canAddToken, addToken, findHandle, handleOf, canAddHandle, addHandle, dropHandle, handleToken, stationToken, elevatedToken, filteredToken, references, withPairs, pairOf, setPair, released, State}
 use Rattle.rules.specs.Station.{startStation, Client}
 use Rattle.rules.specs.Table.{isLive, orElse, lives, found, live}
 use Rattle.rules.specs.Token.{primary, Token}
-use Rattle.rules.specs.Valid.{handleValid}
+use Rattle.rules.specs.Valid.{handleValid, isListed}
 use Rattle.rules.proofs.Logic.{and-l, and-r, and-i, getD-mem, map-mem}
 use Rattle.rules.proofs.Tables.{on-if, live-slot, found-in, found-some}
+use Rattle.rules.proofs.SidNumbers.{givenValid, all-entered-valid}
 use Rattle.rules.proofs.Facts.{TokenFacts, Loose, StateFacts}
-use Rattle.rules.proofs.Changes.{later-refl, later-trans, handles-refl, handles-trans, handle-later, drop-later, numbersOf, by-handle, by-station, by-elevated, by-filtered, put-loose, put-later, put-reached, add-loose, add-later, handle-loose, handle-reached, drop-loose, pair-loose, token-loose, MayAct, client-loose, release-facts, release-later, add-reached, add-there, add-room}
+use Rattle.rules.proofs.Changes.{later-refl, later-trans, handles-refl, handles-trans, sids-refl, sids-trans, sids-entered, handle-later, drop-later, numbersOf, by-handle, by-station, by-elevated, by-filtered, put-loose, put-later, put-reached, add-loose, add-later, handle-loose, handle-reached, drop-loose, pair-loose, enter-loose, token-loose, MayAct, client-loose, release-facts, release-later, add-reached, add-there, add-room}
 
 pub record Advance (d e : State) : Type 0 where
   pub facts : StateFacts e
   pub later : Later (d .tokens) (e .tokens)
   pub handles : HandlesLater (d .handles) (e .handles)
+  pub sids : SidsLater (d .sids) (e .sids)
 
 pub stays : {d : State} → StateFacts d → Advance d d
-stays f = record { facts = f; later = later-refl _; handles = handles-refl _ }
+stays f = record { facts = f; later = later-refl _; handles = handles-refl _; sids = sids-refl _ }
 
 infixr 3 _then_
 pub _then_ : {d e f : State} → Advance d e → Advance e f → Advance d f
-_then_ a b = record { facts = b .facts; later = later-trans _ _ _ (a .later) (b .later); handles = handles-trans _ _ _ (a .handles) (b .handles) }
+_then_ a b = record { facts = b .facts; later = later-trans _ _ _ (a .later) (b .later); handles = handles-trans _ _ _ (a .handles) (b .handles); sids = sids-trans (a .sids) (b .sids) }
 
 -- ---- the token of a number that is given
 
@@ -78,6 +83,7 @@ change d n f k i g h =
       facts = record { loose = put-loose d t (f t) (i .was) h g (k .loose); reached = put-reached d t (f t) (i .was) h (k .reached) };
       later = put-later d t (f t) (i .was) h;
       handles = handles-refl (d .handles);
+      sids = sids-refl (d .sids);
     }
 
 handle-ok : (s number token mask : ℕ) → s < stationCount → validMask mask ≡ true → handleValid (record { station = s; number = number; token = token; mask = mask }) ≡ true
@@ -92,25 +98,26 @@ handle-facts d s n mask l r h m room on =
 pub open-step : (d : State) (s n mask : ℕ) → StateFacts d → s < stationCount → validMask mask ≡ true → canAddHandle d ≡ true → Mem n (numbersOf d) → Advance d (addHandle s n mask d)
 unfolding addHandle withHandles
 open-step d s n mask f h m room on =
-    record { facts = handle-facts d s n mask (f .loose) (λ k i. inr (f .reached k i)) h m room on; later = later-refl (d .tokens); handles = handle-later d s n mask }
+    record { facts = handle-facts d s n mask (f .loose) (λ k i. inr (f .reached k i)) h m room on; later = later-refl (d .tokens); handles = handle-later d s n mask; sids = sids-refl (d .sids) }
 
 -- a token is made, and a handle on it
-pub issue-step : (d : State) (s mask : ℕ) (t : Token) → StateFacts d → s < stationCount → validMask mask ≡ true → canIssue d ≡ true → t .number ≡ d .tokens .next → TokenFacts t → Advance d (addHandle s (t .number) mask (addToken t d))
+pub issue-step : (d : State) (s mask : ℕ) (t : Token) → StateFacts d → s < stationCount → validMask mask ≡ true → canIssue d ≡ true → t .number ≡ d .tokens .next → TokenFacts t → isListed (d .sids) t ≡ true → Advance d (addHandle s (t .number) mask (addToken t d))
 unfolding addHandle withHandles canIssue addToken withTokens
-issue-step d s mask t f h m room e g =
+issue-step d s mask t f h m room e g known =
     let room1 = and-l (canAddHandle d) (canAddToken d) room in
     let room2 = and-r (canAddHandle d) (canAddToken d) room in
     record {
       facts =
-          handle-facts (addToken t d) s (t .number) mask (add-loose d t e room2 g (f .loose)) (add-reached d t (f .reached)) h m (add-room d t room1) (add-there d t room2);
+          handle-facts (addToken t d) s (t .number) mask (add-loose d t e room2 g known (f .loose)) (add-reached d t (f .reached)) h m (add-room d t room1) (add-there d t room2);
       later = add-later d t e;
       handles = handle-later (addToken t d) s (t .number) mask;
+      sids = sids-refl (d .sids);
     }
 
 pub close-step : (d : State) (s n : ℕ) → StateFacts d → Advance d (released (dropHandle s n d))
 unfolding dropHandle withHandles released withTokens
 close-step d s n f =
-    record { facts = release-facts (dropHandle s n d) (drop-loose d s n (f .loose)); later = release-later (dropHandle s n d); handles = drop-later d s n }
+    record { facts = release-facts (dropHandle s n d) (drop-loose d s n (f .loose)); later = release-later (dropHandle s n d); handles = drop-later d s n; sids = sids-refl (d .sids) }
 
 pub token-step : (d : State) (s : ℕ) (t : Token) → StateFacts d → Mem t (lives (d .tokens .slots)) → t .identity .type ≡ primary → Advance d (released (setToken s (t .number) d))
 unfolding setToken changeStation withStations released withTokens
@@ -119,6 +126,7 @@ token-step d s t f m p =
       facts = release-facts (setToken s (t .number) d) (token-loose d s t m p (f .loose));
       later = release-later (setToken s (t .number) d);
       handles = handles-refl (d .handles);
+      sids = sids-refl (d .sids);
     }
 
 pub client-step : (d : State) (s : ℕ) (c : Client) → StateFacts d → MayAct d c → Advance d (released (setClient s c d))
@@ -128,6 +136,7 @@ client-step d s c f may =
       facts = release-facts (setClient s c d) (client-loose d s c may (f .loose));
       later = release-later (setClient s c d);
       handles = handles-refl (d .handles);
+      sids = sids-refl (d .sids);
     }
 
 pub pair-step : (d : State) (p : Pair) → StateFacts d → Linked d p → Advance d (released (setPair p d))
@@ -137,6 +146,32 @@ pair-step d p f l =
       facts = release-facts (setPair p d) (pair-loose d p l (f .loose));
       later = release-later (setPair p d);
       handles = handles-refl (d .handles);
+      sids = sids-refl (d .sids);
+    }
+
+-- ---- SIDs that a request gives enter the table
+
+-- nothing else changes
+pub enter-handle : (xs : List Given) (d : State) (s n right : ℕ) (go : Handle → Token → Decision) → withHandle (entering xs d) s n right go ≡ withHandle d s n right go
+unfolding entering withSids withHandle findHandle handleOf tokenOf
+enter-handle xs d s n right go = refl
+
+pub enter-found : (xs : List Given) (d : State) (s n : ℕ) → findHandle (entering xs d) s n ≡ findHandle d s n
+unfolding entering withSids findHandle
+enter-found xs d s n = refl
+
+pub enter-used : (xs : List Given) (d : State) (n s : ℕ) → used n s (entering xs d) ≡ entering xs (used n s d)
+unfolding entering withSids used changeToken putToken withTokens tokenOf callerNumber stationAt
+enter-used xs d n s = refl
+
+pub enter-step : (d : State) (xs : List Given) → StateFacts d → all givenValid xs ≡ true → fitsTable (entering xs d .sids) ≡ true → Advance d (entering xs d)
+unfolding entering withSids references
+enter-step d xs f ok fits =
+    record {
+      facts = record { loose = enter-loose d xs (all-entered-valid xs (d .sids) (f .loose .sids) ok fits) (f .loose); reached = f .reached };
+      later = later-refl (d .tokens);
+      handles = handles-refl (d .handles);
+      sids = sids-entered xs (d .sids);
     }
 
 -- ---- how a request is decided

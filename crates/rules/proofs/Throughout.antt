@@ -13,11 +13,14 @@ use Rattle.rules.specs.Valid.{valid}
 use Rattle.rules.specs.Throughout.{Throughout}
 use Rattle.rules.proofs.Runs.{run-end, run-answers, run-timed, cutting, used-up, cut}
 use Rattle.rules.proofs.Facts.{valid-facts, facts-valid}
-use Rattle.rules.proofs.Always.{run-serves, run-step, lasts, handle-kept, handle-numbers, token-numbers, enabled-present, default-present, all-fit}
+use Rattle.rules.proofs.Always.{run-serves, run-step, lasts, handle-kept, handle-numbers, token-numbers, enabled-present, default-present, sids-listed, all-fit}
+use Rattle.rules.proofs.SidGrowth.{number-stays, one-number}
+use Rattle.rules.proofs.SidNumbers.{sids-two}
 use Rattle.rules.proofs.Bound.{bound, closed}
 use Rattle.rules.proofs.Ladder.{ladder}
 use Rattle.rules.proofs.Acting.{acting, client-kept}
 use Rattle.rules.proofs.Linking.{pairs-kept, elevation-kept}
+use Rattle.rules.proofs.EnteringSids.{sids-entered}
 use Rattle.rules.proofs.Evaluating.{evaluated}
 use Rattle.rules.proofs.Sources.{no-more}
 use Rattle.rules.proofs.Served.{answers-served, one-by-one}
@@ -61,6 +64,11 @@ throughout σ v cs w =
       pairs = λ x m. pairs-kept x;
       elevations = λ x m. elevation-kept x (run-serves cs σ w f x m);
       evaluating = λ x m. evaluated x;
+      sids = λ more x n k. rw (after-append cs more σ) (number-stays (run-step more τ x g .sids) (sids-two (τ .sids) (g .loose .sids)) n k);
+      oneNumber = λ n m i j e. one-number (τ .sids) (g .loose .sids) n m i j e;
+      sidTable = λ more x. rw (after-append cs more σ) (run-step more τ x g .sids);
+      entering = λ x m. sids-entered x;
+      listed = sids-listed τ g;
       enabled = enabled-present τ g;
       byDefault = default-present τ g;
       copies = no-more cs σ w f;

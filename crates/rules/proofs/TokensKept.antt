@@ -2,10 +2,10 @@
 use Prim.Native.Nat.{ℕ, _+_, _%_, _^_, _≤_}
 use native.Mathlib.Nat.{mod-lt}
 use native.Mathlib.Omega.{arith}
-use mathlib.Core.Path.{_≡_, refl, _∙_}
+use mathlib.Core.Path.{_≡_, refl, ap, ap₂, subst, _∙_}
 use mathlib.Core.Bool.{Bool, true, _&&_, _||_}
 use mathlib.Core.Logic.{inl, inr, ⊎-elim}
-use mathlib.Core.List.{List, []}
+use mathlib.Core.List.{List, [], _∷_, _++_, map, append-nil}
 use lib.Dec.{eqb, leb}
 use lib.ListN.{length}
 use borrow.Author.Tests.{eqb-true, eqb-false, lt-ltb, le-leb, leb-true}
@@ -19,16 +19,19 @@ use Rattle.rules.specs.Bits.{has, within}
 use Rattle.rules.specs.Create.{validIntegrity}
 use Rattle.rules.specs.Duplicate.{retyped, copied, nobody, anonymousCopy, duplicated}
 use Rattle.rules.specs.Entry.{Entry, validEntries}
-use Rattle.rules.specs.Group.{Group}
-use Rattle.rules.specs.Growth.{Follows}
+use Rattle.rules.specs.Group.{Group, sidOf, isEnabledByDefault, withEnabled}
+use Rattle.rules.specs.Growth.{Follows, Mem}
 use Rattle.rules.specs.Link.{clone}
 use Rattle.rules.specs.Privileges.{existing, markUsed, onlyUsed, Privileges}
 use Rattle.rules.specs.Restrict as Restrict
 use Rattle.rules.specs.Restrict.{restrictingTo, restricted}
+use Rattle.rules.specs.Create as Create
+use Rattle.rules.specs.Sid.{Sid}
+use Rattle.rules.specs.SidTable.{isNumber}
 use Rattle.rules.specs.State.{usedOn}
 use Rattle.rules.specs.Token.{maxRestricting, maxDacl, primary, impersonation, identification, defaultElevation, full, limited, withElevation, noLimits, noDefaults, newToken, withPrivileges, withGroups, withDefaults, withScope, nextModified, Identity, Limits, Defaults, Token}
-use Rattle.rules.specs.Valid.{isByte, is32, is64, between, identityValid, privilegesValid, groupsValid, limitsValid, defaultsValid}
-use Rattle.rules.proofs.Logic.{and-l, and-r, and-i, or-e, either, all-mem, mem-all}
+use Rattle.rules.specs.Valid.{isByte, is32, is64, between, identityValid, privilegesValid, groupsValid, limitsValid, defaultsValid, sidNumbers, isListed}
+use Rattle.rules.proofs.Logic.{and-l, and-r, and-i, or-e, either, all-mem, mem-all, mem-left, mem-right, mem-append}
 use Rattle.rules.proofs.Restricting.{from-either}
 use Rattle.rules.proofs.Bits.{within-refl, power-within}
 use Rattle.rules.proofs.Tables.{on-if}
@@ -226,3 +229,48 @@ restricted-made t n mark removed deny sids o w l s f =
     let limited = limited-ok mark sids (t .limits) l s (f .limits) in
     let named = groups-defaults g (t .defaults) ∙ f .defaults in
     record { number = refl; facts = search; present = k .present }
+
+-- ---- the SIDs of a new token are in the table where its source's are, and those given
+
+pub copied-listed : (sids : List Sid) (t : Token) (n type level : ℕ) → isListed sids t ≡ true → isListed sids (copied n type level t) ≡ true
+unfolding isListed sidNumbers copied retyped
+copied-listed sids t n type level h = h
+
+pub clone-listed : (sids : List Sid) (t : Token) (n : ℕ) → isListed sids t ≡ true → isListed sids (clone n t) ≡ true
+unfolding isListed sidNumbers clone withElevation copied retyped
+clone-listed sids t n h = h
+
+stripped-listed : (sids : List Sid) (t : Token) (n : ℕ) → isListed sids (anonymousCopy n t) ≡ true
+unfolding isListed sidNumbers anonymousCopy newToken nobody noLimits all isNumber
+stripped-listed sids t n = refl
+
+pub duplicated-listed : (sids : List Sid) (t : Token) (n type level : ℕ) → isListed sids t ≡ true → isListed sids (duplicated n type level t) ≡ true
+unfolding duplicated
+duplicated-listed sids t n type level h =
+    let P : Token → Type 0 = λ u. isListed sids u ≡ true in
+    on-if P (eqb type primary) _ _ (λ p. copied-listed sids t n primary 0 h)
+    (λ p. on-if P (eqb level 0) _ _ (λ z. stripped-listed sids t n) (λ z. copied-listed sids t n impersonation level h))
+
+pub restricted-listed : (sids : List Sid) (t : Token) (n mark removed : ℕ) (deny given : List ℕ) → TokenFacts t → all (isNumber sids) given ≡ true
+    → isListed sids t ≡ true → isListed sids (restricted n mark removed deny given t) ≡ true
+unfolding isListed sidNumbers restricted Restrict.limited all
+restricted-listed sids t n mark removed deny given f w h =
+    let own = and-r (isNumber sids (t .identity .user)) _ h in
+    let each : (k : ℕ) → Mem k (map sidOf (t .groups) ++ t .limits .restricting) → isNumber sids k ≡ true = λ k m. all-mem (isNumber sids) _ own m in
+    let same = groups-sids (G.all-denied deny (t .groups) (each-group (t .groups) (f .groups))) in
+    and-i (and-l (isNumber sids (t .identity .user)) _ h)
+    (mem-all (isNumber sids) _ (λ k m.
+    ⊎-elim (λ i. each k (mem-left _ (subst (Mem k) same i)))
+    (λ i. ⊎-elim (all-mem (isNumber sids) given w) (λ j. each k (mem-right (map sidOf (t .groups)) j)) (from-either given (t .limits .restricting) i))
+    (mem-append (map sidOf (Restrict.deniedAll deny (t .groups))) m)))
+
+same-sids : (gs : List Group) → map sidOf (map Create.entered gs) ≡ map sidOf gs
+unfolding sidOf Create.entered withEnabled
+same-sids [] = refl
+same-sids (g ∷ gs) =
+    ap₂ (λ (x : ℕ) (xs : List ℕ). x ∷ xs) (on-if (λ (z : Group). z .sid ≡ g .sid) (isEnabledByDefault g) _ _ (λ e. refl) (λ e. refl)) (same-sids gs)
+
+pub created-listed : (sids : List Sid) (n : ℕ) (i : Identity) (p : Privileges) (gs : List Group) → all (isNumber sids) (i .user ∷ map sidOf gs) ≡ true
+    → isListed sids (newToken n i p (map Create.entered gs)) ≡ true
+unfolding isListed sidNumbers newToken noLimits
+created-listed sids n i p gs h = ap (λ (xs : List ℕ). all (isNumber sids) (i .user ∷ xs)) (append-nil _ ∙ same-sids gs) ∙ h

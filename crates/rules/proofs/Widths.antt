@@ -3,19 +3,23 @@ use Prim.Native.Nat.{ℕ, zero, suc, _+_, _^_, _≤_}
 use native.Mathlib.Omega.{arith}
 use mathlib.Core.Path.{_≡_, refl, subst}
 use mathlib.Core.Bool.{Bool, true}
-use mathlib.Core.List.{List, [], _∷_}
+use mathlib.Core.List.{List, [], _∷_, map}
 use lib.ListN.{getD}
 use borrow.Author.Tests.{lt-ltb}
-use Rattle.rules.specs.Basic.{all}
+use Rattle.rules.specs.Basic.{all, isBelow}
 use Rattle.rules.specs.Condition.{Condition, allOf, anyOf, negated, privilegeEnabled, groupEnabled, Conditions, none, more, maxDepth}
 use Rattle.rules.specs.Entry.{Entry}
-use Rattle.rules.specs.Group.{Group}
+use Rattle.rules.specs.Given.{Given, GivenGroup, groupSid, bySid}
+use Rattle.rules.specs.Sid.{packed, readSid, validSid, Sid}
+use Rattle.rules.specs.Growth.{Mem}
 use Rattle.rules.specs.Number.{max16, max32, max64, readNumber, Read, got, bad}
 use Rattle.rules.specs.Request as Request
-use Rattle.rules.specs.Request.{Reader, follow, _>>=_, give, end, byte, times, u16, u32, u64, group, entry, unknown, conditions, listLayout, negatedLayout, namedLayout, kinds, condition, numberLayout, entriesLayout, createLayout, queryLayout, scopeLayout, defaultsLayout, duplicateLayout, restrictLayout, linkLayout, evaluateLayout, layouts, parse, Request}
+use Rattle.rules.specs.Request.{Reader, follow, _>>=_, give, end, byte, times, u16, u32, u64, sidNumber, packedSid, group, entry, unknown, conditions, listLayout, negatedLayout, namedLayout, kinds, condition, numberLayout, entriesLayout, createLayout, queryLayout, scopeLayout, defaultsLayout, duplicateLayout, restrictLayout, linkLayout, evaluateLayout, layouts, parse, Request}
 use Rattle.rules.specs.Valid.{isByte, is32, is64}
-use Rattle.rules.proofs.Logic.{and-l, and-r, and-i}
+use Rattle.rules.proofs.Logic.{and-l, and-r, and-i, all-mem, mem-all, mem-right}
 use Rattle.rules.proofs.Numbers.{by-reading}
+use Rattle.rules.proofs.Sids.{read-form}
+use Rattle.rules.proofs.SidNumbers.{givenValid}
 
 -- ---- what a reader gives, of bytes
 
@@ -106,18 +110,43 @@ module _ {A : Type 0} (f : A → Bool) (p : Reader A) (h : Reads (λ a. f a ≡ 
             (λ x k. record { gives = λ rest c. followed (times n p rest) (λ xs. give (x ∷ xs)) (many n .gives rest c) (λ xs l. gives-it (x ∷ xs) (and-i k l)) });
       }
 
-unfoldable pub sid32 : Group → Bool
-sid32 g = is32 (g .sid)
-
 unfoldable Whatever : {A : Type 0} → A → Type 0
 Whatever a = Unit {0}
 
 unfoldable anything : Entry → Bool
 anything e = true
 
-a-group : Reads (λ g. sid32 g ≡ true) group
-unfolding group sid32
-a-group = and-then u32 _ number32 λ s h. and-then u32 _ number32 λ a k. gives-it _ h
+-- ---- SIDs
+
+a-number : Reads (λ x. givenValid x ≡ true) sidNumber
+unfolding sidNumber givenValid
+a-number = and-then u32 _ number32 λ n h. gives-it _ refl
+
+a-sid : Reads (λ s. validSid s ≡ true) readSid
+unfolding Got isByte isBelow
+a-sid = record { gives = λ bytes b. go bytes b (readSid bytes) refl }
+  where
+    go : (bytes : List ℕ) → all isByte bytes ≡ true → (r : Read Sid) → readSid bytes ≡ r → Got (λ s. validSid s ≡ true) r
+    go bytes b bad e = tt
+    go bytes b (got s rest) e = let r = read-form bytes b s rest e in (r .1, mem-all isByte rest (λ n m. all-mem isByte bytes b (subst (Mem n) (r .0) (mem-right (packed s) m))))
+
+a-packed : Reads (λ x. givenValid x ≡ true) packedSid
+unfolding packedSid givenValid
+a-packed = and-then readSid _ a-sid λ s h. gives-it _ h
+
+unfoldable givenGroup : GivenGroup → Bool
+givenGroup g = givenValid (g .sid)
+
+all-given : (gs : List GivenGroup) → all givenGroup gs ≡ true → all givenValid (map groupSid gs) ≡ true
+unfolding all givenGroup groupSid
+all-given [] h = refl
+all-given (g ∷ gs) h = and-i (and-l (givenGroup g) (all givenGroup gs) h) (all-given gs (and-r (givenGroup g) (all givenGroup gs) h))
+
+-- by how a SID is read
+module _ (p : Reader Given) (ok : Reads (λ x. givenValid x ≡ true) p) where
+  a-group : Reads (λ g. givenGroup g ≡ true) (group p)
+  unfolding group givenGroup
+  a-group = and-then p _ ok λ s h. and-then u32 _ number32 λ a k. gives-it _ h
 
 an-entry : Reads (λ e. anything e ≡ true) entry
 unfolding entry anything
@@ -129,14 +158,14 @@ an-entry = and-then u32 _ number32 λ s h. and-then u32 _ number32 λ a k. gives
 unfoldable pub Fits : Request → Type 0
 Fits (Request.openOwn mask) = Unit {0}
 Fits (Request.close h) = Unit {0}
-Fits (Request.create user session integrity present byDefault gs) = (is32 user ≡ true) × (is64 session ≡ true) × (all sid32 gs ≡ true)
+Fits (Request.create user session integrity present byDefault gs) = (is64 session ≡ true) × (all givenValid (user ∷ map groupSid gs) ≡ true)
 Fits (Request.query h class capacity) = Unit {0}
 Fits (Request.privileges h es) = Unit {0}
 Fits (Request.groups h es) = Unit {0}
 Fits (Request.scope h v) = is32 v ≡ true
 Fits (Request.defaults h owner group flag bytes) = all isByte bytes ≡ true
 Fits (Request.duplicate h type level mask) = Unit {0}
-Fits (Request.restrict h mark removed deny sids) = all is32 sids ≡ true
+Fits (Request.restrict h mark removed deny sids) = all givenValid sids ≡ true
 Fits (Request.install h) = Unit {0}
 Fits (Request.impersonate h) = Unit {0}
 Fits Request.revert = Unit {0}
@@ -152,11 +181,11 @@ in-entries : (f : ℕ → List Entry → Request) → ((n : ℕ) (es : List Entr
 unfolding entriesLayout
 in-entries f fit = and-then u32 _ number32 λ h i. and-then u32 _ number32 λ n j. and-then _ _ (many anything entry an-entry n) λ es k. ends _ (fit h es)
 
-in-create : Reads Fits createLayout
-unfolding createLayout Fits
-in-create =
-    and-then u32 _ number32 λ user hu. and-then u64 _ number64 λ session hs. and-then u32 _ number32 λ i hi. and-then u64 _ number64 λ p hp.
-    and-then u64 _ number64 λ d hd. and-then u32 _ number32 λ n hn. and-then _ _ (many sid32 group a-group n) λ gs hg. ends _ (hu, hs, hg)
+in-create : (p : Reader Given) → Reads (λ x. givenValid x ≡ true) p → Reads Fits (createLayout p)
+unfolding createLayout Fits all
+in-create sid ok =
+    and-then sid _ ok λ user hu. and-then u64 _ number64 λ session hs. and-then u32 _ number32 λ i hi. and-then u64 _ number64 λ p hp.
+    and-then u64 _ number64 λ d hd. and-then u32 _ number32 λ n hn. and-then _ _ (many givenGroup (group sid) (a-group sid ok) n) λ gs hg. ends _ (hs, and-i hu (all-given gs hg))
 
 in-query : Reads Fits queryLayout
 unfolding queryLayout Fits
@@ -176,11 +205,11 @@ in-duplicate : Reads Fits duplicateLayout
 unfolding duplicateLayout Fits
 in-duplicate = and-then u32 _ number32 λ a h. and-then u32 _ number32 λ b i. and-then u32 _ number32 λ c j. and-then u32 _ number32 λ d k. ends _ tt
 
-in-restrict : Reads Fits restrictLayout
+in-restrict : (p : Reader Given) → Reads (λ x. givenValid x ≡ true) p → Reads Fits (restrictLayout p)
 unfolding restrictLayout Fits
-in-restrict =
+in-restrict p ok =
     and-then u32 _ number32 λ a h. and-then u32 _ number32 λ m hm. and-then u64 _ number64 λ r hr. and-then u32 _ number32 λ n hn. and-then u32 _ number32 λ k hk.
-    and-then _ _ (many is32 u32 number32 n) λ deny hd. and-then _ _ (many is32 u32 number32 k) λ sids hs. ends _ hs
+    and-then _ _ (many is32 u32 number32 n) λ deny hd. and-then _ _ (many givenValid p ok k) λ sids hs. ends _ hs
 
 in-link : Reads Fits linkLayout
 unfolding linkLayout Fits
@@ -229,7 +258,7 @@ unfolding layouts Each Fits
 all-fit =
     let one : (n : ℕ) → Unit {0} = λ n. tt in
     let two : (n : ℕ) (es : List Entry) → Unit {0} = λ n es. tt in
-    (in-none, (in-number _ one, (in-number _ one, (in-create, (in-query, (in-entries _ two, (in-entries _ two, (in-scope, (in-defaults, (in-duplicate, (in-restrict, (in-number _ one, (in-number _ one, (ends _ tt, (in-none, (in-none, (in-link, (in-number _ one, (in-evaluate, tt)))))))))))))))))))
+    (in-none, (in-number _ one, (in-number _ one, (in-create _ a-number, (in-query, (in-entries _ two, (in-entries _ two, (in-scope, (in-defaults, (in-duplicate, (in-restrict _ a-number, (in-number _ one, (in-number _ one, (ends _ tt, (in-create _ a-packed, (in-restrict _ a-packed, (in-link, (in-number _ one, (in-evaluate, tt)))))))))))))))))))
 
 pub parsed : (body : List ℕ) → all isByte body ≡ true → Got Fits (parse body)
 unfolding parse

@@ -10,7 +10,7 @@ use Rattle.table.specs.Sections.{section}
 use Rattle.rules.specs.Refusal.{ranks, streamBroken, noStation, shortBuffer, invalidMemory}
 use Rattle.rules.specs.State.{stationCount}
 use Rattle.rules.specs.Frame.{Framed, part, broken, whole, framed, maxAnswer}
-use Rattle.rules.specs.Memory.{Memory, stationWords, primaryWord, clientWord, levelWord, counterSection, controlSizes, stationWordAt, pairsIn, valid}
+use Rattle.rules.specs.Memory.{Memory, stationWords, primaryWord, clientWord, levelWord, counterSection, controlSizes, stationWordAt, pairsIn, sidsIn, valid}
 use Rattle.rules.specs.Run.{Call, ofBytes}
 use Rattle.rules.specs.Growth.{Mem}
 use Rattle.rules.specs.Calls.{refusedOn}
@@ -48,6 +48,7 @@ pub record LeftAlone (m m′ : Memory) : Type 0 where
   pub clients : stationColumn clientWord m′ ≡ stationColumn clientWord m
   pub levels : stationColumn levelWord m′ ≡ stationColumn levelWord m
   pub pairs : pairsIn (m′ .control) ≡ pairsIn (m .control)
+  pub sids : sidsIn (m′ .control) ≡ sidsIn (m .control)
 
 -- ---- the claim
 
@@ -62,7 +63,7 @@ pub record AnyMemory (m : Memory) (c : Call) : Type 0 where
   pub listed : Mem (doneBy m c .refusal) (0 ∷ noStation ∷ shortBuffer ∷ invalidMemory ∷ [])
   -- a call that is refused alters, uses and answers nothing
   pub refused : (doneBy m c .refusal ≡ 0 → ⊥) → doneBy m c ≡ refusedOn (doneBy m c .refusal) m
-  -- 'a refusal alters no token, no handle and no counter', no station's primary token or client and no linked pair: nor does a part, a break or a
+  -- 'a refusal alters no token, no handle and no counter', no station's primary token or client, no linked pair and no SID: nor does a part, a break or a
   -- reconnect. Only a request that is answered 0 does
   pub leftAlone : (Mem 0 (statuses (doneBy m c .answer)) → ⊥) → LeftAlone m (doneBy m c .after)
   -- memory in order stays in order

@@ -2,12 +2,21 @@
 use Prim.Native.Nat.{ℕ, zero, suc}
 use mathlib.Core.Bool.{Bool, true, false, not, _&&_, _||_}
 use mathlib.Core.List.{List, [], _∷_}
-use lib.Dec.{eqb}
+use lib.Dec.{eqb, ltb}
 
 infixr 5 if_then_else_
 abbrev pub if_then_else_ : {A : Type 0} → Bool → A → A → A
 if_then_else_ true a b = a
 if_then_else_ false a b = b
+
+abbrev pub word32 : ℕ
+word32 = 0x100000000
+
+abbrev pub isZero : ℕ → Bool
+isZero n = eqb n 0
+
+unfoldable pub isBelow : ℕ → ℕ → Bool
+isBelow n i = ltb i n
 
 unfoldable pub implies : Bool → Bool → Bool
 implies true b = b
@@ -30,6 +39,13 @@ filter f (x ∷ xs) = if f x then x ∷ filter f xs else filter f xs
 unfoldable pub member : ℕ → List ℕ → Bool
 member n [] = false
 member n (x ∷ xs) = eqb n x || member n xs
+
+-- two lists of numbers are the same
+unfoldable pub same : List ℕ → List ℕ → Bool
+same [] [] = true
+same [] (y ∷ ys) = false
+same (x ∷ xs) [] = false
+same (x ∷ xs) (y ∷ ys) = eqb x y && same xs ys
 
 -- no number stands twice
 unfoldable pub distinct : List ℕ → Bool

@@ -12,6 +12,9 @@ pub record Group : Type 0 where
 unfoldable pub noGroup : Group
 noGroup = record { sid = 0; attributes = 0 }
 
+unfoldable pub sidOf : Group → ℕ
+sidOf g = g.sid
+
 -- ---- the attributes: MANDATORY 1, ENABLED_BY_DEFAULT 2, ENABLED 4, OWNER 8, DENY_ONLY 0x10, LOGON_ID 0xC0000000
 
 unfoldable pub isMandatory : Group → Bool

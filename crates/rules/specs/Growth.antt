@@ -3,15 +3,16 @@ use Prim.Native.Nat.{ℕ, _≤_, _<_}
 use mathlib.Core.Path.{_≡_}
 use mathlib.Core.Bool.{Bool, true, false}
 use mathlib.Core.Logic.{_⊎_}
-use mathlib.Core.List.{List, _∷_, map}
+use mathlib.Core.List.{List, _∷_, _++_, map}
 use lib.ListN.{getD}
 use Rattle.rules.specs.Basic.{if_then_else_}
 use Rattle.rules.specs.Number.{Read, got, bad}
 use Rattle.rules.specs.Bits.{within}
-use Rattle.rules.specs.Group.{Group, noGroup, isDenyOnly}
+use Rattle.rules.specs.Group.{noGroup, sidOf, isDenyOnly}
 use Rattle.rules.specs.Token.{Token, noRoot, defaultElevation, isRestricted}
 use Rattle.rules.specs.Table.{Slot, free, live, Table, lives}
 use Rattle.rules.specs.Handle.{Handle}
+use Rattle.rules.specs.Sid.{Sid}
 use Rattle.rules.specs.State.{State, tokenOf, findHandle}
 use Rattle.rules.specs.Request.{Request, parse}
 use Rattle.rules.specs.Duplicate as Duplicate
@@ -24,9 +25,6 @@ use Rattle.rules.specs.Run.{Serving, Outcome, serves, servedBy}
 pub data Mem {A : Type 0} (a : A) : List A → Type 0 where
   here : {x : A} {xs : List A} → a ≡ x → Mem a (x ∷ xs)
   there : {x : A} {xs : List A} → Mem a xs → Mem a (x ∷ xs)
-
-unfoldable pub sidOf : Group → ℕ
-sidOf g = g.sid
 
 -- the token is live
 unfoldable pub Live : Token → State → Type 0
@@ -69,12 +67,17 @@ pub record HandlesLater (x y : Table Handle) : Type 0 where
   pub next : x .next ≤ y .next
   pub old : (h : Handle) → Mem h (lives (y .slots)) → h .number < x .next → Mem h (lives (x .slots))
 
+-- y can be the SID table x at a later time: its SIDs, then more
+pub record SidsLater (x y : List Sid) : Type 0 where
+  pub more : List Sid
+  pub behind : y ≡ x ++ more
+
 -- handle n of station s is h in τ, as it was in σ, and stands for the same token
 pub record StillHandle (σ τ : State) (s n : ℕ) (h : Handle) : Type 0 where
   pub found : findHandle τ s n ≡ live h
   pub token : Follows (tokenOf σ (h .token)) (tokenOf τ (h .token))
 
--- ---- a token made from another: its source is the one that request 9 or 10 copies, or the partner that request 17 clones
+-- ---- a token made from another: its source is the one that request 9, 10 or 15 copies, or the partner that request 17 clones
 
 pub record Source : Type 0 where
   pub token : Token

@@ -5,6 +5,10 @@ pub mod Mask
 pub mod Privileges
 pub mod Group
 pub mod Token
+pub mod Sid
+pub mod SidTable
+pub mod Given
+pub mod SidRows
 pub mod Table
 pub mod Handle
 pub mod Station
@@ -38,6 +42,7 @@ pub mod Run
 pub mod Growth
 pub mod Acting
 pub mod Linking
+pub mod Entering
 pub mod Evaluating
 pub mod Restore
 pub mod Head

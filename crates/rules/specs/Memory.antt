@@ -9,7 +9,7 @@ use Rattle.table.specs.Lists.{pad}
 use Rattle.table.specs.Table.{flat}
 use Rattle.table.specs.Rows.{readRows}
 use Rattle.table.specs.Sections.{total, placeOf, joined, section}
-use Rattle.rules.specs.Basic.{if_then_else_}
+use Rattle.rules.specs.Basic.{if_then_else_, same, word32}
 use Rattle.rules.specs.Privileges.{Privileges}
 use Rattle.rules.specs.Group.{Group}
 use Rattle.rules.specs.Token.{Token, Identity, Limits, Defaults, maxGroups, maxRestricting, maxDacl}
@@ -17,6 +17,7 @@ use Rattle.rules.specs.Table.{Slot, free, live}
 use Rattle.rules.specs.Handle.{Handle, noHandle}
 use Rattle.rules.specs.Station.{Station}
 use Rattle.rules.specs.Pair.{Pair}
+use Rattle.rules.specs.SidRows.{sidWords, writeSids, sidsAt}
 use Rattle.rules.specs.State.{State, tokenSlots, handleSlots, stationCount, pairSlots}
 use Rattle.rules.specs.Frame.{maxBody}
 use Rattle.rules.specs.Valid as Valid
@@ -99,8 +100,12 @@ stationSection = 1
 abbrev pub pairSection : ℕ
 pairSection = 2
 
+-- the SID table
+abbrev pub sidSection : ℕ
+sidSection = 3
+
 abbrev pub controlSizes : List ℕ
-controlSizes = counterWords ∷ stationCount * stationWords ∷ pairSlots * pairWords ∷ []
+controlSizes = counterWords ∷ stationCount * stationWords ∷ pairSlots * pairWords ∷ sidWords ∷ []
 
 abbrev pub controlWords : ℕ
 controlWords = total controlSizes
@@ -116,6 +121,9 @@ stationsIn ws = section controlSizes stationSection ws
 
 abbrev pub pairsIn : List ℕ → List ℕ
 pairsIn ws = section controlSizes pairSection ws
+
+abbrev pub sidsIn : List ℕ → List ℕ
+sidsIn ws = section controlSizes sidSection ws
 
 -- where word k of station s stands
 abbrev pub stationWordAt : ℕ → ℕ → ℕ
@@ -136,9 +144,6 @@ sized m =
     && eqb (length m.pending) (stationCount * pendingBytes)
 
 -- ---- words
-
-abbrev pub word32 : ℕ
-word32 = 0x100000000
 
 abbrev pub low32 : ℕ → ℕ
 low32 w = w % word32
@@ -200,7 +205,7 @@ abbrev pub counters : State → List ℕ
 counters σ = σ .tokens .next ∷ σ .handles .next ∷ []
 
 unfoldable pub sections : State → List (List ℕ)
-sections σ = counters σ ∷ flat stationRow σ.stations ∷ flat slotPair σ.pairs ∷ []
+sections σ = counters σ ∷ flat stationRow σ.stations ∷ flat slotPair σ.pairs ∷ writeSids σ.sids ∷ []
 
 unfoldable pub control : State → List ℕ
 control σ = joined (sections σ)
@@ -290,15 +295,10 @@ decode m =
       handles = record { slots = map handleAt m.handles; next = nextHandle m.control };
       stations = readRows stationAt stationWords pendingBytes stationCount (stationsIn m.control) m.pending;
       pairs = readRows pairAt pairWords 0 pairSlots (pairsIn m.control) [];
+      sids = sidsAt (sidsIn m.control);
     }
 
 -- ---- valid memory: its sizes are right, it is what the state that it stands for is written as, and that state is valid
-
-unfoldable pub same : List ℕ → List ℕ → Bool
-same [] [] = true
-same [] (y ∷ ys) = false
-same (x ∷ xs) [] = false
-same (x ∷ xs) (y ∷ ys) = eqb x y && same xs ys
 
 unfoldable pub sameHandle : Handle → Handle → Bool
 sameHandle a b = eqb a.station b.station && eqb a.number b.number && eqb a.token b.token && eqb a.mask b.mask

@@ -40,7 +40,8 @@ installMismatch = refusal 7
 abbrev pub restrictedServer : Refusal
 restrictedServer = refusal 7
 
--- a needed slot is not free, a needed next number is unusable, over 16 restricting SIDs, or a fifth session would have a linked pair
+-- a needed slot is not free, a needed next number is unusable, over 16 restricting SIDs, a fifth session would have a linked pair, or
+-- the SID table would have over 256
 abbrev pub tableFull : Refusal
 tableFull = refusal 8
 

@@ -1,23 +1,24 @@
--- The sixteen requests and their layouts: the request number, then the fields; nothing may be left. Assumes nothing.
+-- The eighteen requests and their layouts: the request number, then the fields; nothing may be left. Assumes nothing.
 use Prim.Native.Nat.{ℕ, zero, suc}
 use mathlib.Core.List.{List, [], _∷_}
 use lib.ListN.{getD}
 use Rattle.rules.specs.Number.{Read, got, bad, readNumber, max16, max32, max64}
-use Rattle.rules.specs.Group.{Group}
+use Rattle.rules.specs.Sid.{readSid}
+use Rattle.rules.specs.Given.{Given, byNumber, bySid, GivenGroup}
 use Rattle.rules.specs.Entry.{Entry}
 use Rattle.rules.specs.Condition.{Condition, allOf, anyOf, negated, privilegeEnabled, groupEnabled, Conditions, none, more, maxDepth}
 
 pub data Request : Type 0 where
   openOwn : ℕ → Request
   close : ℕ → Request
-  create : ℕ → ℕ → ℕ → ℕ → ℕ → List Group → Request
+  create : Given → ℕ → ℕ → ℕ → ℕ → List GivenGroup → Request
   query : ℕ → ℕ → ℕ → Request
   privileges : ℕ → List Entry → Request
   groups : ℕ → List Entry → Request
   scope : ℕ → ℕ → Request
   defaults : ℕ → ℕ → ℕ → ℕ → List ℕ → Request
   duplicate : ℕ → ℕ → ℕ → ℕ → Request
-  restrict : ℕ → ℕ → ℕ → List ℕ → List ℕ → Request
+  restrict : ℕ → ℕ → ℕ → List ℕ → List Given → Request
   install : ℕ → Request
   impersonate : ℕ → Request
   revert : Request
@@ -66,9 +67,20 @@ u32 bytes = readNumber max32 bytes
 unfoldable pub u64 : Reader ℕ
 u64 bytes = readNumber max64 bytes
 
-unfoldable pub group : Reader Group
-group = do
-  s ← u32
+-- a SID by its number (3, 10) or packed (14, 15)
+unfoldable pub sidNumber : Reader Given
+sidNumber = do
+  n ← u32
+  give (byNumber n)
+
+unfoldable pub packedSid : Reader Given
+packedSid = do
+  s ← readSid
+  give (bySid s)
+
+unfoldable pub group : Reader Given → Reader GivenGroup
+group p = do
+  s ← p
   a ← u32
   give (record { sid = s; attributes = a })
 
@@ -134,15 +146,16 @@ entriesLayout request = do
   es ← times count entry
   end (request h es)
 
-unfoldable pub createLayout : Reader Request
-createLayout = do
-  user ← u32
+-- p reads a SID
+unfoldable pub createLayout : Reader Given → Reader Request
+createLayout p = do
+  user ← p
   session ← u64
   integrity ← u32
   present ← u64
   byDefault ← u64
   count ← u32
-  gs ← times count group
+  gs ← times count (group p)
   end (create user session integrity present byDefault gs)
 
 unfoldable pub queryLayout : Reader Request
@@ -176,15 +189,15 @@ duplicateLayout = do
   mask ← u32
   end (duplicate h type level mask)
 
-unfoldable pub restrictLayout : Reader Request
-restrictLayout = do
+unfoldable pub restrictLayout : Reader Given → Reader Request
+restrictLayout p = do
   h ← u32
   mark ← u32
   removed ← u64
   denyCount ← u32
   sidCount ← u32
   deny ← times denyCount u32
-  sids ← times sidCount u32
+  sids ← times sidCount p
   end (restrict h mark removed deny sids)
 
 unfoldable pub linkLayout : Reader Request
@@ -205,19 +218,19 @@ layouts =
     unknown
     ∷ numberLayout openOwn
     ∷ numberLayout close
-    ∷ createLayout
+    ∷ createLayout sidNumber
     ∷ queryLayout
     ∷ entriesLayout privileges
     ∷ entriesLayout groups
     ∷ scopeLayout
     ∷ defaultsLayout
     ∷ duplicateLayout
-    ∷ restrictLayout
+    ∷ restrictLayout sidNumber
     ∷ numberLayout install
     ∷ numberLayout impersonate
     ∷ end revert
-    ∷ unknown
-    ∷ unknown
+    ∷ createLayout packedSid
+    ∷ restrictLayout packedSid
     ∷ linkLayout
     ∷ numberLayout linked
     ∷ evaluateLayout

@@ -160,15 +160,17 @@ unfoldable pub answeredFrom : ℕ → List Event → State → List Timed
 answeredFrom n [] σ = []
 answeredFrom n (e ∷ es) σ = map (answeredAt (n + 1)) (outcomeAt σ e) ++ answeredFrom (n + 1) es (stateOf (happens σ e))
 
--- the same tokens, handles, pairs, and primary tokens and clients of the stations: all but the streams
+-- the same tokens, handles, pairs and SIDs, and primary tokens and clients of the stations: all but the streams
 pub record SameRights (σ τ : State) : Type 0 where
   pub tokens : σ .tokens ≡ τ .tokens
   pub handles : σ .handles ≡ τ .handles
   pub primary : map stationToken (σ .stations) ≡ map stationToken (τ .stations)
   pub clients : map stationClient (σ .stations) ≡ map stationClient (τ .stations)
   pub pairs : σ .pairs ≡ τ .pairs
+  pub sids : σ .sids ≡ τ .sids
 
--- from σ to τ each body is served on what the one before it left, and nothing else alters a token, a handle, a pair, a primary token or a client
+-- from σ to τ each body is served on what the one before it left, and nothing else alters a token, a handle, a pair, a primary token, a client or
+-- the SID table
 unfoldable pub OneByOne : State → List Outcome → State → Type 0
 OneByOne σ [] τ = SameRights σ τ
 OneByOne σ (breaks s ∷ xs) τ = OneByOne σ xs τ

@@ -11,6 +11,9 @@ use Rattle.rules.specs.Token.{Token, withPrivileges, startToken, newToke
 use Rattle.rules.specs.Table.{Slot, free, live, Table, isLive, orElse, lives, someFree, canAdd, placed, added, found, exchanged, retained, withSlots}
 use Rattle.rules.specs.Handle.{Handle, noHandle, isHandle}
 use Rattle.rules.specs.Station.{Station, Client, startStation, withToken, withClient}
+use Rattle.rules.specs.Sid.{Sid}
+use Rattle.rules.specs.SidTable.{startSids}
+use Rattle.rules.specs.Given.{Given, enteredAll}
 use Rattle.rules.specs.Pair as Pair
 use Rattle.rules.specs.Pair.{Pair}
 
@@ -19,6 +22,7 @@ pub record State : Type 0 where
   pub handles : Table Handle
   pub stations : List Station
   pub pairs : List (Slot Pair)
+  pub sids : List Sid
 
 abbrev pub tokenSlots : ℕ
 tokenSlots = 16
@@ -40,19 +44,23 @@ start =
       handles = record { slots = replicate handleSlots free; next = 1 };
       stations = replicate stationCount startStation;
       pairs = replicate pairSlots free;
+      sids = startSids;
     }
 
 unfoldable pub withTokens : Table Token → State → State
-withTokens x σ = record { tokens = x; handles = σ.handles; stations = σ.stations; pairs = σ.pairs }
+withTokens x σ = record { tokens = x; handles = σ.handles; stations = σ.stations; pairs = σ.pairs; sids = σ.sids }
 
 unfoldable pub withHandles : Table Handle → State → State
-withHandles x σ = record { tokens = σ.tokens; handles = x; stations = σ.stations; pairs = σ.pairs }
+withHandles x σ = record { tokens = σ.tokens; handles = x; stations = σ.stations; pairs = σ.pairs; sids = σ.sids }
 
 unfoldable pub withStations : List Station → State → State
-withStations xs σ = record { tokens = σ.tokens; handles = σ.handles; stations = xs; pairs = σ.pairs }
+withStations xs σ = record { tokens = σ.tokens; handles = σ.handles; stations = xs; pairs = σ.pairs; sids = σ.sids }
 
 unfoldable pub withPairs : List (Slot Pair) → State → State
-withPairs ps σ = record { tokens = σ.tokens; handles = σ.handles; stations = σ.stations; pairs = ps }
+withPairs ps σ = record { tokens = σ.tokens; handles = σ.handles; stations = σ.stations; pairs = ps; sids = σ.sids }
+
+unfoldable pub withSids : List Sid → State → State
+withSids x σ = record { tokens = σ.tokens; handles = σ.handles; stations = σ.stations; pairs = σ.pairs; sids = x }
 
 -- ---- stations
 
@@ -160,6 +168,12 @@ canLink σ session = hasPair σ session || someFree σ.pairs
 unfoldable pub setPair : Pair → State → State
 setPair p σ =
     withPairs (if hasPair σ p.session then exchanged (Pair.isOf p.session) (live p) σ.pairs else placed p σ.pairs) σ
+
+-- ---- the SID table
+
+-- the SIDs that a request gives have entered, in its order
+unfoldable pub entering : List Given → State → State
+entering xs σ = withSids (enteredAll xs σ.sids) σ
 
 -- ---- references: a token lives while a handle, a station or a linked pair refers to it, a station by its primary token or by the one that
 -- it acts for

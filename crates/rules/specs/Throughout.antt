@@ -15,12 +15,14 @@ use Rattle.rules.specs.Pair.{Pair}
 use Rattle.rules.specs.Table.{free, live, lives}
 use Rattle.rules.specs.State.{State, stationCount, clientAt, findHandle}
 use Rattle.rules.specs.Frame.{frame, framed, whole, maxAnswer}
-use Rattle.rules.specs.Valid.{valid}
+use Rattle.rules.specs.SidTable.{isNumber, sidOf}
+use Rattle.rules.specs.Valid.{isListed, valid}
 use Rattle.rules.specs.Ladder.{Ladder}
 use Rattle.rules.specs.Run.{Call, byte, ofBytes, after, answered, events, afterEvents, answersTo, timed, timedTo, untilUsed, Serving, serves, outcomes, answeredFrom, OneByOne}
-use Rattle.rules.specs.Growth.{Mem, Live, LiveHandle, Follows, Later, HandlesLater, StillHandle, Copying, Creating, Rooted}
+use Rattle.rules.specs.Growth.{Mem, Live, LiveHandle, Follows, Later, HandlesLater, SidsLater, StillHandle, Copying, Creating, Rooted}
 use Rattle.rules.specs.Acting.{ActsFor, ClientKept}
 use Rattle.rules.specs.Linking.{Linked, PairsKept, ElevationKept}
+use Rattle.rules.specs.Entering.{SidsEntered}
 use Rattle.rules.specs.Evaluating.{Evaluating}
 use Rattle.rules.specs.Restore.{PrivilegesKept, PutsBack, CanPutBack}
 
@@ -91,11 +93,21 @@ pub record Throughout (σ : State) (cs : List Call) : Type 0 where
   pub elevations : (x : Serving) → Mem (serves x) (outcomes (events cs σ) σ) → ElevationKept x
   -- request 18 changes nothing, and 'the answer is exactly the rule's meaning'
   pub evaluating : (x : Serving) → Mem (serves x) (outcomes (events cs σ) σ) → Evaluating x
+  -- a number once given stands for the same SID for ever, and no SID has two numbers
+  pub sids : (more : List Call) → all ofBytes more ≡ true → (n : ℕ) → isNumber (after cs σ .sids) n ≡ true
+      → (isNumber (after (cs ++ more) σ .sids) n ≡ true) × (sidOf (after (cs ++ more) σ .sids) n ≡ sidOf (after cs σ .sids) n)
+  pub oneNumber : (n m : ℕ) → isNumber (after cs σ .sids) n ≡ true → isNumber (after cs σ .sids) m ≡ true
+      → sidOf (after cs σ .sids) n ≡ sidOf (after cs σ .sids) m → n ≡ m
+  pub sidTable : (more : List Call) → all ofBytes more ≡ true → SidsLater (after cs σ .sids) (after (cs ++ more) σ .sids)
+  -- 'a refused request enters none', and a success the SIDs that it gives packed, 'in the request's order'
+  pub entering : (x : Serving) → Mem (serves x) (outcomes (events cs σ) σ) → SidsEntered x
+  -- 'tokens keep numbers', each in the table
+  pub listed : (t : Token) → Live t (after cs σ) → isListed (after cs σ .sids) t ≡ true
   -- 'enabled ones stay among the present', and default ones
   pub enabled : (t : Token) → Live t (after cs σ) → within (t .privileges .enabled) (t .privileges .present) ≡ true
   pub byDefault : (t : Token) → Live t (after cs σ) → within (t .privileges .byDefault) (t .privileges .present) ≡ true
   -- 'a token made from another begins with no present privilege that its source lacked' (of a clone, the source is the partner), and 'a token made from a restricted one by request 10,
-  -- or by 9 unless stripped, is restricted, and its list has nothing that the source's lacked'; it has the source's root, or 0 if stripped
+  -- or by 9 unless stripped, is restricted, and its list has nothing that the source's lacked' (15 is the same rule); it has the source's root, or 0 if stripped
   pub copies : (x : Serving) → Mem (serves x) (outcomes (events cs σ) σ) → Copying x
   -- 'every token carries its root': its own number if it is created; its source's, or 0 where it is anonymous (`copies`); it never changes
   -- (`lasting`). So it is 0, or the root of a token that was there, or the number of a created one

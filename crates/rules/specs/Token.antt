@@ -17,7 +17,7 @@ pub record Identity : Type 0 where
   -- the number of the started or created token that it descends from; 0 for an anonymous copy and whatever is made from one
   pub root : ℕ
 
--- what request 10 limits a copy by
+-- what requests 10 and 15 limit a copy by
 pub record Limits : Type 0 where
   pub restricting : List ℕ
   pub writeRestricted : Bool

@@ -1,7 +1,7 @@
 -- What a valid state is: document 01's 'memory is in order', of the values that the memory stands for. Assumes nothing.
 use Prim.Native.Nat.{ℕ, _-_, _^_}
 use mathlib.Core.Bool.{Bool, true, false, not, _&&_}
-use mathlib.Core.List.{List, map}
+use mathlib.Core.List.{List, _∷_, _++_, map}
 use lib.ListN.{length}
 use lib.Dec.{eqb, leb, ltb}
 use Rattle.rules.specs.Basic.{all, member, distinct, isEmpty, implies, bothOrNeither}
@@ -9,9 +9,11 @@ use Rattle.rules.specs.Number.{max32, max64}
 use Rattle.rules.specs.Bits.{has, within}
 use Rattle.rules.specs.Mask.{validMask}
 use Rattle.rules.specs.Privileges.{Privileges, existing}
-use Rattle.rules.specs.Group.{Group, isEnabled, isDenyOnly}
+use Rattle.rules.specs.Group.{Group, sidOf, isEnabled, isDenyOnly}
 use Rattle.rules.specs.Token.{Token, Identity, Limits, Defaults, maxGroups, maxRestricting, maxDacl, primary, impersonation, full, limited}
 use Rattle.rules.specs.Table.{Table, lives}
+use Rattle.rules.specs.Sid.{Sid}
+use Rattle.rules.specs.SidTable.{isNumber, sidsValid}
 use Rattle.rules.specs.Handle.{Handle}
 use Rattle.rules.specs.Station.{Station}
 use Rattle.rules.specs.Pair.{Pair}
@@ -135,6 +137,16 @@ pairValid σ p = pairFits p.session (tokenOf σ p.elevated) (tokenOf σ p.filter
 unfoldable pub pairsValid : State → Bool
 pairsValid σ = eqb (length σ.pairs) pairSlots && distinct (map sessionOf (lives σ.pairs)) && all (pairValid σ) (lives σ.pairs)
 
+-- ---- the SID table
+
+-- the SIDs that a token keeps, by their numbers: its user's, its groups' and its restricting ones
+unfoldable pub sidNumbers : Token → List ℕ
+sidNumbers t = t .identity .user ∷ (map sidOf t.groups ++ t .limits .restricting)
+
+-- each of them is in the table
+unfoldable pub isListed : List Sid → Token → Bool
+isListed sids t = all (isNumber sids) (sidNumbers t)
+
 -- ---- all of it
 
 -- references are live, every token is referred to, station tokens are primary in type, and those acted for fit their stations
@@ -152,3 +164,5 @@ valid σ =
     && all (clientAtStations σ) (lives (σ .tokens .slots))
     && all levelValid σ.stations
     && pairsValid σ
+    && sidsValid σ.sids
+    && all (isListed σ.sids) (lives (σ .tokens .slots))

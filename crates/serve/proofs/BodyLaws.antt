@@ -31,15 +31,10 @@ no-layout (rest bytes) = refl
 no-layout lost = refl
 
 -- no request has this number
-none-of : (n : ℕ) → Apart 13 n → (n ≡ 16 → ⊥) → (n ≡ 17 → ⊥) → (n ≡ 18 → ⊥) → getD layouts n unknown ≡ unknown
+none-of : (n : ℕ) → Apart 18 n → getD layouts n unknown ≡ unknown
 unfolding layouts
-none-of zero u x y z = refl
-none-of (suc n) u x y z =
-    let k = suc n in
-    let l = above 13 k u (omega arith) in
-    ⊎-elim (λ e. ap (λ (m : ℕ). getD layouts m unknown) (eqb-true k 14 e))
-    (λ a. ⊎-elim (λ e. ap (λ (m : ℕ). getD layouts m unknown) (eqb-true k 15 e))
-    (λ b. let past : 19 ≤ k = omega (arith, eqb-false k 14 a, eqb-false k 15 b) in List·getD-eq-default layouts unknown {n = k} past) (either (eqb k 15))) (either (eqb k 14))
+none-of zero u = refl
+none-of (suc n) u = List·getD-eq-default layouts unknown {n = suc n} (above 18 (suc n) u (omega arith))
 
 module _ {body : List ℕ} {first : Field} (b : Begun body first) where
   -- the rest of the body is read by the layout of its number
@@ -52,10 +47,10 @@ module _ {body : List ℕ} {first : Field} (b : Begun body first) where
     unfolding decision
     by-number n e x = record { carried = read-alike station r (same-layout (getD layouts n unknown) (ap (λ (m : ℕ). getD layouts m unknown) e)) (x .carried) }
 
-    pub by-none : Apart 13 (first .value) → (first .value ≡ 16 → ⊥) → (first .value ≡ 17 → ⊥) → (first .value ≡ 18 → ⊥) → Ends (answers.Refused 1) r → BodyCarried station body ts ds hs cs ts ds cs r
+    pub by-none : Apart 18 (first .value) → Ends (answers.Refused 1) r → BodyCarried station body ts ds hs cs ts ds cs r
     unfolding decision
-    by-none u x y z i = record {
-      carried = malformed station r (parse body) (sym (same-layout unknown (none-of (first .value) u x y z)) ∙ no-layout (restOf body (first .next))) i;
+    by-none u i = record {
+      carried = malformed station r (parse body) (sym (same-layout unknown (none-of (first .value) u)) ∙ no-layout (restOf body (first .next))) i;
     }
 
 -- ---- the answer is written

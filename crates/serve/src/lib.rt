@@ -48,6 +48,8 @@ fn carry_out(
         11 => requests::install(station, body, c, handles, tokens, dacls, control),
         12 => requests::impersonate(station, body, c, handles, tokens, dacls, control),
         13 => requests::revert(station, body, c, handles, tokens, dacls, control),
+        14 => requests::create_packed(station, body, c, handles, tokens, dacls, control),
+        15 => requests::restrict_packed(station, body, c, handles, tokens, dacls, control),
         16 => requests::link(station, body, c, handles, tokens, dacls, control),
         17 => requests::linked(station, body, c, handles, tokens, dacls, control),
         18 => requests::evaluate(station, body, c, handles, tokens, dacls, control),

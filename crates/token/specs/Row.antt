@@ -6,7 +6,8 @@ use lib.ListN.{getD}
 use Rattle.rules.specs.Group as Rules-group
 use Rattle.rules.specs.Token as Rules
 use Rattle.rules.specs.Head as Head
-use Rattle.rules.specs.Memory.{word32, low32, low8, pack, unpack, tokenRow}
+use Rattle.rules.specs.Basic.{word32}
+use Rattle.rules.specs.Memory.{low32, low8, pack, unpack, tokenRow}
 use Rattle.privilege.specs.declared.privileges.Privileges.{Privileges}
 use Rattle.token.specs.declared.Group.{Group}
 use Rattle.token.specs.declared.Identity.{Identity}

@@ -10,12 +10,12 @@ use borrow.Author.Tests.{lt-ltb, le-ltb}
 use lib.Bits.{bitAnd, bitOr, or-comm, or-shr, and-block, and-high, and-mask, and-zero-r}
 use lib.Dec.{eqb}
 use lib.ListN.{length, getD, length-map, List·getD-map}
-use Rattle.rules.specs.Basic.{all, implies, bothOrNeither}
+use Rattle.rules.specs.Basic.{all, implies, bothOrNeither, word32}
 use Rattle.rules.specs.Bits.{has, within}
 use Rattle.rules.specs.Group.{Group, noGroup, isEnabled, isOwner, isDenyOnly}
 use Rattle.rules.specs.AdjustDefaults.{validOwner}
 use Rattle.rules.specs.Valid.{groupValid, is32}
-use Rattle.rules.specs.Memory.{unpack, word32}
+use Rattle.rules.specs.Memory.{unpack}
 use Rattle.rules.proofs.Logic.{and-l, and-r}
 use Rattle.rules.proofs.Bits.{digits, has-or, within-or, or-within, within-trans}
 use Rattle.token_rows.specs.Tests.{groupTest, carriedTo}

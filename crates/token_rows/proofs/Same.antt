@@ -13,10 +13,9 @@ use Rattle.table.specs.Lists.{pad, pad-fits}
 use Rattle.table.specs.Table.{flat}
 use Rattle.table.specs.Rows.{readRows, testRows}
 use Rattle.table.specs.Sections.{total, joined}
-use Rattle.rules.specs.Basic.{all}
-use Rattle.rules.specs.Memory.{same, mark, low32, low8, word32}
+use Rattle.rules.specs.Basic.{all, same, isZero, word32}
+use Rattle.rules.specs.Memory.{mark, low32, low8}
 use Rattle.rules.proofs.Same.{same-refl}
-use Rattle.lists.specs.Tests.{isZero}
 use Rattle.lists.proofs.Truth.{same-truth, and-swap, eqb-flip}
 
 pub same-append : (n : ℕ) (xs ys zs : List ℕ) → length xs ≡ n → same (xs ++ ys) zs ≡ (same xs (take n zs) && same ys (drop n zs))

@@ -10,7 +10,7 @@ use lib.Dec.{eqb, leb, ltb}
 use lib.ListN.{length, take, drop, getD, length-take, length-drop, length-map}
 use lib.Seq.{length-take-le, take-take, drop-drop, take-all}
 use Rattle.table.specs.Lists.{pad, length-pad, named-take}
-use Rattle.rules.specs.Basic.{all, member, implies}
+use Rattle.rules.specs.Basic.{all, member, implies, same, isZero, word32}
 use Rattle.rules.specs.Bits.{within}
 use Rattle.rules.specs.Group.{Group}
 use Rattle.rules.specs.Token.{Token, maxGroups, maxRestricting, maxDacl, primary, impersonation}
@@ -18,11 +18,11 @@ use Rattle.rules.specs.Create.{validIntegrity}
 use Rattle.rules.specs.AdjustDefaults.{validOwner, validGroup}
 use Rattle.rules.specs.Valid.{isByte, is32, is64, between, identityValid, privilegesValid, groupValid, groupsValid, limitsValid, defaultsValid, tokenValid}
 use Rattle.rules.specs.Head as Head
-use Rattle.rules.specs.Memory.{same, pack, unpack, low32, low8, word32, head, headWords, tokenRow, daclRow, slotRow, slotDacl, slotAt, tokenAt, identityAt, privilegesAt, groupsAt, limitsAt, defaultsAt, tokenWords}
+use Rattle.rules.specs.Memory.{pack, unpack, low32, low8, head, headWords, tokenRow, daclRow, slotRow, slotDacl, slotAt, tokenAt, identityAt, privilegesAt, groupsAt, limitsAt, defaultsAt, tokenWords}
 use Rattle.rules.proofs.Logic.{and-l, and-r}
 use Rattle.rules.proofs.Facts.{between-high}
 use Rattle.rules.proofs.Rows.{integrity32}
-use Rattle.lists.specs.Tests.{isZero, isNarrow}
+use Rattle.lists.specs.Tests.{isNarrow}
 use Rattle.token_rows.specs.Tests.{slotTest, groupTest, headTest, groupsEnd, groupsPart, groupsRest, sidsPart, sidsRest, daclRest, listsTest, Counted, liveTest, tokenTest}
 use Rattle.lists.proofs.Cuts.{drop-take}
 use Rattle.lists.proofs.Truth.{same-tests, eqb-same, implies-or, uncut, all-holds, all-map, all-below}

@@ -6,14 +6,14 @@ use mathlib.Core.List.{List}
 use lib.Bits.{bitAnd}
 use lib.Dec.{eqb, leb, ltb}
 use lib.ListN.{length, take, drop, getD}
-use Rattle.rules.specs.Basic.{all}
+use Rattle.rules.specs.Basic.{all, same, isZero}
 use Rattle.rules.specs.Privileges.{existing}
 use Rattle.rules.specs.Token.{maxGroups, maxRestricting, maxDacl, primary, impersonation}
 use Rattle.rules.specs.Table.{Slot, free, live}
 use Rattle.rules.specs.Valid.{groupValid, tokenValid}
 use Rattle.rules.specs.Head as Head
-use Rattle.rules.specs.Memory.{same, slotRow, slotDacl, slotAt, tokenRow, daclRow, tokenAt, unpack, headWords, tokenWords}
-use Rattle.lists.specs.Tests.{isZero, isNarrow}
+use Rattle.rules.specs.Memory.{slotRow, slotDacl, slotAt, tokenRow, daclRow, tokenAt, unpack, headWords, tokenWords}
+use Rattle.lists.specs.Tests.{isNarrow}
 
 -- a test of a record, of a slot that may be free
 unfoldable pub slotTest : {A : Type 0} → (A → Bool) → Slot A → Bool

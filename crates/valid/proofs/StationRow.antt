@@ -11,9 +11,9 @@ use lib.ListN.{length, take, drop, getD, length-drop, take-append-drop}
 use lib.Seq.{length-take-le, take-all}
 use Rattle.table.specs.Lists.{pad, named-take}
 use Rattle.table.specs.Rows.{testRows}
-use Rattle.rules.specs.Basic.{all, member, isEmpty}
+use Rattle.rules.specs.Basic.{all, member, isEmpty, same, isZero}
 use Rattle.rules.specs.Frame.{lengthOf, framedBy, framed}
-use Rattle.rules.specs.Memory.{same, stationRow, pendingRow, stationAt, stationWords, countWord, brokenWord, clientWord, levelWord, pendingBytes}
+use Rattle.rules.specs.Memory.{stationRow, pendingRow, stationAt, stationWords, countWord, brokenWord, clientWord, levelWord, pendingBytes}
 use Rattle.rules.specs.Station.{Station}
 use Rattle.rules.specs.State.{stationCount, clientToken}
 use Rattle.rules.specs.Valid.{isByte, isPart, streamValid, levelValid}
@@ -21,7 +21,6 @@ use Rattle.rules.proofs.Logic.{and-l, and-r}
 use Rattle.stream.specs.Meaning.{framedOf, FramedAs}
 use Rattle.stream.specs.declared.Framed.{Framed}
 use Rattle.stream.specs.declared.Framed.the-variants as what
-use Rattle.lists.specs.Tests.{isZero}
 use Rattle.valid.specs.Tests.{streamTest, levelTest, stationTest, idleTest, allIdle}
 use Rattle.lists.proofs.Truth.{same-tests, implies-or, all-below, all-append, eqb-same}
 use Rattle.token_rows.proofs.Same.{same-pad-take, cut-mark, cut-count}

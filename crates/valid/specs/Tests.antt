@@ -10,9 +10,12 @@ use Rattle.rules.specs.Token.{maxDacl}
 use Rattle.rules.specs.Station.{Station}
 use Rattle.rules.specs.State.{tokenSlots, stationCount}
 use Rattle.rules.specs.Valid.{streamValid, levelValid}
-use Rattle.rules.specs.Memory.{Memory, same, stationRow, pendingRow, stationAt, tokenWords, stationWords, countWord, brokenWord, clientWord, levelWord, stationsIn, pendingBytes}
+use Rattle.rules.specs.SidRows.{sidsAt, sidWordsValid}
+use Rattle.rules.specs.Basic.{same}
+use Rattle.rules.specs.Memory.{Memory, stationRow, pendingRow, stationAt, tokenWords, stationWords, countWord, brokenWord, clientWord, levelWord, stationsIn, sidsIn, pendingBytes}
 use Rattle.token_rows.specs.Tests.{tokenTest}
 use Rattle.references.specs.Tests.{linksTest}
+use Rattle.listed.specs.Tests.{listedRows}
 
 -- ---- a station's row
 
@@ -45,3 +48,5 @@ partsTest m =
     testRows tokenTest tokenWords maxDacl tokenSlots m.tokens m.dacls
     && testRows stationTest stationWords pendingBytes stationCount (stationsIn m.control) m.pending
     && linksTest m.tokens m.handles m.control
+    && sidWordsValid (sidsIn m.control)
+    && listedRows (sidsAt (sidsIn m.control)) m.tokens

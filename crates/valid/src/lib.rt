@@ -5,12 +5,16 @@ ghost use Rattle.valid.specs.Tests.{partsTest};
 ghost use Rattle.valid.specs.Meaning.{memoryOf, Lent};
 ghost use Rattle.valid.specs.Tested.{SizesTested, ValidTested};
 use control::layout::CONTROL_WORDS;
+use control::layout::SIDS_AT;
+use control::layout::SIDS_END;
 use control::layout::STATIONS_AT;
 use control::layout::STATIONS_END;
 use handle::HANDLE_WORDS;
 use handle::SLOTS;
 use layout::*;
+use listed::tokens_listed;
 use references::links_valid;
+use sid::valid::table_valid;
 use stations::stations_valid;
 use token_rows::tokens_valid;
 
@@ -31,6 +35,8 @@ fn parts_valid(
     tokens_valid(tokens, dacls)
         & stations_valid(&control[STATIONS_AT..STATIONS_END], pending)
         & links_valid(tokens, handles, control)
+        & table_valid(&control[SIDS_AT..SIDS_END])
+        & tokens_listed(tokens, control[SIDS_AT])
 }
 
 // The lengths are those that document 01 fixes; `count` is the lent handle list's.

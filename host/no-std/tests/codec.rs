@@ -3,7 +3,7 @@
 #![no_std]
 
 use obriska_no_std::codec::{
-    first_frame, Class, ConditionRef, PrivilegeEntry, Reply, Report, Request,
+    first_frame, Class, ConditionRef, List, PrivilegeEntry, Reply, Report, Request, Sid,
 };
 use obriska_no_std::names::right;
 use obriska_no_std::{Refusal, MAX_FRAME};
@@ -25,6 +25,23 @@ fn requests_are_written() {
     let condition = ConditionRef::read(&[0x03, 0x05, 0x14]).expect("not group 20");
     let evaluate = Request::Evaluate { handle: 1, condition };
     assert!(is_written(evaluate, &[0x05, 0x12, 0x01, 0x03, 0x05, 0x14]));
+}
+
+#[test]
+fn sids_are_written_and_read() {
+    let sid: Sid = "S-1-5-32-544".parse().expect("it is one");
+    assert_eq!(Sid::read(sid.packed()), Ok(sid));
+    assert_eq!("S-1-5-32-".parse::<Sid>().map_err(|error| error.place), Err(9));
+    let sids = [sid];
+    let restrict = Request::RestrictToSids {
+        handle: 1,
+        write_restricted: 0,
+        removed: 0,
+        deny: List::EMPTY,
+        sids: (&sids).into(),
+    };
+    let bytes = [0x16, 0x0F, 1, 0, 0, 0, 1, 1, 2, 0, 0, 0, 0, 0, 5, 32, 0, 0, 0, 0x20, 2, 0, 0];
+    assert!(is_written(restrict, &bytes));
 }
 
 #[test]

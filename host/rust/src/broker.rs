@@ -3,6 +3,7 @@
 use std::fmt;
 
 use crate::answer::Answer;
+use crate::codec::Sid;
 use crate::ffi;
 use crate::kept::{self, KeptError};
 use crate::layout::control_word;
@@ -10,6 +11,7 @@ use crate::limits::{MAX_ANSWER, STATIONS};
 use crate::memory::Memory;
 use crate::pair::Pair;
 use crate::refusal::Refusal;
+use crate::sids;
 use crate::view::{Handle, Station, Token};
 
 /// What a part of a chunk did: [`Broker::feed_into`].
@@ -176,6 +178,34 @@ impl Broker {
         Pair::all(&self.memory)
     }
 
+    /// The SID that has this number in the table; tokens, reports and requests have the number.
+    ///
+    /// ```
+    /// use obriska::codec::{List, Request, Sid};
+    ///
+    /// # let mut broker = obriska::Broker::start();
+    /// assert_eq!(broker.sid(18), Some(Sid::SYSTEM));
+    /// assert_eq!(broker.sid(32), None);
+    ///
+    /// let user = "S-1-5-21-1000".parse()?;
+    /// let [session, present, default] = [5, 0, 0];
+    /// let groups = List::EMPTY;
+    /// let create =
+    ///     Request::CreateWithSids { user, session, integrity: 0, present, default, groups };
+    /// broker.feed(0, &create.to_bytes()?)?;
+    /// let token = broker.token(2).expect("it was just created");
+    /// assert_eq!((token.user, broker.sid(token.user)), (32, Some(user)));
+    /// # Ok::<(), Box<dyn std::error::Error>>(())
+    /// ```
+    pub fn sid(&self, number: u32) -> Option<Sid> {
+        sids::sid(&self.memory, number)
+    }
+
+    /// The SIDs of the table with their numbers, upward: at most [`SIDS`](crate::SIDS).
+    pub fn sids(&self) -> impl Iterator<Item = (u32, Sid)> + '_ {
+        sids::all(&self.memory)
+    }
+
     /// The number that the next token gets; the largest u64 is never given.
     pub fn next_token(&self) -> u64 {
         self.memory.control[control_word::NEXT_TOKEN]
@@ -210,10 +240,10 @@ impl Broker {
     /// ```
     /// use obriska::{Broker, KeptError};
     /// let mut kept = Broker::start().to_bytes();
-    /// kept[8] = 4; // as another edition kept it
+    /// kept[8] = 5; // as another edition kept it
     /// let error = Broker::from_bytes(&kept).expect_err("start anew");
-    /// assert_eq!(error, KeptError::Layout(4));
-    /// assert_eq!(error.to_string(), "kept memory of another edition: its layout is 4, not 5");
+    /// assert_eq!(error, KeptError::Layout(5));
+    /// assert_eq!(error.to_string(), "kept memory of another edition: its layout is 5, not 6");
     /// ```
     ///
     /// # Errors
@@ -234,6 +264,7 @@ impl fmt::Debug for Broker {
             .field("handles", &self.handles().collect::<Vec<_>>())
             .field("stations", &self.stations())
             .field("pairs", &self.pairs().collect::<Vec<_>>())
+            .field("sids", &self.sids().collect::<Vec<_>>())
             .finish()
     }
 }

@@ -49,7 +49,8 @@ pub enum Condition {
     /// The privilege is enabled; absent and disabled ones are not. The broker refuses one that is
     /// not among [`names::PRIVILEGES`], wherever it stands, by [`Field`](crate::Refusal::Field).
     Enabled(u32),
-    /// A group of this SID is enabled: not a deny-only one, the user or a restricting SID.
+    /// A group of the SID that has this number is enabled: not a deny-only one, the user or a
+    /// restricting SID.
     Group(u32),
 }
 
@@ -85,7 +86,7 @@ impl Condition {
         Condition::Enabled(privilege)
     }
 
-    /// A group of this SID is enabled.
+    /// A group of the SID that has this number is enabled.
     pub fn group(sid: u32) -> Self {
         Condition::Group(sid)
     }

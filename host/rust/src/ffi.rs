@@ -79,6 +79,14 @@ extern "C" {
 
     fn obriska_find(handles: *const Handle, handles_len: usize, station: u32, number: u32)
         -> usize;
+
+    fn obriska_sid(
+        control: *const u64,
+        control_len: usize,
+        number: u32,
+        out: *mut u8,
+        out_len: usize,
+    ) -> usize;
 }
 
 pub(crate) fn start(m: &mut Memory) -> u32 {
@@ -144,4 +152,9 @@ pub(crate) fn reconnect(m: &mut Memory, station: u32) -> u32 {
 pub(crate) fn find(handles: &[Handle], station: u32, number: u32) -> usize {
     // SAFETY: the function only reads the handles.
     unsafe { obriska_find(handles.as_ptr(), handles.len(), station, number) }
+}
+
+pub(crate) fn sid(control: &[u64], number: u32, out: &mut [u8]) -> usize {
+    // SAFETY: `out` is behind a `&mut`, and the function only reads the control words.
+    unsafe { obriska_sid(control.as_ptr(), control.len(), number, out.as_mut_ptr(), out.len()) }
 }

@@ -1,7 +1,7 @@
 //! Places and sizes, by the names that include/obriska.h has them under.
 
 use crate::limits::{
-    HANDLES, MAX_DACL, MAX_FRAME, MAX_GROUPS, MAX_RESTRICTING, PAIRS, STATIONS, TOKENS,
+    HANDLES, MAX_DACL, MAX_FRAME, MAX_GROUPS, MAX_RESTRICTING, PAIRS, SIDS, STATIONS, TOKENS,
 };
 
 /// Words of a token slot.
@@ -44,6 +44,12 @@ pub(crate) mod control_word {
     pub const FIRST_STATION: usize = NEXT_HANDLE + 1;
     /// The first pair slot, behind the stations' rows; the others follow.
     pub const FIRST_PAIR: usize = FIRST_STATION + super::STATIONS * super::STATION_WORDS;
+    /// How many SIDs are in the table, which stands behind the pairs.
+    pub const SID_COUNT: usize = FIRST_PAIR + super::PAIRS * super::PAIR_WORDS;
+    /// The first of the places that name the table's rows in rising order.
+    pub const FIRST_SID_PLACE: usize = SID_COUNT + 1;
+    /// The first word of row 0; the others follow.
+    pub const FIRST_SID_ROW: usize = FIRST_SID_PLACE + super::SIDS;
 }
 
 /// Words of a station's row.
@@ -72,13 +78,15 @@ pub(crate) const HANDLE_BYTES: usize = 16;
 pub(crate) const STATION_WORDS: usize = station_word::CLIENT_LEVEL + 1;
 /// Words of a pair slot.
 pub(crate) const PAIR_WORDS: usize = pair_word::FILTERED + 1;
+/// Words of a row of the SID table.
+pub(crate) const SID_WORDS: usize = 9;
 /// Bytes of a station's pending part.
 pub(crate) const PENDING_BYTES: usize = MAX_FRAME;
 
 /// Elements of the arrays.
 pub(crate) const TOKENS_LEN: usize = TOKENS * TOKEN_WORDS;
 pub(crate) const DACLS_LEN: usize = TOKENS * DACL_BYTES;
-pub(crate) const CONTROL_LEN: usize = control_word::FIRST_PAIR + PAIRS * PAIR_WORDS;
+pub(crate) const CONTROL_LEN: usize = control_word::FIRST_SID_ROW + SIDS * SID_WORDS;
 pub(crate) const PENDING_LEN: usize = STATIONS * PENDING_BYTES;
 
 /// How many bytes the five arrays have together.

@@ -25,7 +25,9 @@
 //! ```
 //!
 //! [`codec`] has requests and answers as typed values; [`Broker::feed_into`] hands answers out
-//! without an allocation.
+//! without an allocation. Tokens, requests and answers have SIDs as numbers of a table, to which
+//! [`CreateWithSids`](codec::Request::CreateWithSids) and
+//! [`RestrictToSids`](codec::Request::RestrictToSids) add; [`Broker::sid`] gives a number's SID.
 //!
 //! # Building
 //!
@@ -64,6 +66,8 @@ mod previous;
 mod refusal;
 #[cfg(feature = "alloc")]
 mod restore;
+#[cfg(feature = "std")]
+mod sids;
 mod terms;
 mod version;
 #[cfg(feature = "std")]
@@ -81,7 +85,7 @@ pub use kept::{KeptError, KEPT_BYTES};
 pub use layout::MEMORY_BYTES;
 pub use limits::{
     GROUP_WORDS, HANDLES, LENGTH_BYTES, MAX_ANSWER, MAX_BODY, MAX_DACL, MAX_DEPTH, MAX_FRAME,
-    MAX_GROUPS, MAX_RESTRICTING, PAIRS, STATIONS, TOKENS,
+    MAX_GROUPS, MAX_RESTRICTING, MAX_SID, MAX_SUB_AUTHORITIES, PAIRS, SIDS, STATIONS, TOKENS,
 };
 #[cfg(feature = "std")]
 pub use pair::Pair;

@@ -8,6 +8,8 @@ pub const TOKENS: usize = 16;
 pub const HANDLES: usize = 32;
 /// How many linked pairs there are at most, each of another session.
 pub const PAIRS: usize = 4;
+/// How many SIDs the table has at most, SYSTEM and Anonymous among them.
+pub const SIDS: usize = 256;
 
 /// How many groups a token has at most.
 pub const MAX_GROUPS: usize = 64;
@@ -17,6 +19,10 @@ pub const MAX_RESTRICTING: usize = 16;
 pub const MAX_DACL: usize = 256;
 /// How deep a condition is at most.
 pub const MAX_DEPTH: usize = 8;
+/// How many sub-authorities a SID has at most.
+pub const MAX_SUB_AUTHORITIES: usize = 15;
+/// The longest packed SID in bytes: 8, and 4 for each sub-authority.
+pub const MAX_SID: usize = 68;
 
 /// The longest answer in bytes.
 pub const MAX_ANSWER: usize = 1024;

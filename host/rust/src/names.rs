@@ -87,7 +87,7 @@ pub const GROUP_ATTRIBUTES: [Named; 6] = [
 pub const INTEGRITY: [Named; 5] =
     [(0, "untrusted"), (4096, "low"), (8192, "medium"), (12288, "high"), (16384, "system")];
 
-/// The SIDs that the rules name.
+/// The SIDs that the rules name, by the numbers that they have from the start.
 pub const SIDS: [Named; 2] = [(7, "Anonymous"), (18, "SYSTEM")];
 
 /// The name of a number.

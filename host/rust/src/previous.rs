@@ -44,6 +44,7 @@ impl fmt::Display for PrivilegeState {
 /// # Ok::<(), obriska::Refusal>(())
 /// ```
 #[derive(Clone, Copy, Debug, PartialEq, Eq)]
+#[non_exhaustive]
 pub struct PreviousPrivileges {
     /// Those that the token had; privilege n is bit n.
     pub present: u64,
@@ -52,6 +53,11 @@ pub struct PreviousPrivileges {
 }
 
 impl PreviousPrivileges {
+    /// The report of these two words.
+    pub const fn new(present: u64, enabled: u64) -> Self {
+        PreviousPrivileges { present, enabled }
+    }
+
     /// The report that the fields of a success are; `None` unless they are two numbers.
     pub fn read(fields: &[u8]) -> Option<Self> {
         let (present, rest) = number::read(fields)?;

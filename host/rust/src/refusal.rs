@@ -5,8 +5,8 @@ use core::fmt;
 /// Why the broker said no.
 ///
 /// 1 to 10 and 14 are the status of an [`Answer`](crate::Answer): 1 to 9 and 14 use up their request
-/// and change no token, no handle, no pair and no number, the first of 1 to 7, 14, 8, 9 where several
-/// apply; 10 answers the byte that breaks a stream. 11 to 13 refuse a whole call, which then changes
+/// and change no token, no handle, no pair, no number and no SID of the table, the first of 1 to 7,
+/// 14, 8, 9 where several apply; 10 answers the byte that breaks a stream. 11 to 13 refuse a whole call, which then changes
 /// nothing at all.
 ///
 /// ```
@@ -19,8 +19,8 @@ use core::fmt;
 #[repr(u32)]
 #[non_exhaustive]
 pub enum Refusal {
-    /// Unknown request, or a body not in its layout, or bytes left over; a condition deeper than
-    /// [`MAX_DEPTH`](crate::MAX_DEPTH).
+    /// Unknown request, or a body not in its layout, or bytes left over; a packed SID that is none; a
+    /// condition deeper than [`MAX_DEPTH`](crate::MAX_DEPTH).
     Layout = 1,
     /// Not a live handle of this station.
     Handle = 2,
@@ -30,7 +30,8 @@ pub enum Refusal {
     Privilege = 4,
     /// A bad field or entry, an unknown class, installing a token that is not primary, acting for one
     /// that is, restricting a restricted one to none of its SIDs, or to write-restricted where it is
-    /// not, linking two that can be no pair, or an unknown privilege in a condition.
+    /// not, linking two that can be no pair, an unknown privilege in a condition, or, in requests 3
+    /// and 10, a SID's number that is not in the table.
     Field = 5,
     /// An entry names a mandatory, deny-only or logon group, or disables one with the user's SID.
     Protected = 6,
@@ -38,7 +39,7 @@ pub enum Refusal {
     /// restricted, unless Impersonate is held.
     Mismatch = 7,
     /// No free slot, no number left, or too many restricting SIDs for an unrestricted token; linking
-    /// for a fifth session.
+    /// for a fifth session; more new SIDs than the table has room for.
     Full = 8,
     /// The report is larger than the capacity.
     Capacity = 9,
@@ -97,7 +98,7 @@ impl Refusal {
             Refusal::Mismatch => {
                 "another user or session, or unrestricted while the own token is restricted"
             }
-            Refusal::Full => "no slot or number left, or too many restricting SIDs",
+            Refusal::Full => "no slot or number left, or too many SIDs",
             Refusal::Capacity => "the report is larger than the capacity",
             Refusal::Broken => "the stream is broken until a reconnect",
             Refusal::Station => "there is no such station",

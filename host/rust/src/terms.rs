@@ -101,11 +101,19 @@ pub(crate) fn has_bit(word: u64, bit: u32) -> bool {
 
 /// A group of a token.
 #[derive(Clone, Copy, Debug, PartialEq, Eq)]
+#[non_exhaustive]
 pub struct Group {
-    /// Who it is.
+    /// Who it is: the number of a SID.
     pub sid: u32,
     /// See [`names::GROUP_ATTRIBUTES`](crate::names::GROUP_ATTRIBUTES).
     pub attributes: u32,
+}
+
+impl Group {
+    /// The group of a SID's number, with these attributes.
+    pub const fn new(sid: u32, attributes: u32) -> Self {
+        Group { sid, attributes }
+    }
 }
 
 /// The root of an anonymous copy, and of all that is made from one.
@@ -116,9 +124,17 @@ pub const NO_CLIENT: u64 = 0;
 
 /// A token that a station acts for, and so keeps alive.
 #[derive(Clone, Copy, Debug, PartialEq, Eq)]
+#[non_exhaustive]
 pub struct Client {
     /// The number of the token, which is for impersonation.
     pub token: u64,
     /// The level in force, as request 12 answered it: at most the token's own.
     pub level: Level,
+}
+
+impl Client {
+    /// The token of this number, at this level.
+    pub const fn new(token: u64, level: Level) -> Self {
+        Client { token, level }
+    }
 }

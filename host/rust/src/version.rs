@@ -5,4 +5,4 @@ pub const VERSION: &str = env!("CARGO_PKG_VERSION");
 
 /// The layout of the lent memory: it is raised whenever that changes, and docs/MEMORY.md says what
 /// changed. Memory of another layout has to be started anew.
-pub const LAYOUT: u32 = 5;
+pub const LAYOUT: u32 = 6;

@@ -22,7 +22,7 @@ pub struct Token {
     pub modified: u64,
     /// The session of its user.
     pub session: u64,
-    /// The user's SID.
+    /// The number of the user's SID: [`Broker::sid`](crate::Broker::sid) gives the SID of a number.
     pub user: u32,
     /// Primary or impersonation.
     pub token_type: TokenType,
@@ -46,8 +46,8 @@ pub struct Token {
     pub privileges: Privileges,
     /// The groups, at most [`MAX_GROUPS`](crate::MAX_GROUPS).
     pub groups: Vec<Group>,
-    /// The restricting SIDs, at most [`MAX_RESTRICTING`](crate::MAX_RESTRICTING); with any the token
-    /// is restricted, and so are its copies but an anonymous one, by no other SIDs.
+    /// The numbers of the restricting SIDs, at most [`MAX_RESTRICTING`](crate::MAX_RESTRICTING); with
+    /// any the token is restricted, and so are its copies but an anonymous one, by no other SIDs.
     pub restricting: Vec<u32>,
     /// The default DACL, at most [`MAX_DACL`](crate::MAX_DACL) bytes.
     pub dacl: Vec<u8>,

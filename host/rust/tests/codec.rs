@@ -2,8 +2,8 @@
 //! broker.
 
 use obriska::codec::{
-    Class, ConditionRef, GroupEntry, List, PrivilegeEntry, ReadError, Reply, Report, Request,
-    Statistics, WriteError, KEEP,
+    Class, ConditionRef, GroupEntry, List, PrivilegeEntry, ReadError, Reply, Report, Request, Sid,
+    SidGroup, Statistics, WriteError, KEEP,
 };
 use obriska::names::{right, ALL_PRIVILEGES, ALL_RIGHTS};
 use obriska::{
@@ -11,8 +11,7 @@ use obriska::{
     Privileges, Refusal, TokenType, GROUP_WORDS, MAX_ANSWER, MAX_BODY, MAX_DEPTH, MAX_FRAME,
 };
 
-const GROUPS: [Group; 2] =
-    [Group { sid: 100, attributes: 3 }, Group { sid: u32::MAX, attributes: 0xC000_0002 }];
+const GROUPS: [Group; 2] = [Group::new(100, 3), Group::new(u32::MAX, 0xC000_0002)];
 const ENTRIES: [PrivilegeEntry; 2] = [
     PrivilegeEntry { privilege: 7, attributes: 0 },
     PrivilegeEntry { privilege: 20, attributes: 4 },
@@ -30,9 +29,27 @@ fn condition() -> Condition {
 /// A request and its bytes.
 type Written<'a> = (Request<'a>, Vec<u8>);
 
-/// Every request with its bytes, in the order of their numbers.
-fn requests(condition: &Condition) -> Vec<Written<'_>> {
-    [tokens(), privileges_and_groups(), others(), evaluations(condition)].concat()
+/// What some requests borrow.
+struct Lent {
+    condition: Condition,
+    groups: [SidGroup; 2],
+    sids: [Sid; 3],
+}
+
+impl Lent {
+    fn new() -> Self {
+        let sids = unpacked();
+        let groups = [(sids[0], 0xC000_0002), (sids[2], 3)];
+        let groups = groups.map(|(sid, attributes)| SidGroup::new(sid, attributes));
+        Lent { condition: condition(), groups, sids }
+    }
+
+    /// Every request with its bytes, in the order of their numbers.
+    fn requests(&self) -> Vec<Written<'_>> {
+        let with_sids = with_sids(&self.groups, &self.sids);
+        let before = [tokens(), privileges_and_groups(), others()].concat();
+        [before, with_sids, linking(), evaluations(&self.condition)].concat()
+    }
 }
 
 /// Requests 1 to 4.
@@ -82,7 +99,7 @@ fn privileges_and_groups() -> Vec<Written<'static>> {
     ]
 }
 
-/// Requests 7 to 17.
+/// Requests 7 to 13.
 fn others() -> Vec<Written<'static>> {
     let [owner, primary_group] = [2, KEEP];
     let dacl = &[0x80, 0x00];
@@ -104,6 +121,59 @@ fn others() -> Vec<Written<'static>> {
         (Request::Install { handle: 2 }, vec![0x02, 0x0B, 0x02]),
         (Request::Impersonate { handle: 300 }, vec![0x03, 0x0C, 0xAC, 0x02]),
         (Request::Revert, vec![0x01, 0x0D]),
+    ]
+}
+
+/// Three SIDs, packed: the first without sub-authorities.
+const BARE: [u8; 8] = [0x01, 0x00, 0xFF, 0xEE, 0xDD, 0xCC, 0xBB, 0xAA];
+const OPERATORS: [u8; 16] = [1, 2, 0, 0, 0, 0, 0, 5, 32, 0, 0, 0, 0x20, 2, 0, 0];
+const SYSTEM: [u8; 12] = [1, 1, 0, 0, 0, 0, 0, 5, 18, 0, 0, 0];
+
+/// The SIDs that they are.
+fn unpacked() -> [Sid; 3] {
+    let bare = Sid::new(0xFFEE_DDCC_BBAA, &[]).expect("48 bits");
+    [bare, Sid::new(5, &[32, 544]).expect("two sub-authorities"), Sid::SYSTEM]
+}
+
+/// Requests 14 and 15.
+fn with_sids<'a>(groups: &'a [SidGroup], sids: &'a [Sid]) -> Vec<Written<'a>> {
+    let create = Request::CreateWithSids {
+        user: sids[1],
+        session: 300,
+        integrity: 8192,
+        present: 0x88,
+        default: 8,
+        groups: groups.into(),
+    };
+    let created = [
+        &[0x33, 0x0E][..],
+        &OPERATORS,
+        &[0xAC, 0x02, 0x80, 0x40, 0x88, 0x01, 0x08, 0x02], // the session first
+        &BARE,
+        &[0x82, 0x80, 0x80, 0x80, 0x0C],
+        &SYSTEM,
+        &[0x03],
+    ];
+    let [write_restricted, handle] = [1, 300];
+    let (removed, deny, sids) = (0x80, (&[0, 2]).into(), sids.into());
+    let restricted = [
+        &[0x2E, 0x0F, 0xAC, 0x02, 0x01, 0x80, 0x01, 0x02, 0x03, 0x00, 0x02][..],
+        &BARE,
+        &OPERATORS,
+        &SYSTEM,
+    ];
+    vec![
+        (create, created.concat()),
+        (
+            Request::RestrictToSids { handle, write_restricted, removed, deny, sids },
+            restricted.concat(),
+        ),
+    ]
+}
+
+/// Requests 16 and 17.
+fn linking() -> Vec<Written<'static>> {
+    vec![
         (
             Request::Link { elevated: 3, filtered: 4, session: 5 },
             vec![0x04, 0x10, 0x03, 0x04, 0x05],
@@ -148,15 +218,20 @@ fn report(class: Class, fields: &[u8], report: Report<'static>) -> Answered {
     (request, [&[1 + fields.len() as u8, 0], fields].concat(), Reply::Report(report))
 }
 
+/// Statistics of a token: number 2, session 999, modified 4, primary, root 2.
+fn statistics() -> Statistics {
+    let mut broker = Broker::start();
+    broker.feed(0, &[0x08, 3, 18, 0xE7, 0x07, 0, 0, 0, 0]).expect("station 0");
+    broker.feed(0, &[0x03, 7, 1, 9, 0x03, 7, 1, 9]).expect("station 0");
+    (&broker.token(2).expect("it was made")).into()
+}
+
 /// A report of every class.
 fn reports() -> Vec<Answered> {
     let groups = [&[0x02, 0x64, 0x03][..], &LARGEST, &[0x82, 0x80, 0x80, 0x80, 0x0C]].concat();
     let privileges = Privileges { present: 0x88, enabled: 8, default: 8, used: 4 };
-    let [number, session, modified, root] = [3, 999, 4, 2];
-    let token_type = TokenType::Impersonation;
-    let statistics = Statistics { number, session, modified, token_type, root };
     let privileges = Report::Privileges(privileges);
-    let statistics = Report::Statistics(statistics);
+    let statistics = Report::Statistics(statistics());
     let sids = Report::Restricting((&[100, 101]).into());
     vec![
         report(Class::User, &[0xE8, 0x07], Report::User(1000)),
@@ -168,7 +243,7 @@ fn reports() -> Vec<Answered> {
         report(Class::Dacl, &[0x03, 0x80, 0x00, 0xFF], Report::Dacl(&[0x80, 0x00, 0xFF])),
         report(Class::Type, &[0x01], Report::Type(TokenType::Primary)),
         report(Class::Level, &[0x02], Report::Level(Level::Impersonation)),
-        report(Class::Statistics, &[0x03, 0xE7, 0x07, 0x04, 0x02, 0x02], statistics),
+        report(Class::Statistics, &[0x02, 0xE7, 0x07, 0x04, 0x01, 0x02], statistics),
         report(Class::Restricting, &[0x02, 0x64, 0x65], sids),
         report(Class::Restricting, &[0x00], Report::Restricting(List::EMPTY)),
         report(Class::Scope, &[0x09], Report::Scope(9)),
@@ -185,11 +260,11 @@ fn other_replies() -> Vec<Answered> {
     let impersonate = Request::Impersonate { handle: 1 };
     let condition = ConditionRef::read(&[1, 0]).expect("all()");
     let evaluate = Request::Evaluate { handle: 1, condition };
-    let before = PreviousPrivileges { present: 0x80, enabled: 0 };
+    let before = PreviousPrivileges::new(0x80, 0);
     let mut words = [0; GROUP_WORDS];
     words[0] = 5;
     let group_words = [&[0x11, 0x00, 0x05][..], &[0; 15]].concat();
-    let client = Client { token: 16, level: Level::Delegation };
+    let client = Client::new(16, Level::Delegation);
     vec![
         (own, vec![0x03, 0x00, 0xAC, 0x02], Reply::Handle(300)),
         (close, vec![0x01, 0x00], Reply::Done),
@@ -220,21 +295,21 @@ fn shortened(frame: &[u8]) -> impl Iterator<Item = Vec<u8>> + '_ {
 
 #[test]
 fn every_request_is_written_and_read_back() {
-    let condition = condition();
+    let lent = Lent::new();
     let mut numbers = Vec::new();
-    for (request, bytes) in requests(&condition) {
+    for (request, bytes) in lent.requests() {
         assert_eq!(request.to_bytes().as_deref(), Ok(&bytes[..]), "{request:?}");
         assert_eq!(Request::read(&bytes), Ok(request));
         numbers.push(request.number());
     }
     numbers.dedup();
-    assert!(numbers.into_iter().eq((1..=13).chain(16..=18)));
+    assert!(numbers.into_iter().eq(1..=18));
 }
 
 #[test]
 fn a_request_is_written_into_a_buffer_that_holds_it() {
-    let condition = condition();
-    for (request, bytes) in requests(&condition) {
+    let lent = Lent::new();
+    for (request, bytes) in lent.requests() {
         let mut buffer = [0x5A; MAX_FRAME];
         assert_eq!(request.frame_len(), Ok(bytes.len()));
         assert_eq!(request.write(&mut buffer), Ok(bytes.len()));
@@ -250,8 +325,8 @@ fn a_request_is_written_into_a_buffer_that_holds_it() {
 
 #[test]
 fn a_request_that_is_cut_is_an_error_with_its_place() {
-    let condition = condition();
-    for (_, bytes) in requests(&condition) {
+    let lent = Lent::new();
+    for (_, bytes) in lent.requests() {
         for end in 0..bytes.len() {
             let error = Request::read(&bytes[..end]).expect_err("it is cut");
             assert_eq!(error.place, end, "{bytes:?}");
@@ -267,8 +342,8 @@ fn a_request_that_is_cut_is_an_error_with_its_place() {
 
 #[test]
 fn a_changed_request_is_another_one_or_an_error_with_its_place() {
-    let condition = condition();
-    for (request, bytes) in requests(&condition) {
+    let lent = Lent::new();
+    for (request, bytes) in lent.requests() {
         for frame in changed(&bytes) {
             match Request::read(&frame) {
                 Ok(other) => {
@@ -305,10 +380,10 @@ fn is_read(broker: &mut Broker, frame: &[u8]) -> bool {
 
 #[test]
 fn just_what_the_broker_takes_is_read() {
-    let condition = condition();
+    let lent = Lent::new();
     let mut broker = Broker::start();
     let mut counts = [0; 2];
-    for (_, bytes) in requests(&condition) {
+    for (_, bytes) in lent.requests() {
         for frame in changed(&bytes).chain(shortened(&bytes)) {
             counts[usize::from(is_read(&mut broker, &frame))] += 1;
         }
@@ -353,17 +428,24 @@ fn so_it_is_with_frames_by_chance() {
 #[test]
 fn an_error_says_where_and_what() {
     let text = |frame: &[u8]| Request::read(frame).unwrap_err().to_string();
-    let cases: [(&[u8], &str); 10] = [
+    let cases: [(&[u8], &str); 14] = [
         (&[0x00], "byte 0: expected the length of a body"),
         (&[0x03, 0x01, 0x28], "byte 3: expected the rest of the frame"),
         (&[0x02, 0x01, 0x28, 0x00], "byte 3: expected the end of the frame"),
         (&[0x03, 0x01, 0x28, 0x00], "byte 3: expected the end of the body"),
-        (&[0x01, 0x0E], "byte 1: expected the number of a request"),
+        (&[0x01, 0x13], "byte 1: expected the number of a request"),
         (&[0x03, 0x01, 0x88, 0x00], "byte 2: expected a mask"), // not its shortest form
         (&[0x06, 0x02, 0xFF, 0xFF, 0xFF, 0xFF, 0x1F], "byte 2: expected a handle"), // 33 bits
         (&[0x04, 0x05, 0x01, 0x01, 0x07], "byte 5: expected an entry"), // half of one
         (&[0x07, 0x08, 0x01, 0x00, 0x00, 0x01, 0x02, 0xAA], "byte 8: expected the bytes of a DACL"),
         (&[0x04, 0x12, 0x01, 0x06, 0x07], "byte 3: expected a kind of condition"),
+        (&[0x08, 14, 1, 0, 0, 0, 0, 0, 0], "byte 9: expected a packed SID"), // a byte is missing
+        (&[0x09, 14, 2, 0, 0, 0, 0, 0, 0, 5], "byte 2: expected revision 1 of a SID"),
+        (&[0x09, 14, 1, 16, 0, 0, 0, 0, 0, 5], "byte 3: expected at most 15 sub-authorities"),
+        (
+            &[0x0C, 14, 1, 1, 0, 0, 0, 0, 0, 5, 18, 0, 0],
+            "byte 13: expected the sub-authorities of a SID",
+        ),
     ];
     for (frame, expected) in cases {
         assert_eq!(text(frame), expected);
@@ -454,8 +536,8 @@ fn a_condition_is_the_same_lent_and_read() {
         assert!(ConditionRef::read(&bytes[..end]).is_err());
     }
     let nine_deep = [3, 3, 3, 3, 3, 3, 3, 3, 4, 7];
-    let expected = "no condition deeper than eight";
-    assert_eq!(ConditionRef::read(&nine_deep), Err(ReadError { place: 8, expected }));
+    let error: ReadError = ConditionRef::read(&nine_deep).expect_err("it is nine deep");
+    assert_eq!((error.place, error.expected), (8, "no condition deeper than eight"));
     assert_eq!(ConditionRef::read(&nine_deep[1..]).map(|read| read.to_condition().depth()), Ok(8));
 }
 
@@ -478,7 +560,7 @@ fn the_broker_is_opened_adjusted_queried_and_closed() {
 
     let entries = [PrivilegeEntry::disable(7)];
     let adjust = Request::Privileges { handle, entries: (&entries).into() };
-    let before = PreviousPrivileges { present: 1 << 7, enabled: 1 << 7 };
+    let before = PreviousPrivileges::new(1 << 7, 1 << 7);
     let reply = Reply::read(&adjust, ask(&mut broker, &adjust, &mut buffer));
     assert_eq!(reply, Ok(Reply::Privileges(before)));
 
@@ -497,13 +579,19 @@ fn the_broker_is_opened_adjusted_queried_and_closed() {
 fn every_class_of_a_token_is_read() {
     let mut broker = Broker::start();
     let mut buffer = [0; MAX_ANSWER];
-    let groups = [Group { sid: 100, attributes: 3 }, Group { sid: 101, attributes: 8 }];
+    let [user, owner, system] = unpacked();
+    let groups = [(system, 3), (owner, 8)].map(|(sid, attributes)| SidGroup::new(sid, attributes));
     let groups = (&groups).into();
+    let [session, present, default] = [5, 8, 8];
     let create =
-        Request::Create { user: 1000, session: 5, integrity: 8192, present: 8, default: 8, groups };
+        Request::CreateWithSids { user, session, integrity: 8192, present, default, groups };
     let reply = Reply::read(&create, ask(&mut broker, &create, &mut buffer));
     assert_eq!(reply, Ok(Reply::Handle(1)));
     let token = broker.token(2).expect("it was made");
+    assert_eq!(
+        (broker.sid(token.user), broker.sid(token.groups[0].sid)),
+        (Some(user), Some(system))
+    );
     for class in Class::ALL {
         let query = Request::Query { handle: 1, class: class.number(), capacity: 512 };
         let reply = Reply::read(&query, ask(&mut broker, &query, &mut buffer));
@@ -512,11 +600,11 @@ fn every_class_of_a_token_is_read() {
             Report::User(user) => assert_eq!(user, token.user),
             Report::Groups(groups) => assert!(groups.iter().eq(token.groups.iter().copied())),
             Report::Privileges(privileges) => assert_eq!(privileges, token.privileges),
-            Report::Owner(sid) | Report::PrimaryGroup(sid) => assert_eq!(sid, 1000),
+            Report::Owner(sid) | Report::PrimaryGroup(sid) => assert_eq!(sid, token.user),
             Report::Dacl(dacl) => assert_eq!(dacl, token.dacl),
             Report::Type(token_type) => assert_eq!(token_type, token.token_type),
             Report::Level(level) => assert_eq!(level, token.level),
-            Report::Statistics(statistics) => assert_eq!(statistics.number, token.number),
+            Report::Statistics(statistics) => assert_eq!(statistics, (&token).into()),
             Report::Restricting(sids) => assert!(sids.is_empty()),
             Report::Scope(scope) => assert_eq!(scope, token.scope),
             Report::Elevation(elevation) => assert_eq!(elevation, token.elevation),

@@ -1,8 +1,9 @@
-//! Document 02's conditions, W11: request 18 through the crate.
+//! Conditions, R38 of docs/RULES.md: request 18 through the crate.
 
 mod common;
 
-use common::{ask, refused};
+use common::{ask, create, made, refused, sid};
+use obriska::codec::{List, Request};
 use obriska::{number, Broker, Condition, Refusal, Token, MAX_BODY, MAX_DEPTH};
 
 /// The privileges of the operator's token: one is enabled, one is not; no other is there.
@@ -10,14 +11,14 @@ const TCB: u32 = 7;
 const SHUTDOWN: u32 = 19;
 const DEBUG: u32 = 20;
 
-/// The SIDs of its groups.
-const OPERATORS: u32 = 20;
-const MAINTENANCE: u32 = 30;
-const NIGHT_SHIFT: u32 = 40;
-const LOCK_CREW: u32 = 300;
-/// Its user, and a SID that it is restricted to.
-const USER: u32 = 1000;
-const RESTRICTING: u32 = 77;
+/// The numbers that the SIDs of its user, of its groups, and one that it is restricted to get in the
+/// table: they are entered in this order.
+const USER: u32 = 32;
+const OPERATORS: u32 = 33;
+const MAINTENANCE: u32 = 34;
+const NIGHT_SHIFT: u32 = 35;
+const LOCK_CREW: u32 = 36;
+const RESTRICTING: u32 = 37;
 
 /// Attributes of a group.
 const MANDATORY: u32 = 1;
@@ -39,12 +40,17 @@ fn with_an_operator() -> Broker {
         [LOCK_CREW, 0], // twice: the second one is enabled
         [LOCK_CREW, ENABLED_BY_DEFAULT],
     ];
-    let head = [3, USER.into(), 5, 8192, present, 1 << TCB, groups.len() as u64];
-    let groups = groups.as_flattened().iter().map(|&number| u64::from(number));
-    let create: Vec<_> = head.into_iter().chain(groups).collect();
     let mut broker = Broker::start();
-    let created = ask(&mut broker, &create)[0];
-    let restricted = ask(&mut broker, &[10, created, 0, 0, 0, 1, RESTRICTING.into()])[0];
+    let created = create(&mut broker, USER, [5, 8192, present, 1 << TCB], &groups);
+    let sids = [sid(RESTRICTING)];
+    let restrict = Request::RestrictToSids {
+        handle: created as u32,
+        write_restricted: 0,
+        removed: 0,
+        deny: List::EMPTY,
+        sids: (&sids).into(),
+    };
+    let restricted = made(&mut broker, &restrict);
     ask(&mut broker, &[2, created]);
     assert_eq!(restricted, WITH_QUERY.into());
     assert_eq!(ask(&mut broker, &[1, 0x1E7]), [WITHOUT_QUERY]);
@@ -60,7 +66,7 @@ fn holds(broker: &mut Broker, condition: &Condition) -> bool {
     Condition::read_answer(answers[0].fields()).unwrap_or_else(|| panic!("{condition}"))
 }
 
-/// What it means, by document 02.
+/// What it means, by R38.
 fn meaning(condition: &Condition, token: &Token) -> bool {
     match condition {
         Condition::All(inner) => inner.iter().all(|condition| meaning(condition, token)),
@@ -279,8 +285,8 @@ fn another_stations_handle_is_refused_by_2() {
 #[test]
 fn the_longest_condition_is_answered() {
     let mut broker = with_an_operator();
-    let mut groups = vec![Condition::group(1); 1020];
-    groups.push(Condition::group(LOCK_CREW));
+    let mut groups = vec![Condition::group(1); 1019];
+    groups.extend([Condition::group(300), Condition::group(LOCK_CREW)]);
     let longest = Condition::any(groups);
     assert_eq!(longest.request(WITH_QUERY).expect("it fits").len(), 2 + MAX_BODY);
     assert!(holds(&mut broker, &longest));

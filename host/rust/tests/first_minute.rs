@@ -1,4 +1,4 @@
-//! Document 01's cases A to L, with the report of document 02, W6, byte by byte, through the crate.
+//! The worked cases A to L, R55 of docs/RULES.md, byte by byte, through the crate.
 
 use obriska::{Broker, Refusal, TokenType, HANDLES, MAX_BODY};
 

@@ -5,11 +5,11 @@ use obriska::{Broker, KeptError, Refusal, KEPT_BYTES, LAYOUT, VERSION};
 /// The head, as docs/MEMORY.md has it.
 const HEAD: [u8; 32] = [
     0x4F, 0x42, 0x52, 0x49, 0x53, 0x4B, 0x41, 0x00, // OBRISKA
-    0x05, 0x00, 0x00, 0x00, // layout 5
+    0x06, 0x00, 0x00, 0x00, // layout 6
     0x80, 0x32, 0x00, 0x00, // 12,928 bytes of tokens
     0x00, 0x10, 0x00, 0x00, // 4,096 of dacls
     0x00, 0x02, 0x00, 0x00, // 512 of handles
-    0xB0, 0x01, 0x00, 0x00, // 432 of control
+    0xB8, 0x51, 0x00, 0x00, // 20,920 of control
     0x10, 0x40, 0x00, 0x00, // 16,400 of pending
 ];
 
@@ -35,7 +35,7 @@ fn with_number(at: usize, number: u32) -> KeptError {
 #[test]
 fn it_begins_with_the_head_of_the_docs() {
     let kept = Broker::start().to_bytes();
-    assert_eq!((kept.len(), KEPT_BYTES), (34_400, 34_400));
+    assert_eq!((kept.len(), KEPT_BYTES), (54_888, 54_888));
     assert_eq!(kept[..HEAD.len()], HEAD);
     for words in HEAD.chunks(4) {
         let bytes: Vec<_> = words.iter().map(|byte| format!("{byte:02X}")).collect();
@@ -63,9 +63,9 @@ fn memory_of_another_edition_is_named_so_whatever_its_size() {
         assert_eq!(with_number(MAGIC, layout), KeptError::Layout(layout));
     }
     let mut other = HEAD;
-    other[MAGIC] = 6;
+    other[MAGIC] = 7;
     let error = error(&other[..SIZES]);
-    assert_eq!(error.to_string(), "kept memory of another edition: its layout is 6, not 5");
+    assert_eq!(error.to_string(), "kept memory of another edition: its layout is 7, not 6");
 }
 
 #[test]
@@ -74,7 +74,7 @@ fn another_size_of_a_part_is_named() {
         ("tokens", 12_928),
         ("dacls", 4_096),
         ("handles", 512),
-        ("control", 432),
+        ("control", 20_920),
         ("pending", 16_400),
     ];
     for (place, (part, expected)) in sizes.into_iter().enumerate() {
@@ -94,10 +94,10 @@ fn memory_that_is_cut_short_or_too_long_is_named_so() {
         assert_eq!(error(&kept[..length]), KeptError::Length(length));
     }
     let short = error(&kept[..KEPT_BYTES - 1]).to_string();
-    assert_eq!(short, "kept memory cut short: 34399 bytes, not 34400");
+    assert_eq!(short, "kept memory cut short: 54887 bytes, not 54888");
     kept.push(0);
     let long = error(&kept).to_string();
-    assert_eq!(long, "kept memory with more behind it: 34401 bytes, not 34400");
+    assert_eq!(long, "kept memory with more behind it: 54889 bytes, not 54888");
 }
 
 #[test]

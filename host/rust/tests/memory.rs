@@ -2,7 +2,8 @@
 
 mod common;
 
-use common::ask;
+use common::{ask, create, made, sid};
+use obriska::codec::Request;
 use obriska::{
     Broker, Client, Elevation, Group, KeptError, Level, Refusal, TokenType, KEPT_BYTES,
     MEMORY_BYTES, NO_ROOT,
@@ -13,7 +14,7 @@ const TOKENS: usize = 32;
 const DACLS: usize = TOKENS + 12_928;
 const HANDLES: usize = DACLS + 4_096;
 const CONTROL: usize = HANDLES + 512;
-const PENDING: usize = CONTROL + 432;
+const PENDING: usize = CONTROL + 20_920;
 const END: usize = PENDING + 16_400;
 /// Bytes of a word and of a handle.
 const WORD: usize = 8;
@@ -26,7 +27,7 @@ const CLIENT: usize = CONTROL + 5 * WORD;
 const NOT_VALID: KeptError = KeptError::Refused(Refusal::Memory);
 
 #[test]
-fn the_start_is_document_01s() {
+fn the_start_is_as_the_rules_say() {
     let broker = Broker::start();
     let tokens: Vec<_> = broker.tokens().collect();
     assert_eq!(tokens.len(), 1);
@@ -52,28 +53,32 @@ fn the_start_is_document_01s() {
 #[test]
 fn a_created_token_is_seen_with_its_groups_sids_and_dacl() {
     let mut broker = Broker::start();
-    let created = ask(&mut broker, &[3, 1000, 5, 8192, 0x84, 0x80, 2, 545, 3, 600, 8]);
-    assert_eq!(created, [1]);
+    assert_eq!(create(&mut broker, 1000, [5, 8192, 0x84, 0x80], &[[545, 3], [600, 8]]), 1);
     assert_eq!(ask(&mut broker, &[8, 1, 2, 1, 1, 2, 0x0A, 0x0B]), []);
-    assert_eq!(ask(&mut broker, &[10, 1, 1, 4, 1, 2, 1, 77, 78]), [2]);
+    let (deny, sids) = ([1], [sid(77), sid(545)]);
+    let (deny, sids) = ((&deny).into(), (&sids).into());
+    let restrict =
+        Request::RestrictToSids { handle: 1, write_restricted: 1, removed: 4, deny, sids };
+    assert_eq!(made(&mut broker, &restrict), 2);
     let token = broker.token(broker.handle(0, 1).unwrap().token).unwrap();
-    assert_eq!((token.number, token.modified, token.session, token.user), (2, 3, 5, 1000));
-    let groups = [Group { sid: 545, attributes: 7 }, Group { sid: 600, attributes: 8 }];
+    assert_eq!((token.number, token.modified, token.session, token.user), (2, 3, 5, 32));
+    let groups = [Group::new(33, 7), Group::new(34, 8)];
     assert_eq!(token.groups, groups);
     assert_eq!((token.owner, token.primary_group, token.dacl), (2, 1, vec![0x0A, 0x0B]));
     let copy = broker.token(3).unwrap();
     assert_eq!((token.root, copy.root), (2, 2));
-    assert_eq!(copy.restricting, [77, 78]);
+    assert_eq!(copy.restricting, [35, 33]);
     assert!(copy.write_restricted && copy.user_deny_only);
     assert_eq!(copy.privileges.present, 0x80);
-    assert_eq!(copy.groups[1], Group { sid: 600, attributes: 0x18 });
+    assert_eq!(copy.groups[1], Group::new(34, 0x18));
+    assert_eq!([32, 33, 34, 35].map(|n| broker.sid(n)), [1000, 545, 600, 77].map(|n| Some(sid(n))));
     assert!(broker.token(1).unwrap().privileges.used & 4 == 4);
 }
 
 #[test]
 fn a_root_is_the_oldest_source_and_class_9_tells_it() {
     let mut broker = Broker::start();
-    assert_eq!(ask(&mut broker, &[3, 1000, 5, 0, 0, 0, 0]), [1]);
+    assert_eq!(ask(&mut broker, &[3, 18, 5, 0, 0, 0, 0]), [1]);
     assert_eq!(ask(&mut broker, &[9, 1, 1, 0, 0x1EF]), [2]);
     assert_eq!(ask(&mut broker, &[2, 1]), []);
     assert_eq!(ask(&mut broker, &[10, 2, 0, 0, 0, 0]), [3]);
@@ -102,7 +107,7 @@ fn a_station_acts_for_a_token_and_keeps_it_alive() {
     assert_eq!(ask(&mut broker, &[9, 1, 2, 3, 4]), [2]);
     assert_eq!(ask(&mut broker, &[12, 2]), [3]);
     assert_eq!(ask(&mut broker, &[2, 2]), []);
-    let client = Client { token: 2, level: Level::Delegation };
+    let client = Client::new(2, Level::Delegation);
     let station = broker.stations()[0].clone();
     assert_eq!((station.token, station.client), (1, Some(client)));
     assert!(broker.stations()[1..].iter().all(|station| station.client.is_none()));
@@ -157,7 +162,7 @@ fn bytes_are_laid_out_as_docs_memory_says() {
     broker.feed(6, &[0x03, 0x01, 0xEF, 0x03]).unwrap();
     broker.feed(0, &[0x02]).unwrap();
     let bytes = broker.to_bytes();
-    assert_eq!((bytes.len(), KEPT_BYTES, MEMORY_BYTES), (END, END, 34_368));
+    assert_eq!((bytes.len(), KEPT_BYTES, MEMORY_BYTES), (END, END, 54_856));
     assert!(words(&bytes, TOKENS).take(4).eq([1, 1, 999, 18]));
     let (handles, free) = bytes[HANDLES..CONTROL].split_at(2 * HANDLE);
     let first = [5, 0, 0x28, 0, 1, 0, 0, 0, 1, 0, 0, 0, 0, 0, 0, 0];

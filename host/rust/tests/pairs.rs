@@ -1,8 +1,9 @@
-//! Document 02's linked pairs, W10: requests 16 and 17 through the crate, and pairs in memory.
+//! Linked pairs, R36 and R37 of docs/RULES.md: requests 16 and 17 through the crate, and pairs in
+//! memory.
 
 mod common;
 
-use common::{ask, refused};
+use common::{ask, create, refused};
 use obriska::{Broker, Elevation, KeptError, Level, Refusal, TokenType, PAIRS};
 
 /// Where the pair slots begin among the bytes, docs/MEMORY.md: behind the head, tokens, DACLs, handles
@@ -15,10 +16,10 @@ const SLOT: usize = 3 * WORD;
 /// What a handle needs to be linked, and what SYSTEM holds until it disables it.
 const TCB: u64 = 7;
 
-/// Two primary tokens of user 1000 and session 5: token 2 by handle 1, its copy token 3 by handle 2.
+/// Two primary tokens of one user and session 5: token 2 by handle 1, its copy token 3 by handle 2.
 fn with_two_tokens() -> Broker {
     let mut broker = Broker::start();
-    assert_eq!(ask(&mut broker, &[3, 1000, 5, 8192, 0x84, 0x80, 1, 545, 3]), [1]);
+    assert_eq!(create(&mut broker, 1000, [5, 8192, 0x84, 0x80], &[[545, 3]]), 1);
     assert_eq!(ask(&mut broker, &[10, 1, 0, 0x80, 0, 0]), [2]);
     broker
 }
@@ -108,8 +109,8 @@ fn two_that_can_be_no_pair_are_refused_by_5() {
     let mut broker = with_a_pair();
     assert_eq!(ask(&mut broker, &[17, 2]), [3]); // token 2 again
     assert_eq!(ask(&mut broker, &[9, 1, 2, 3, 0x1EF]), [4]); // for impersonation
-    assert_eq!(ask(&mut broker, &[3, 1001, 5, 0, 0, 0, 0]), [5]); // of another user
-    assert_eq!(ask(&mut broker, &[3, 1000, 6, 0, 0, 0, 0]), [6]); // of another session
+    assert_eq!(create(&mut broker, 1001, [5, 0, 0, 0], &[]), 5); // of another user
+    assert_eq!(create(&mut broker, 1000, [6, 0, 0, 0], &[]), 6); // of another session
     for [elevated, filtered] in [[1, 1], [1, 3], [2, 1], [1, 4], [4, 2], [1, 5], [1, 6]] {
         let link = [16, elevated, filtered, 5];
         assert_eq!(refused(&mut broker, &link), Some(Refusal::Field), "{elevated} {filtered}");
@@ -149,7 +150,7 @@ fn a_replaced_pair_keeps_no_token_alive() {
 fn a_fifth_session_has_no_pair() {
     let mut broker = Broker::start();
     let mut link = |session: u64| {
-        let create = [3, 1000, session, 0, 0, 0, 0];
+        let create = [3, 18, session, 0, 0, 0, 0];
         let [elevated, filtered] = [0; 2].map(|_| ask(&mut broker, &create)[0]);
         common::answer(&mut broker, &[16, elevated, filtered, session]).refusal()
     };

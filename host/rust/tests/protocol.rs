@@ -21,7 +21,7 @@ use obriska::{number, Answer, Broker, Refusal};
 const PAGE: &str = include_str!("../../../docs/PROTOCOL.md");
 
 /// The requests that there are, the one with classes, and its classes.
-const REQUESTS: [u64; 16] = [1, 2, 3, 4, 5, 6, 7, 8, 9, 10, 11, 12, 13, 16, 17, 18];
+const REQUESTS: std::ops::RangeInclusive<u64> = 1..=18;
 const QUERY: u64 = 4;
 const CLASSES: std::ops::RangeInclusive<u64> = 1..=13;
 

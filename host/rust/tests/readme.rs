@@ -16,7 +16,7 @@ fn the_examples_run() -> Result<(), Box<dyn Error>> {
     let kept = broker.to_bytes(); // across a restart: Broker::from_bytes(&kept)?
     assert_eq!(obriska::Broker::from_bytes(&kept)?, broker);
 
-    use obriska::codec::{Class, PrivilegeEntry, Reply, Report, Request};
+    use obriska::codec::{Class, List, PrivilegeEntry, Reply, Report, Request, Sid};
     use obriska::names::right;
 
     let open = Request::OpenOwn { mask: right::QUERY | right::ADJUST_PRIVILEGES };
@@ -40,6 +40,13 @@ fn the_examples_run() -> Result<(), Box<dyn Error>> {
     let close = Request::Close { handle };
     let answers = broker.feed(0, &close.to_bytes()?)?;
     assert_eq!(answers[0].reply(&close)?, Reply::Done);
+
+    let user: Sid = "S-1-5-21-1000".parse()?; // SIDs are entered in the table, and get numbers
+    let (session, integrity, present, default, groups) = (5, 8192, 0, 0, List::EMPTY);
+    let create = Request::CreateWithSids { user, session, integrity, present, default, groups };
+    broker.feed(0, &create.to_bytes()?)?;
+    let token = broker.token(2).expect("it was just made");
+    assert_eq!(broker.sid(token.user), Some(user));
     Ok(())
 }
 

@@ -1,4 +1,4 @@
-//! Document 02's putting back, W13: what request 5 changed, by its report, through the crate.
+//! Putting back, R54 of docs/RULES.md: what request 5 changed, by its report, through the crate.
 
 mod common;
 
@@ -34,7 +34,7 @@ fn with_a_screen() -> Broker {
     let default = working | 1 << TCB | 1 << SHUTDOWN;
     let present = default | 1 << SECURITY | 1 << DEBUG;
     let mut broker = Broker::start();
-    assert_eq!(ask(&mut broker, &[3, 1000, 5, 8192, present, default, 0]), [HANDLE.into()]);
+    assert_eq!(ask(&mut broker, &[3, 18, 5, 8192, present, default, 0]), [HANDLE.into()]);
     ask(&mut broker, &request(&[[SECURITY, ENABLE], [SHUTDOWN, DISABLE]]));
     ask(&mut broker, &[11, HANDLE.into()]);
     let states = NAMED.map(|privilege| state(&mut broker.clone(), privilege));
@@ -196,7 +196,7 @@ fn the_stations_own_token_may_be_another_by_then() {
     let mut broker = with_a_screen();
     let before = words(&broker, TOKEN);
     let restore = sent(&mut broker, &[[DEBUG, ENABLE]]).expect("a report");
-    let other = ask(&mut broker, &[3, 1000, 5, 0, 0, 0, 0])[0];
+    let other = ask(&mut broker, &[3, 18, 5, 0, 0, 0, 0])[0];
     ask(&mut broker, &[11, other]);
     puts_back(&mut broker, &restore, 0, HANDLE);
     assert_eq!(words(&broker, TOKEN), before);
@@ -208,7 +208,7 @@ fn used_marks_stay() {
     let before = words(&broker, TOKEN);
     assert_eq!(used(&broker, TOKEN), 0);
     let restore = sent(&mut broker, &[[SHUTDOWN, ENABLE], [TCB, ENABLE]]).expect("a report");
-    ask(&mut broker, &[3, 1000, 5, 0, 0, 0, 0]); // needs CreateToken
+    ask(&mut broker, &[3, 18, 5, 0, 0, 0, 0]); // needs CreateToken
     ask(&mut broker, &[7, HANDLE.into(), 9]); // needs Tcb
     let marks = 1 << CREATE_TOKEN | 1 << TCB;
     assert_eq!(used(&broker, TOKEN), marks);

@@ -5,16 +5,18 @@ use std::collections::BTreeSet;
 use std::path::Path;
 use std::{fs, iter};
 
-use obriska::codec::{GroupEntry, PrivilegeEntry, Reply, Report, Request};
+use obriska::codec::{GroupEntry, PrivilegeEntry, Reply, Report, Request, Sid, SidGroup};
 use obriska::{Broker, Condition, Group, NO_CLIENT};
 
 const VECTORS: &str = "../../examples/vectors";
 
-/// A name and its values by their keys: numbers, in the order of the line; of pairs, both.
+/// A name and its values by their keys: numbers, in the order of the line; of pairs, both. SIDs stand
+/// beside them, without the numbers that they are paired with.
 #[derive(Debug, PartialEq)]
 struct Words {
     name: String,
     values: Vec<(String, Vec<u64>)>,
+    sids: Vec<(String, Vec<Sid>)>,
 }
 
 /// A line that is not empty: who says it, in which words, and its bytes.
@@ -63,24 +65,37 @@ fn number(text: &str) -> u64 {
     }
 }
 
+fn is_sid(text: &str) -> bool {
+    text.starts_with("S-")
+}
+
+fn sid(text: &str) -> Sid {
+    text.parse().unwrap_or_else(|error| panic!("{text}: {error}"))
+}
+
 impl Words {
     fn parse(text: &str) -> Self {
         let mut words = text.split(' ');
         let name = words.next().expect("a name").to_string();
-        let value = |word: &str| {
+        let (mut values, mut sids) = (Vec::new(), Vec::new());
+        for word in words {
             let (key, value) = word.split_once('=').expect("KEY=VALUE");
+            let parts = || items(value).flat_map(|item| item.split(':'));
             let numbers = match key {
                 "dacl" => items(value).flat_map(hex).map(u64::from).collect(),
-                _ => items(value).flat_map(|item| item.split(':')).map(number).collect(),
+                _ => parts().filter(|part| !is_sid(part)).map(number).collect(),
             };
-            (key.to_string(), numbers)
-        };
-        Words { name, values: words.map(value).collect() }
+            values.push((key.to_string(), numbers));
+            let key_sids = parts().filter(|part| is_sid(part)).map(sid);
+            sids.push((key.to_string(), key_sids.collect()));
+        }
+        sids.retain(|(_, sids): &(_, Vec<Sid>)| !sids.is_empty());
+        Words { name, values, sids }
     }
 
     fn new(name: &str, values: &[(&str, &[u64])]) -> Self {
         let values = values.iter().map(|(key, numbers)| (key.to_string(), numbers.to_vec()));
-        Words { name: name.to_string(), values: values.collect() }
+        Words { name: name.to_string(), values: values.collect(), sids: Vec::new() }
     }
 
     fn list(&self, key: &str) -> Vec<u64> {
@@ -98,6 +113,12 @@ impl Words {
 
     fn u32s(&self, key: &str) -> Vec<u32> {
         self.list(key).into_iter().map(|number| number.try_into().expect("32 bits")).collect()
+    }
+
+    /// The SIDs of a list.
+    fn sids(&self, key: &str) -> Vec<Sid> {
+        let found = self.sids.iter().find(|(other, _)| other == key);
+        found.map_or(Vec::new(), |(_, sids)| sids.clone())
     }
 
     /// The pairs of a list, each as `item` has it.
@@ -140,13 +161,15 @@ fn written(words: &Words) -> Vec<u8> {
             let [elevated, filtered] = [words.u32("elevated"), words.u32("filtered")];
             frame(Request::Link { elevated, filtered, session: words.u64("session") })
         }
+        "create-with-sids" => create_with_sids(words),
+        "restrict-to-sids" => restrict_to_sids(words),
         "get-linked" => frame(Request::GetLinked { handle: handle() }),
         name => panic!("there is no request {name}"),
     }
 }
 
 fn create(words: &Words) -> Vec<u8> {
-    let groups = words.pairs("groups", |sid, attributes| Group { sid, attributes });
+    let groups = words.pairs("groups", Group::new);
     frame(Request::Create {
         user: words.u32("user"),
         session: words.u64("session"),
@@ -176,6 +199,29 @@ fn restrict(words: &Words) -> Vec<u8> {
         removed: words.u64("removed"),
         deny: words.u32s("deny")[..].into(),
         sids: words.u32s("sids")[..].into(),
+    })
+}
+
+fn create_with_sids(words: &Words) -> Vec<u8> {
+    let groups = words.sids("groups").into_iter().zip(words.u32s("groups"));
+    let groups: Vec<_> = groups.map(|(sid, attributes)| SidGroup::new(sid, attributes)).collect();
+    frame(Request::CreateWithSids {
+        user: words.sids("user")[0],
+        session: words.u64("session"),
+        integrity: words.u32("integrity"),
+        present: words.u64("present"),
+        default: words.u64("default"),
+        groups: groups[..].into(),
+    })
+}
+
+fn restrict_to_sids(words: &Words) -> Vec<u8> {
+    frame(Request::RestrictToSids {
+        handle: words.u32("handle"),
+        write_restricted: words.u32("write-restricted"),
+        removed: words.u64("removed"),
+        deny: words.u32s("deny")[..].into(),
+        sids: words.sids("sids")[..].into(),
     })
 }
 
@@ -343,6 +389,6 @@ fn the_vectors_are_built_read_and_played() {
     }
     let asked = names(lines.iter().filter(|line| line.station.is_some()));
     let answered = names(lines.iter().filter(|line| line.station.is_none()));
-    assert_eq!(asked.len(), 16 + 2, "all requests, bytes and reconnect: {asked:?}");
+    assert_eq!(asked.len(), 18 + 2, "all requests, bytes and reconnect: {asked:?}");
     assert_eq!(answered.len(), 8 + 12, "all answers and reports, level being both: {answered:?}");
 }

@@ -2,10 +2,11 @@
 
 use obriska::codec::{first_frame, List, PrivilegeEntry, Reply, Report, Request, Statistics};
 use obriska::{
-    names, Answer, Client, Group, Level, PreviousGroups, PreviousPrivileges, Privileges,
+    names, Answer, Client, Group, Level, PreviousGroups, PreviousPrivileges, Privileges, Refusal,
 };
 
 use crate::hex;
+use crate::sids::Table;
 use crate::vocabulary::{self, ELEVATIONS, LEVELS, TYPES};
 
 /// The whole requests that a stream begins with.
@@ -18,25 +19,43 @@ pub fn frames(mut stream: &[u8]) -> Vec<&[u8]> {
     frames
 }
 
-/// An answer in words, given its request (a break has none).
-pub fn words(request: &[u8], answer: &Answer) -> Vec<String> {
-    read(request, answer.bytes()).unwrap_or_else(|| {
+/// An answer in words, given its request (a break has none) and the SIDs that there are.
+pub fn words(request: &[u8], answer: &Answer, table: &Table) -> Vec<String> {
+    read(request, answer.bytes(), table).unwrap_or_else(|| {
         // What is no request is refused, and a refusal has no fields.
         vec![answer.refusal().map_or("done".to_string(), |refusal| refusal.to_string())]
     })
 }
 
 /// The words of an answer, both as whole frames.
-fn read(request: &[u8], answer: &[u8]) -> Option<Vec<String>> {
+fn read(request: &[u8], answer: &[u8], table: &Table) -> Option<Vec<String>> {
     let request = Request::read(request).ok()?;
     let reply = Reply::read(&request, answer).ok()?;
     Some(match (request, reply) {
-        (_, Reply::Report(report)) => report_lines(report),
+        (_, Reply::Report(report)) => report_lines(report, table),
+        (_, Reply::Refused(Refusal::Field)) => {
+            [Some(line(reply)), unknown_sid(request, table)].into_iter().flatten().collect()
+        }
         (Request::Privileges { entries, .. }, Reply::Privileges(previous)) => {
             previous_lines(entries, previous)
         }
         _ => vec![line(reply)],
     })
+}
+
+/// What is to be said of the first SID of request 3 or 10 that is not in the table, if there is one.
+fn unknown_sid(request: Request, table: &Table) -> Option<String> {
+    let (number, entering) = match request {
+        Request::Create { user, groups, .. } => {
+            let mut sids = std::iter::once(user).chain(groups.iter().map(|group| group.sid));
+            (sids.find(|&sid| !table.has(sid))?, 14)
+        }
+        Request::Restrict { sids, .. } => (sids.iter().find(|&sid| !table.has(sid))?, 15),
+        _ => return None,
+    };
+    Some(format!(
+        "a SID's number must be in the table, and {number} is not; request {entering} enters SIDs"
+    ))
 }
 
 /// A reply that is one line.
@@ -50,7 +69,7 @@ fn line(reply: Reply) -> String {
         Reply::Groups(previous) => format!("enabled before: {}", groups_text(previous)),
         Reply::Level(level) => format!("acts at level {}", level_text(level)),
         Reply::Reverted(None) => "acted for none".to_string(),
-        Reply::Reverted(Some(Client { token, level })) => {
+        Reply::Reverted(Some(Client { token, level, .. })) => {
             format!("acted for token {token} at level {}", level_text(level))
         }
         Reply::Holds(holds) => if holds { "yes" } else { "no" }.to_string(),
@@ -61,7 +80,7 @@ fn line(reply: Reply) -> String {
 /// How each privilege that request 5 named was before it; after a reset, how those present were.
 fn previous_lines(entries: List<PrivilegeEntry>, previous: PreviousPrivileges) -> Vec<String> {
     if entries == (&[PrivilegeEntry::RESET]).into() {
-        let PreviousPrivileges { present, enabled } = previous;
+        let PreviousPrivileges { present, enabled, .. } = previous;
         let line = |name, word| format!("was {name}: {}", vocabulary::privileges_text(word));
         return vec![line("enabled", enabled), line("disabled", present & !enabled)];
     }
@@ -87,18 +106,18 @@ fn groups_text(previous: PreviousGroups) -> String {
 }
 
 /// A query's report.
-pub fn report_lines(report: Report) -> Vec<String> {
+pub fn report_lines(report: Report, table: &Table) -> Vec<String> {
     vec![match report {
-        Report::User(sid) => format!("user {}", vocabulary::sid_text(sid.into())),
-        Report::Groups(groups) => return group_lines(groups),
+        Report::User(sid) => format!("user {}", table.text(sid)),
+        Report::Groups(groups) => return group_lines(groups, table),
         Report::Privileges(privileges) => return privilege_lines(privileges),
-        Report::Owner(sid) => format!("owner {}", vocabulary::sid_text(sid.into())),
-        Report::PrimaryGroup(sid) => format!("primary group {}", vocabulary::sid_text(sid.into())),
+        Report::Owner(sid) => format!("owner {}", table.text(sid)),
+        Report::PrimaryGroup(sid) => format!("primary group {}", table.text(sid)),
         Report::Dacl(dacl) => dacl_text(dacl),
         Report::Type(token_type) => format!("type {}", vocabulary::text(&TYPES, token_type as u64)),
         Report::Level(level) => format!("level {}", level_text(level)),
         Report::Statistics(statistics) => statistics_text(statistics),
-        Report::Restricting(sids) => restricting_text(sids),
+        Report::Restricting(sids) => restricting_text(sids, table),
         Report::Scope(scope) => format!("scope {scope}"),
         Report::Elevation(elevation) => {
             format!("elevation {}", vocabulary::text(&ELEVATIONS, elevation as u64))
@@ -119,10 +138,10 @@ fn dacl_text(dacl: &[u8]) -> String {
 }
 
 /// A line for each group.
-fn group_lines(groups: List<Group>) -> Vec<String> {
+fn group_lines(groups: List<Group>, table: &Table) -> Vec<String> {
     let line = |(index, group): (usize, Group)| {
         let attributes = vocabulary::bits_text(&names::GROUP_ATTRIBUTES, group.attributes);
-        let sid = vocabulary::sid_text(group.sid.into());
+        let sid = table.text(group.sid);
         format!("group {index}: {sid}, attributes {attributes}")
     };
     if groups.is_empty() {
@@ -142,7 +161,7 @@ fn privilege_lines(privileges: Privileges) -> Vec<String> {
 }
 
 fn statistics_text(statistics: Statistics) -> String {
-    let Statistics { number, session, modified, token_type, root } = statistics;
+    let Statistics { number, session, modified, token_type, root, .. } = statistics;
     let token_type = vocabulary::text(&TYPES, token_type as u64);
     let root = vocabulary::root_text(root);
     format!(
@@ -150,23 +169,25 @@ fn statistics_text(statistics: Statistics) -> String {
     )
 }
 
-fn restricting_text(sids: List<u32>) -> String {
+fn restricting_text(sids: List<u32>, table: &Table) -> String {
     if sids.is_empty() {
         return "no restricting SIDs".to_string();
     }
-    let sids: Vec<_> = sids.iter().map(|sid| vocabulary::sid_text(sid.into())).collect();
+    let sids: Vec<_> = sids.iter().map(|sid| table.text(sid)).collect();
     format!("restricting SIDs {}", sids.join(", "))
 }
 
 #[cfg(test)]
 mod tests {
+    use obriska::Broker;
+
     use super::*;
 
     /// What is said of a success with these fields, given the request's body.
     fn success(request: &[u8], fields: &[u8]) -> Option<Vec<String>> {
         let request = [&[request.len() as u8], request].concat();
         let answer = [&[1 + fields.len() as u8, 0], fields].concat();
-        read(&request, &answer)
+        read(&request, &answer, &Table::of(&Broker::start()))
     }
 
     fn report(class: u8, fields: &[u8]) -> Option<Vec<String>> {
@@ -200,6 +221,23 @@ mod tests {
     }
 
     #[test]
+    fn a_number_that_is_not_in_the_table_is_named_at_refusal_5() {
+        let refused = |request: &[u8]| {
+            let request = [&[request.len() as u8], request].concat();
+            read(&request, &[1, 5], &Table::of(&Broker::start())).unwrap()[1..].join(" | ")
+        };
+        let said = |number, request| {
+            let rest = format!("and {number} is not; request {request} enters SIDs");
+            format!("a SID's number must be in the table, {rest}")
+        };
+        assert_eq!(refused(&[3, 19, 0, 0, 0, 0, 0]), said(19, 14));
+        assert_eq!(refused(&[3, 18, 0, 0, 0, 0, 2, 7, 0, 8, 0]), said(8, 14));
+        assert_eq!(refused(&[10, 1, 0, 0, 0, 2, 18, 32]), said(32, 15));
+        assert_eq!(refused(&[3, 18, 0, 1, 0, 0, 0]), ""); // it was something else
+        assert_eq!(refused(&[1, 0x10]), "");
+    }
+
+    #[test]
     fn request_5_says_how_each_named_privilege_was() {
         let said = |request: &[u8], fields: &[u8]| success(request, fields).unwrap();
         assert_eq!(said(&[5, 1, 1, 7, 0], &[0x80, 1, 0x80, 1]), ["SeTcbPrivilege 7 was enabled"]);
@@ -223,7 +261,7 @@ mod tests {
     #[test]
     fn every_report_has_its_words() {
         let said = |class, fields: &[u8]| report(class, fields).unwrap().join(" | ");
-        assert_eq!(said(1, &[18]), "user 18 (SYSTEM)");
+        assert_eq!(said(1, &[18]), "user 18 (S-1-5-18)");
         assert_eq!(said(2, &[0]), "no groups");
         assert_eq!(
             said(2, &[2, 5, 7, 6, 0]),
@@ -233,7 +271,7 @@ mod tests {
             said(3, &[0x84, 1, 4, 4, 0]),
             "present: SeCreateTokenPrivilege 2, SeTcbPrivilege 7 | enabled: SeCreateTokenPrivilege 2 | default: SeCreateTokenPrivilege 2 | used: none"
         );
-        assert_eq!(said(4, &[7]), "owner 7 (Anonymous)");
+        assert_eq!(said(4, &[7]), "owner 7 (S-1-5-7)");
         assert_eq!(said(5, &[99]), "primary group 99");
         assert_eq!(said(6, &[0]), "no default DACL");
         assert_eq!(said(6, &[2, 0xFF, 1]), "default DACL of 2 bytes: FF 01");
@@ -249,7 +287,7 @@ mod tests {
         );
         assert_eq!(report(9, &[1, 0xE7, 7, 2, 1]), None);
         assert_eq!(said(10, &[0]), "no restricting SIDs");
-        assert_eq!(said(10, &[2, 77, 18]), "restricting SIDs 77, 18 (SYSTEM)");
+        assert_eq!(said(10, &[2, 77, 18]), "restricting SIDs 77, 18 (S-1-5-18)");
         assert_eq!(said(11, &[4]), "scope 4");
         assert_eq!(said(12, &[1]), "elevation default");
         assert_eq!(said(13, &[0x80, 0x40]), "integrity 8192 (medium)");

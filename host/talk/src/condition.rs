@@ -3,17 +3,19 @@
 use obriska::{Condition, ConditionError, MAX_DEPTH};
 
 use crate::arguments::Arguments;
+use crate::sids::{self, Table};
 use crate::vocabulary;
 use crate::words::{Mistake, Word};
 
 /// What stands around the conditions of a list and between them.
 const MARKS: [char; 3] = ['(', ',', ')'];
 
-/// The condition that the words left begin with, which a request can have.
-pub fn parse(arguments: &mut Arguments) -> Result<Condition, Mistake> {
+/// The condition that the words left begin with, which a request can have; it has SIDs by the numbers
+/// that they have in the table.
+pub fn parse(arguments: &mut Arguments, table: &Table) -> Result<Condition, Mistake> {
     arguments.cut(&MARKS);
     let column = arguments.column();
-    let condition = condition(arguments, MAX_DEPTH)?;
+    let condition = condition(arguments, table, MAX_DEPTH)?;
     match condition.to_bytes() {
         Ok(_) => Ok(condition),
         Err(error) => Err(Mistake { column, message: error.to_string() }),
@@ -21,17 +23,17 @@ pub fn parse(arguments: &mut Arguments) -> Result<Condition, Mistake> {
 }
 
 /// A condition that is at most so deep.
-fn condition(words: &mut Arguments, depth: usize) -> Result<Condition, Mistake> {
+fn condition(words: &mut Arguments, table: &Table, depth: usize) -> Result<Condition, Mistake> {
     let kind = words.word("a condition such as 'enabled tcb'")?;
     if depth == 0 {
         return Err(kind.mistake(ConditionError::TooDeep));
     }
     match kind.text {
-        "all" => list(kind, words, depth - 1).map(Condition::All),
-        "any" => list(kind, words, depth - 1).map(Condition::Any),
-        "not" => condition(words, depth - 1).map(Condition::not),
+        "all" => list(kind, words, table, depth - 1).map(Condition::All),
+        "any" => list(kind, words, table, depth - 1).map(Condition::Any),
+        "not" => condition(words, table, depth - 1).map(Condition::not),
         "enabled" => Ok(Condition::enabled(vocabulary::privilege(words.word("a privilege")?)?)),
-        "group" => Ok(Condition::group(vocabulary::sid(words.word("a SID")?)?)),
+        "group" => Ok(Condition::group(table.number(sids::typed(words.word("a SID")?)?)?)),
         _ => Err(kind.mistake(format_args!(
             "{} is no condition: say enabled, group, not, all(..) or any(..)",
             kind.quoted()
@@ -40,7 +42,12 @@ fn condition(words: &mut Arguments, depth: usize) -> Result<Condition, Mistake> 
 }
 
 /// The conditions of a list, each at most so deep.
-fn list(kind: Word, words: &mut Arguments, depth: usize) -> Result<Vec<Condition>, Mistake> {
+fn list(
+    kind: Word,
+    words: &mut Arguments,
+    table: &Table,
+    depth: usize,
+) -> Result<Vec<Condition>, Mistake> {
     let opening = words.word("'('")?;
     if opening.text != "(" {
         let message = format!("'{}' is no '(': say {}(..)", opening.text, kind.text);
@@ -51,7 +58,7 @@ fn list(kind: Word, words: &mut Arguments, depth: usize) -> Result<Vec<Condition
         return Ok(conditions);
     }
     loop {
-        conditions.push(condition(words, depth)?);
+        conditions.push(condition(words, table, depth)?);
         let mark = words.word("',' or ')'")?;
         match mark.text {
             "," => (),
@@ -63,13 +70,15 @@ fn list(kind: Word, words: &mut Arguments, depth: usize) -> Result<Vec<Condition
 
 #[cfg(test)]
 mod tests {
+    use obriska::Broker;
+
     use super::*;
 
     /// The bytes of a condition that is the whole text.
     fn parse(text: &str) -> Result<Vec<u8>, Mistake> {
         let words = Word::line(text).words();
         let mut arguments = Arguments::new(Word::line(""), words);
-        let condition = super::parse(&mut arguments)?;
+        let condition = super::parse(&mut arguments, &Table::of(&Broker::start()))?;
         arguments.finish().map(|()| condition.to_bytes().expect("it fits"))
     }
 
@@ -98,7 +107,12 @@ mod tests {
 
     #[test]
     fn blanks_and_names_are_as_one_likes() {
-        for text in ["all(enabled tcb,group SYSTEM)", " all ( enabled 0x7 , group 18 ) "] {
+        let texts = [
+            "all(enabled tcb,group SYSTEM)",
+            " all ( enabled 0x7 , group 18 ) ",
+            "all(enabled 7, group S-1-5-18)",
+        ];
+        for text in texts {
             assert_eq!(parse(text), Ok(vec![1, 2, 4, 7, 5, 18]));
         }
         assert_eq!(parse("not not enabled create-token"), Ok(vec![3, 3, 4, 2]));

@@ -13,6 +13,21 @@ pub fn text(bytes: &[u8]) -> String {
     runs.map(run_text).collect::<Vec<_>>().join(" ")
 }
 
+/// The bytes as text, in lines of at most so many columns.
+pub fn lines(bytes: &[u8], width: usize) -> Vec<String> {
+    let text = text(bytes);
+    let mut lines = vec![String::new()];
+    for word in text.split(' ') {
+        let line = lines.last_mut().expect("there is one from the begin");
+        match line.len() {
+            0 => line.push_str(word),
+            length if length + 1 + word.len() <= width => line.extend([" ", word]),
+            _ => lines.push(word.to_string()),
+        }
+    }
+    lines
+}
+
 fn run_text(run: &[u8]) -> String {
     let byte = format!("{:02X}", run[0]);
     if run.len() < LONG_RUN {
@@ -57,6 +72,15 @@ mod tests {
         let text = text(&bytes);
         assert_eq!(text, "80 10 00*2048 FF FF FF FF FF FF FF 01");
         assert_eq!(parse(&Word::line(&text).words()), Ok(bytes));
+    }
+
+    #[test]
+    fn lines_have_their_width() {
+        let bytes = [&[1, 2, 3, 4][..], &[0; 15], &[5]].concat();
+        assert_eq!(lines(&bytes, 11), ["01 02 03 04", "00*15 05"]);
+        assert_eq!(lines(&bytes, 10), ["01 02 03", "04 00*15", "05"]);
+        assert_eq!(lines(&bytes[..1], 2), ["01"]);
+        assert_eq!(lines(&[], 2), [""]);
     }
 
     #[test]

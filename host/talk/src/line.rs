@@ -4,6 +4,7 @@ use crate::arguments::Arguments;
 use crate::hex;
 use crate::reports::Reports;
 use crate::request;
+use crate::sids::Table;
 use crate::words::{Mistake, Word};
 
 /// What a line asks for.
@@ -29,8 +30,13 @@ pub enum Command<'a> {
     Quit,
 }
 
-/// The line's command, given the reports so far; none in an empty line or a comment.
-pub fn parse<'a>(line: &'a str, reports: &Reports) -> Result<Option<Command<'a>>, Mistake> {
+/// The line's command, given the reports so far and the SIDs that there are; none in an empty line
+/// or a comment.
+pub fn parse<'a>(
+    line: &'a str,
+    reports: &Reports,
+    table: &Table,
+) -> Result<Option<Command<'a>>, Mistake> {
     let line = Word::line(line).without_comment().trimmed();
     if line.text.is_empty() {
         return Ok(None);
@@ -40,7 +46,7 @@ pub fn parse<'a>(line: &'a str, reports: &Reports) -> Result<Option<Command<'a>>
         return Ok(Some(command));
     }
     match line.split_once(':') {
-        Some((station, rest)) => at_station(station.trimmed(), rest, reports).map(Some),
+        Some((station, rest)) => at_station(station.trimmed(), rest, reports, table).map(Some),
         None => Err(line.mistake("no station: say '0: open query', or state, help or quit")),
     }
 }
@@ -75,6 +81,7 @@ fn at_station<'a>(
     station: Word<'a>,
     rest: Word<'a>,
     reports: &Reports,
+    table: &Table,
 ) -> Result<Command<'a>, Mistake> {
     let station = station.u32("station")?;
     let mut words = rest.words();
@@ -97,7 +104,7 @@ fn at_station<'a>(
         }
         _ => (),
     }
-    let bytes = request::frame(name, Arguments::new(name, words)).ok_or_else(|| {
+    let bytes = request::frame(name, Arguments::new(name, words), table).ok_or_else(|| {
         name.mistake(format_args!("'{}' is no request; 'help' lists them", name.text))
     })??;
     Ok(Command::Send { station, bytes })
@@ -105,11 +112,13 @@ fn at_station<'a>(
 
 #[cfg(test)]
 mod tests {
+    use obriska::Broker;
+
     use super::*;
 
-    /// A line before there is any report.
+    /// A line at the start.
     fn parse(line: &str) -> Result<Option<Command<'_>>, Mistake> {
-        super::parse(line, &Reports::default())
+        super::parse(line, &Reports::default(), &Table::of(&Broker::start()))
     }
 
     /// The bytes that a line sends at station 0, as text.
@@ -126,7 +135,7 @@ mod tests {
     }
 
     #[test]
-    fn document_01s_first_minute_has_its_bytes() {
+    fn the_first_minute_has_its_bytes() {
         assert_eq!(sent("0: open query,adjust-privileges"), "02 01 28");
         assert_eq!(sent("0: privileges 1 tcb=disable"), "05 05 01 01 07 00");
         assert_eq!(sent("0: query 1 privileges capacity=64"), "04 04 01 03 40");
@@ -142,6 +151,14 @@ mod tests {
             "10 03 E8 07 05 80 40 84 01 80 01 02 A1 04 03 12 00"
         );
         assert_eq!(sent("0: create user=1"), "07 03 01 00 00 00 00 00");
+        assert_eq!(
+            sent("0: create user=S-1-5-21-1000 session=5 groups=S-1-1:owner,SYSTEM:0x2"),
+            "2C 0E 01 02 00 00 00 00 00 05 15 00 00 00 E8 03 00 00 05 00 00 00 02 01 00 00 00 00 00 00 01 08 01 01 00 00 00 00 00 05 12 00 00 00 02"
+        );
+        assert_eq!(
+            sent("0: create user=18 groups=S-1-0"),
+            "1B 0E 01 01 00 00 00 00 00 05 12 00 00 00 00 00 00 00 01 01 00*8"
+        );
         assert_eq!(sent("0: query 1 user"), "05 04 01 01 80 08");
         assert_eq!(sent("0: privileges 2 reset"), "09 05 02 01 00 80 80 80 80 08");
         assert_eq!(sent("0: privileges 2 2=enable debug=remove"), "07 05 02 02 02 02 14 04");
@@ -160,6 +177,11 @@ mod tests {
             "09 0A 01 01 04 02 01 00 02 4D"
         );
         assert_eq!(sent("0: restrict 1"), "06 0A 01 00 00 00 00");
+        assert_eq!(
+            sent("0: restrict 1 deny=2 sids=7,S-1-0x00000000000A"),
+            "1B 0F 01 00 00 01 02 02 01 01 00 00 00 00 00 05 07 00 00 00 01 00 00 00 00 00 00 0A"
+        );
+        assert_eq!(sent("0: may 1 all(group S-1-5-7, group 32)"), "08 12 01 01 02 05 07 05 20");
         assert_eq!(sent("0: install 2"), "02 0B 02");
         assert_eq!(sent("0: impersonate 300"), "03 0C AC 02");
         assert_eq!(sent("0: revert"), "01 0D");
@@ -232,6 +254,12 @@ mod tests {
         assert_eq!(mistake("expect"), (7, "missing: an answer such as 'refused 4'".into()));
         assert_eq!(mistake("save # x"), (5, "missing: a file's name".into()));
         assert_eq!(mistake("0: create user=bob").0, 16);
+        assert_eq!(mistake("0: create user=S-1-5-x").0, 22);
+        let unknown = "is not in the SID table: say the SID, such as S-1-5-21-1000";
+        assert_eq!(mistake("0: create user=S-1-0 groups=18,32"), (32, format!("32 {unknown}")));
+        assert_eq!(mistake("0: restrict 1 sids=8,S-1-0"), (20, format!("8 {unknown}")));
+        let nobodys = "S-1-0 is not in the SID table: no group has it";
+        assert_eq!(mistake("0: may 1 not group S-1-0"), (20, nobodys.into()));
     }
 
     #[test]

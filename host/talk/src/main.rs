@@ -2,12 +2,14 @@
 
 mod answer;
 mod arguments;
+mod completion;
 mod condition;
 mod hex;
 mod line;
 mod reports;
 mod request;
 mod session;
+mod sids;
 mod state;
 mod token;
 mod vocabulary;
@@ -25,6 +27,7 @@ usage: obriska-talk [--hex] [SCRIPT]
 
 Sends each line of SCRIPT, or of standard input, to a broker at its start and prints the answers.
   --hex      shows the bytes both ways
+  --words    the names that lines may have, one a line, for completion
   --help     this text and the requests
   --version  the program's name and version
 
@@ -46,6 +49,10 @@ fn main() -> ExitCode {
             "--hex" => options.shows_bytes = true,
             "--help" | "-h" => {
                 print!("{USAGE}\n{}", include_str!("help.txt"));
+                return ExitCode::SUCCESS;
+            }
+            "--words" => {
+                completion::words().for_each(|word| println!("{word}"));
                 return ExitCode::SUCCESS;
             }
             "--version" => {
@@ -128,7 +135,7 @@ impl Talk<'_> {
     /// Takes a line; true if the session goes on.
     fn take(&mut self, number: usize, line: &str) -> io::Result<bool> {
         let mut out = io::stdout().lock();
-        let parsed = line::parse(line, self.session.reports());
+        let parsed = line::parse(line, self.session.reports(), &self.session.table());
         let command = parsed.as_ref().ok().and_then(Option::as_ref);
         if self.echoes {
             self.session.echo(line, command, &mut out)?;

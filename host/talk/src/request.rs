@@ -1,39 +1,45 @@
 //! The requests: from the words after the station to the bytes of a frame.
 
-use obriska::codec::{GroupEntry, PrivilegeEntry, Request, WriteError, KEEP};
+use obriska::codec::{GroupEntry, PrivilegeEntry, Request, Sid, SidGroup, WriteError, KEEP};
 use obriska::{Group, TokenType, MAX_ANSWER};
 
 use crate::arguments::Arguments;
 use crate::condition;
 use crate::hex;
+use crate::sids::{self, Table, Typed};
 use crate::vocabulary::{self, ACTIONS, CLASSES, LEVELS, SWITCHES, TYPES};
 use crate::words::{Mistake, Word};
 
 /// A request's bytes, or why there are none; or what is wrong with its words.
 type Parsed = Result<Result<Vec<u8>, WriteError>, Mistake>;
 
-/// The frame of a request; `None` when no request has this name.
-pub fn frame(name: Word, mut arguments: Arguments) -> Option<Result<Vec<u8>, Mistake>> {
-    let parse = match name.text {
-        "open" => open,
-        "close" => close,
-        "create" => create,
-        "query" => query,
-        "privileges" => privileges,
-        "groups" => groups,
-        "scope" => scope,
-        "default" => default,
-        "duplicate" => duplicate,
-        "restrict" => restrict,
-        "install" => install,
-        "impersonate" => impersonate,
-        "revert" => revert,
-        "link" => link,
-        "linked" => linked,
-        "may" => may,
+/// The frame of a request, given the SIDs that there are; `None` when no request has this name.
+pub fn frame(
+    name: Word,
+    mut arguments: Arguments,
+    table: &Table,
+) -> Option<Result<Vec<u8>, Mistake>> {
+    let words = &mut arguments;
+    let parsed = match name.text {
+        "open" => open(words),
+        "close" => close(words),
+        "create" => create(words, table),
+        "query" => query(words),
+        "privileges" => privileges(words),
+        "groups" => groups(words),
+        "scope" => scope(words),
+        "default" => default(words),
+        "duplicate" => duplicate(words),
+        "restrict" => restrict(words, table),
+        "install" => install(words),
+        "impersonate" => impersonate(words),
+        "revert" => Ok(Request::Revert.to_bytes()),
+        "link" => link(words),
+        "linked" => linked(words),
+        "may" => may(words, table),
         _ => return None,
     };
-    Some(parse(&mut arguments).and_then(|frame| {
+    Some(parsed.and_then(|frame| {
         arguments.finish()?;
         frame.map_err(|error| name.mistake(error))
     }))
@@ -52,32 +58,53 @@ fn close(arguments: &mut Arguments) -> Parsed {
     Ok(Request::Close { handle: handle(arguments)? }.to_bytes())
 }
 
-fn create(arguments: &mut Arguments) -> Parsed {
+/// Request 3, or 14 where a SID is given itself.
+fn create(arguments: &mut Arguments, table: &Table) -> Parsed {
     let keys = ["user", "session", "integrity", "present", "default", "groups"];
     let options = arguments.options(&keys, &[])?;
     let user = options.get("user").ok_or_else(|| arguments.missing("user=.."))?;
     let integrity = |word| vocabulary::number(word, "integrity", &obriska::names::INTEGRITY);
-    let user = vocabulary::sid(user)?;
+    let user = sids::typed(user)?;
     let session = options.number("session", u64::MAX)?;
     let integrity = options.parsed("integrity", integrity)?;
     let present = options.parsed("present", vocabulary::privilege_word)?;
     let default = options.parsed("default", vocabulary::privilege_word)?;
     let groups = options.parsed("groups", |word| list(word, group))?;
+    if let (Some(user), Some(groups)) = (user.as_number(), numbered(&groups)) {
+        let groups = groups[..].into();
+        return Ok(
+            Request::Create { user, session, integrity, present, default, groups }.to_bytes()
+        );
+    }
+    let user = table.sid(user)?;
+    let groups = groups
+        .into_iter()
+        .map(|(sid, attributes)| table.sid(sid).map(|sid| SidGroup::new(sid, attributes)));
+    let groups: Vec<_> = groups.collect::<Result<_, _>>()?;
     let groups = groups[..].into();
-    Ok(Request::Create { user, session, integrity, present, default, groups }.to_bytes())
+    Ok(Request::CreateWithSids { user, session, integrity, present, default, groups }.to_bytes())
 }
 
-/// A group such as 545:mandatory+enabled-by-default, or 545 alone.
-fn group(word: Word) -> Result<Group, Mistake> {
-    let (sid, attributes) = match word.split_once(':') {
-        None => (vocabulary::sid(word)?, 0),
-        Some((sid, attributes)) => (vocabulary::sid(sid)?, vocabulary::attributes(attributes)?),
-    };
-    Ok(Group { sid, attributes })
+/// A group such as S-1-5-32-544:mandatory+enabled-by-default, or 32 alone: its SID and attributes.
+fn group(word: Word<'_>) -> Result<(Typed<'_>, u32), Mistake> {
+    Ok(match word.split_once(':') {
+        None => (sids::typed(word)?, 0),
+        Some((sid, attributes)) => (sids::typed(sid)?, vocabulary::attributes(attributes)?),
+    })
+}
+
+/// The groups, if all are given by numbers.
+fn numbered(groups: &[(Typed, u32)]) -> Option<Vec<Group>> {
+    let group =
+        |&(sid, attributes): &(Typed, u32)| sid.as_number().map(|sid| Group::new(sid, attributes));
+    groups.iter().map(group).collect()
 }
 
 /// The parts between commas.
-fn list<T>(word: Word, part: impl Fn(Word) -> Result<T, Mistake>) -> Result<Vec<T>, Mistake> {
+fn list<'a, T>(
+    word: Word<'a>,
+    part: impl Fn(Word<'a>) -> Result<T, Mistake>,
+) -> Result<Vec<T>, Mistake> {
     word.split(',').into_iter().map(part).collect()
 }
 
@@ -171,15 +198,23 @@ fn duplicate(arguments: &mut Arguments) -> Parsed {
     Ok(Request::Duplicate { handle, token_type, level, mask }.to_bytes())
 }
 
-fn restrict(arguments: &mut Arguments) -> Parsed {
+/// Request 10, or 15 where a SID is given itself.
+fn restrict(arguments: &mut Arguments, table: &Table) -> Parsed {
     let handle = handle(arguments)?;
     let options = arguments.options(&["remove", "deny", "sids"], &["write-restricted"])?;
     let write_restricted = u32::from(options.get("write-restricted").is_some());
     let removed = options.parsed("remove", vocabulary::privilege_word)?;
     let deny = options.parsed("deny", |word| list(word, |index| index.u32("group index")))?;
-    let sids = options.parsed("sids", |word| list(word, vocabulary::sid))?;
-    let [deny, sids] = [deny[..].into(), sids[..].into()];
-    Ok(Request::Restrict { handle, write_restricted, removed, deny, sids }.to_bytes())
+    let deny = deny[..].into();
+    let typed = options.parsed("sids", |word| list(word, sids::typed))?;
+    let numbers: Option<Vec<u32>> = typed.iter().map(|sid| sid.as_number()).collect();
+    if let Some(sids) = numbers {
+        let sids = sids[..].into();
+        return Ok(Request::Restrict { handle, write_restricted, removed, deny, sids }.to_bytes());
+    }
+    let sids: Vec<Sid> = typed.into_iter().map(|sid| table.sid(sid)).collect::<Result<_, _>>()?;
+    let sids = sids[..].into();
+    Ok(Request::RestrictToSids { handle, write_restricted, removed, deny, sids }.to_bytes())
 }
 
 fn install(arguments: &mut Arguments) -> Parsed {
@@ -188,10 +223,6 @@ fn install(arguments: &mut Arguments) -> Parsed {
 
 fn impersonate(arguments: &mut Arguments) -> Parsed {
     Ok(Request::Impersonate { handle: handle(arguments)? }.to_bytes())
-}
-
-fn revert(_: &mut Arguments) -> Parsed {
-    Ok(Request::Revert.to_bytes())
 }
 
 fn link(arguments: &mut Arguments) -> Parsed {
@@ -207,8 +238,8 @@ fn linked(arguments: &mut Arguments) -> Parsed {
     Ok(Request::GetLinked { handle: handle(arguments)? }.to_bytes())
 }
 
-fn may(arguments: &mut Arguments) -> Parsed {
+fn may(arguments: &mut Arguments, table: &Table) -> Parsed {
     let handle = handle(arguments)?;
-    let condition = condition::parse(arguments)?;
+    let condition = condition::parse(arguments, table)?;
     Ok(Request::Evaluate { handle, condition: (&condition).into() }.to_bytes())
 }

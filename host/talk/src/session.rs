@@ -10,12 +10,19 @@ use crate::answer;
 use crate::hex;
 use crate::line::Command;
 use crate::reports::Reports;
+use crate::sids::Table;
 use crate::state;
 use crate::token;
 use crate::words::{Mistake, Word};
 
-/// The column at which the bytes stand beside the words.
-const BYTES_COLUMN: usize = 65;
+/// The columns of a line: those before the bytes beside the words, what is between, and the bytes.
+const LINE_WIDTH: usize = 80;
+const WORDS_WIDTH: usize = 42;
+const BETWEEN: usize = " > ".len();
+const BYTES_WIDTH: usize = LINE_WIDTH - BETWEEN - WORDS_WIDTH;
+
+/// What stands before a line that is said; twice before what does not fit one line.
+const INDENT: &str = "   ";
 
 /// A broker, what it has reported, and how to show what it says.
 pub struct Session {
@@ -46,6 +53,11 @@ impl Session {
     /// What there is to put back.
     pub fn reports(&self) -> &Reports {
         &self.reports
+    }
+
+    /// The SID table as it is now.
+    pub fn table(&self) -> Table {
+        Table::of(&self.broker)
     }
 
     /// A script's line, with the bytes that it sends.
@@ -79,7 +91,7 @@ impl Session {
         match command {
             Command::Send { station, bytes } => self.send(*station, bytes, out)?,
             Command::Reconnect { station } => self.reconnect(*station, out)?,
-            Command::State => self.say_all(state::lines(&self.broker), out)?,
+            Command::State => self.say_tables(state::lines(&self.broker), out)?,
             Command::Token(number) => self.token(*number, out)?,
             Command::Expect(words) => return Ok(self.expect(*words)),
             Command::Save(file) => return self.save(*file, out),
@@ -98,18 +110,53 @@ impl Session {
     /// Says a line, which can be expected then.
     fn say(&mut self, line: &str, out: &mut impl Write) -> io::Result<()> {
         self.said.push_back(line.to_string());
-        writeln!(out, "   {line}")
+        self.printed(line).iter().try_for_each(|line| writeln!(out, "{line}"))
     }
 
-    /// Says some lines; those that are empty can not be expected.
-    fn say_all(&mut self, lines: Vec<String>, out: &mut impl Write) -> io::Result<()> {
+    /// Says the lines of tables, as they are; those that are empty can not be expected.
+    fn say_tables(&mut self, lines: Vec<String>, out: &mut impl Write) -> io::Result<()> {
         for line in lines {
-            match line.as_str() {
-                "" => writeln!(out)?,
-                line => self.say(line, out)?,
+            if line.is_empty() {
+                writeln!(out)?;
+            } else {
+                writeln!(out, "{INDENT}{line}")?;
+                self.said.push_back(line);
             }
         }
         Ok(())
+    }
+
+    /// Says an answer, its bytes beside the first line.
+    fn say_answer(
+        &mut self,
+        words: &[String],
+        bytes: &[u8],
+        out: &mut impl Write,
+    ) -> io::Result<()> {
+        let (first, others) = words.split_first().expect("there is something to say");
+        self.said.push_back(first.clone());
+        let mut printed = self.printed(first);
+        let last = printed.pop().unwrap_or_default();
+        printed.iter().try_for_each(|line| writeln!(out, "{line}"))?;
+        self.beside(&last, '<', bytes, out)?;
+        others.iter().try_for_each(|line| self.say(line, out))
+    }
+
+    /// A line as it is printed: several, of the columns that there are, where bytes are shown.
+    fn printed(&self, line: &str) -> Vec<String> {
+        let width = if self.shows_bytes { LINE_WIDTH } else { usize::MAX };
+        let mut words = line.split(' ');
+        let mut lines = vec![format!("{INDENT}{}", words.next().unwrap_or_default())];
+        for word in words {
+            let last = lines.last_mut().expect("there is one from the begin");
+            if last.chars().count() + 1 + word.chars().count() <= width {
+                last.extend([" ", word]);
+            } else {
+                let next = broken(last, word, width);
+                lines.push(next);
+            }
+        }
+        lines
     }
 
     /// Takes the next line of what was said, which has to begin with these words.
@@ -132,7 +179,10 @@ impl Session {
 
     fn token(&mut self, number: u64, out: &mut impl Write) -> io::Result<()> {
         match self.broker.token(number) {
-            Some(token) => self.say_all(token::lines(&token), out),
+            Some(token) => {
+                let lines = token::lines(&token, &self.table());
+                lines.iter().try_for_each(|line| self.say(line, out))
+            }
             None => self.say(&format!("no token {number}"), out),
         }
     }
@@ -171,15 +221,12 @@ impl Session {
             Err(refusal) => return self.say(&refusal.to_string(), out),
         };
         let requests = answer::frames(&stream);
+        let table = self.table();
         for (index, answer) in answers.iter().enumerate() {
             let request = requests.get(index).copied().unwrap_or_default();
             self.reports.take(station, request, answer);
-            let words = answer::words(request, answer);
-            self.beside(&format!("   {}", words[0]), '<', answer.bytes(), out)?;
-            self.said.push_back(words[0].clone());
-            for line in &words[1..] {
-                self.say(line, out)?;
-            }
+            let words = answer::words(request, answer, &table);
+            self.say_answer(&words, answer.bytes(), out)?;
         }
         let after = &self.broker.stations()[station as usize];
         if !after.pending.is_empty() {
@@ -190,14 +237,41 @@ impl Session {
         Ok(())
     }
 
-    /// Words, and beside them the bytes if those are shown.
+    /// Words, and the bytes if those are shown: beside the words, or below where they don't fit.
     fn beside(&self, words: &str, way: char, bytes: &[u8], out: &mut impl Write) -> io::Result<()> {
-        if self.shows_bytes {
-            writeln!(out, "{words:BYTES_COLUMN$} {way} {}", hex::text(bytes))
-        } else {
-            writeln!(out, "{words}")
+        if !self.shows_bytes {
+            return writeln!(out, "{words}");
         }
+        let lines = hex::lines(bytes, BYTES_WIDTH);
+        let width = match &lines[..] {
+            [line] => LINE_WIDTH - BETWEEN - line.len(),
+            _ => WORDS_WIDTH,
+        };
+        let mut before = (words, way);
+        if words.chars().count() > width {
+            writeln!(out, "{words}")?;
+            before.0 = "";
+        }
+        for line in lines {
+            let (words, way) = before;
+            writeln!(out, "{words:WORDS_WIDTH$} {way} {line}")?;
+            before = ("", ' ');
+        }
+        Ok(())
     }
+}
+
+/// Breaks a full line before its next word, or after its last comma if the rest fits the next line;
+/// gives that.
+fn broken(line: &mut String, word: &str, width: usize) -> String {
+    let comma = line.rfind(',').map_or(line.len(), |comma| comma + 1);
+    let rest = format!("{} {word}", &line[comma..]);
+    let next = format!("{INDENT}{INDENT}{}", rest.trim_start());
+    if next.chars().count() > width {
+        return format!("{INDENT}{INDENT}{word}");
+    }
+    line.truncate(comma);
+    next
 }
 
 /// The words with one blank between them.
@@ -218,6 +292,20 @@ fn unusable(file: Word, error: &io::Error) -> Next {
 #[cfg(test)]
 mod tests {
     use super::*;
+
+    #[test]
+    fn a_full_line_is_broken_after_a_comma_or_before_a_word() {
+        let mut session = Session::new(true);
+        let long = ["was:", &"x".repeat(60), "one 1,", "two 2"].join(" ");
+        let first = ["   was:", &"x".repeat(60), "one 1,"].join(" ");
+        assert_eq!(session.printed(&long), [&first, "      two 2"]);
+        let (bytes, many) = (vec!["0A"; 60].join(" "), vec!["0A"; 24].join(" "));
+        let lines = session.printed(&format!("a, b {bytes}"));
+        assert_eq!(lines[0], format!("   a, b {many}"));
+        assert!(lines.len() == 3 && lines.iter().all(|line| line.len() <= 80));
+        session.shows_bytes = false;
+        assert_eq!(session.printed(&long), [format!("   {long}")]);
+    }
 
     #[test]
     fn an_answer_begins_with_whole_words() {

@@ -2,16 +2,18 @@
 
 use obriska::{Broker, Client, Handle, Pair, Station, Token};
 
+use crate::sids::Table;
 use crate::vocabulary::{self, ELEVATIONS, LEVELS, TYPES};
 
-/// Tokens (three tables), handles, stations and linked pairs: in 80 columns unless numbers are
-/// large or a handle's rights are many.
+/// Tokens (three tables), handles, stations, linked pairs and SIDs: in 80 columns unless numbers are
+/// large, a handle's rights are many or a SID is long. All but the last table have SIDs by number.
 pub fn lines(broker: &Broker) -> Vec<String> {
     let tokens: Vec<_> = broker.tokens().collect();
     let handles = broker.handles().map(handle_row).collect();
     let stations = broker.stations();
     let stations = stations.iter().enumerate().map(station_row).collect();
     let pairs = broker.pairs().map(pair_row).collect();
+    let sids = Table::of(broker);
     let next = format!("next token {}, next handle {}", broker.next_token(), broker.next_handle());
     let [identities, standings, powers] = token_tables(&tokens);
     let tables = [
@@ -21,7 +23,8 @@ pub fn lines(broker: &Broker) -> Vec<String> {
         table(&["handle", "station", "token", "rights"], handles),
         table(&["station", "token", "acts for", "stream"], stations),
         table(&["pair of session", "elevated token", "filtered token"], pairs),
-        vec![next],
+        table(&["number", "SID"], sids.rows()),
+        vec![format!("{next}, {}", sids.size_text())],
     ];
     tables.join(&String::new())
 }
@@ -46,7 +49,7 @@ fn identity_row(token: &Token) -> Vec<String> {
         vocabulary::root_text(token.root),
         token.modified.to_string(),
         token.session.to_string(),
-        vocabulary::sid_text(token.user.into()),
+        token.user.to_string(),
         if is_primary { token_type } else { format!("{token_type}, {level}") },
     ]
 }
@@ -117,7 +120,7 @@ fn pair_row(pair: Pair) -> Vec<String> {
 fn client(station: &Station) -> String {
     match station.client {
         None => "none".to_string(),
-        Some(Client { token, level }) => {
+        Some(Client { token, level, .. }) => {
             format!("{token}, {}", vocabulary::text(&LEVELS, level as u64))
         }
     }
@@ -182,7 +185,11 @@ mod tests {
             "pair of session  elevated token  filtered token",
             "5                3               2",
             "",
-            "next token 4, next handle 3",
+            "number  SID",
+            "7       S-1-5-7",
+            "18      S-1-5-18",
+            "",
+            "next token 4, next handle 3, SIDs 2 of 256",
         ];
         assert!(pairs.eq(expected));
         let standings: Vec<_> = lines.iter().skip_while(|line| !line.contains("elev")).collect();
@@ -194,8 +201,8 @@ mod tests {
     fn the_start_has_one_token_and_eight_stations() {
         let lines = lines(&Broker::start());
         let expected = [
-            "token  root  modified  session  user         type",
-            "1      1     1         999      18 (SYSTEM)  primary",
+            "token  root  modified  session  user  type",
+            "1      1     1         999      18    primary",
             "",
             "token  elevation  integrity       scope  owner / group  DACL",
             "1      default    16384 (system)  0      user / user    0",
@@ -206,6 +213,6 @@ mod tests {
         ];
         assert_eq!(lines[..expected.len()], expected);
         assert_eq!(lines.iter().filter(|line| line.ends_with("between requests")).count(), 8);
-        assert_eq!(lines.last().unwrap(), "next token 2, next handle 1");
+        assert_eq!(lines.last().unwrap(), "next token 2, next handle 1, SIDs 2 of 256");
     }
 }

@@ -1,29 +1,27 @@
 //! All of a token, in the words of its queries.
 
-use obriska::codec::{Report, Statistics};
+use obriska::codec::Report;
 use obriska::{Token, TokenType};
 
 use crate::answer;
+use crate::sids::Table;
 
 /// What there is to say of a token: what queries report of it, and its marks.
-pub fn lines(token: &Token) -> Vec<String> {
+pub fn lines(token: &Token, table: &Table) -> Vec<String> {
     let marks =
         [(token.write_restricted, "write-restricted"), (token.user_deny_only, "user deny-only")];
     let marks = marks.into_iter().filter(|mark| mark.0).map(|mark| mark.1.to_string());
-    reports(token).into_iter().flat_map(answer::report_lines).chain(marks).collect()
+    let reports = reports(token).into_iter();
+    reports.flat_map(|report| answer::report_lines(report, table)).chain(marks).collect()
 }
 
 /// The reports of a token; of its level, if it is for impersonation.
 fn reports(token: &Token) -> Vec<Report<'_>> {
-    let &Token { number, session, modified, token_type, root, .. } = token;
-    let level = match token_type {
+    let level = match token.token_type {
         TokenType::Primary => None,
         TokenType::Impersonation => Some(Report::Level(token.level)),
     };
-    let before = [
-        Report::Statistics(Statistics { number, session, modified, token_type, root }),
-        Report::User(token.user),
-    ];
+    let before = [Report::Statistics(token.into()), Report::User(token.user)];
     let after = [
         Report::Elevation(token.elevation),
         Report::Integrity(token.integrity),

@@ -44,6 +44,24 @@ pub fn number(word: Word, what: &str, names: &[Named]) -> Result<u32, Mistake> {
     })
 }
 
+/// The names of all values.
+pub fn all() -> Vec<&'static str> {
+    let values: [&[Named]; 11] = [
+        &CLASSES,
+        &TYPES,
+        &LEVELS,
+        &ELEVATIONS,
+        &ACTIONS,
+        &SWITCHES,
+        &names::RIGHTS,
+        &names::GROUP_ATTRIBUTES,
+        &names::INTEGRITY,
+        &names::SIDS,
+        &names::PRIVILEGES,
+    ];
+    values.concat().into_iter().map(|named| named.1).collect()
+}
+
 /// The names alone.
 pub fn names(names: &[Named]) -> String {
     names.iter().map(|named| named.1).collect::<Vec<_>>().join(", ")
@@ -60,14 +78,14 @@ pub fn privilege(word: Word) -> Result<u32, Mistake> {
     })
 }
 
-/// A SID: a number, or one of the few names.
+/// A SID by its number, or by one of the few names.
 pub fn sid(word: Word) -> Result<u32, Mistake> {
     number(word, "SID", &names::SIDS).map_err(|mistake| Mistake {
         message: match word.as_number() {
             Some(_) => mistake.message,
             None => {
                 let names = names(&names::SIDS);
-                format!("{} is no SID: say a number such as 1000, or {names}", word.quoted())
+                format!("{} is no SID: say S-1-5-18, its number, or {names}", word.quoted())
             }
         },
         ..mistake
@@ -120,11 +138,6 @@ pub fn text(names: &[Named], number: u64) -> String {
     name.map_or(number.to_string(), str::to_string)
 }
 
-/// A SID, with its name if it has one.
-pub fn sid_text(sid: u64) -> String {
-    named_text(&names::SIDS, sid)
-}
-
 /// A token's root: the number of another token or its own, if it has one.
 pub fn root_text(root: u64) -> String {
     match root {
@@ -135,15 +148,11 @@ pub fn root_text(root: u64) -> String {
 
 /// An integrity level with its name.
 pub fn integrity_text(integrity: u64) -> String {
-    named_text(&names::INTEGRITY, integrity)
-}
-
-fn named_text(names: &[Named], number: u64) -> String {
-    let name = text(names, number);
-    if name == number.to_string() {
+    let name = text(&names::INTEGRITY, integrity);
+    if name == integrity.to_string() {
         name
     } else {
-        format!("{number} ({name})")
+        format!("{integrity} ({name})")
     }
 }
 
@@ -206,13 +215,13 @@ mod tests {
     }
 
     #[test]
-    fn a_sid_is_a_number_or_a_name() {
+    fn a_sids_number_may_be_a_name() {
         assert_eq!(sid(Word::line("1000")), Ok(1000));
         assert_eq!(sid(Word::line("system")), Ok(18));
         let message = |text| sid(Word::line(text)).unwrap_err().message;
         assert_eq!(
             message("bob"),
-            "'bob' is no SID: say a number such as 1000, or Anonymous, SYSTEM"
+            "'bob' is no SID: say S-1-5-18, its number, or Anonymous, SYSTEM"
         );
         assert_eq!(message("4294967296"), "4294967296 is over 4294967295");
     }

@@ -1,5 +1,5 @@
 //! obriska-talk as a program: its scripts' whole output, bad lines and exit status. What the
-//! scripts are expected to write was taken from documents 01 and 02.
+//! scripts are expected to write was taken from the rules, docs/RULES.md.
 
 use std::io::Write;
 use std::path::{Path, PathBuf};
@@ -40,34 +40,50 @@ fn writes(arguments: &[&str], script: &str, expected: &str) {
     assert_eq!((text(&output.stderr), output.status.code()), ("", Some(0)));
 }
 
-#[test]
-fn the_first_minute_is_document_01s() {
-    let examples = "../../examples/first-minute";
-    writes(&["--hex"], &format!("{examples}.talk"), &format!("{examples}.expected"));
+/// An example with its bytes.
+fn example(name: &str) {
+    let example = format!("../../examples/{name}");
+    writes(&["--hex"], &format!("{example}.talk"), &format!("{example}.expected"));
 }
 
 #[test]
-fn acting_for_another_is_document_02s() {
-    let examples = "../../examples/acting-for-another";
-    writes(&["--hex"], &format!("{examples}.talk"), &format!("{examples}.expected"));
+fn the_first_minute_is_as_expected() {
+    example("first-minute");
 }
 
 #[test]
-fn linked_pairs_are_document_02s() {
-    let examples = "../../examples/linked-pairs";
-    writes(&["--hex"], &format!("{examples}.talk"), &format!("{examples}.expected"));
+fn acting_for_another_is_as_expected() {
+    example("acting-for-another");
 }
 
 #[test]
-fn page_conditions_are_document_02s() {
-    let examples = "../../examples/page-conditions";
-    writes(&["--hex"], &format!("{examples}.talk"), &format!("{examples}.expected"));
+fn linked_pairs_are_as_expected() {
+    example("linked-pairs");
 }
 
 #[test]
-fn putting_back_is_document_02s() {
-    let examples = "../../examples/put-back";
-    writes(&["--hex"], &format!("{examples}.talk"), &format!("{examples}.expected"));
+fn page_conditions_are_as_expected() {
+    example("page-conditions");
+}
+
+#[test]
+fn putting_back_is_as_expected() {
+    example("put-back");
+}
+
+#[test]
+fn real_sids_are_as_expected() {
+    example("real-sids");
+}
+
+#[test]
+fn what_is_said_with_bytes_fits_80_columns() {
+    for name in ["first-minute", "page-conditions", "put-back", "real-sids"] {
+        let script = file(&format!("../../examples/{name}.talk"));
+        let output = talk(&["--hex", script.to_str().expect("the path is text")], "");
+        let said = text(&output.stdout).lines().filter(|line| line.starts_with("   "));
+        assert_eq!(said.filter(|line| line.len() > 80).collect::<Vec<_>>(), [""; 0], "{name}");
+    }
 }
 
 #[test]
@@ -240,6 +256,15 @@ fn a_bad_command_line_ends_with_2() {
     assert_eq!(talk(&["a.talk", "b.talk"], "").status.code(), Some(2));
     let help = talk(&["--help"], "");
     assert!(text(&help.stdout).contains("usage:") && help.status.success());
+}
+
+#[test]
+fn the_words_for_completion_stand_one_in_a_line() {
+    let words = talk(&["--words"], "0: open all\n");
+    let lines: Vec<_> = text(&words.stdout).lines().collect();
+    assert!(["restrict", "adjust-privileges", "SYSTEM"].iter().all(|word| lines.contains(word)));
+    assert!(lines.iter().all(|line| !line.is_empty() && !line.contains(' ')));
+    assert_eq!(words.status.code(), Some(0));
 }
 
 #[test]

@@ -3,10 +3,11 @@
 use gen::{fields, flat};
 use model::{
     framed, Condition, Group, Handle, Mask, Model, Request, Token, FIRST_PRIVILEGE, LAST_PRIVILEGE,
-    MAX_BODY, MAX_DEPTH, MAX_GROUPS,
+    MAX_BODY, MAX_DEPTH, MAX_GROUPS, SIDS,
 };
 use Condition::{AllOf, AnyOf, Negated, Privilege};
 
+use crate::sid_work;
 use crate::work::{Feeds, Work};
 
 /// Requests in a list.
@@ -14,7 +15,7 @@ const REQUESTS: usize = 200;
 /// The handle on the token that is asked.
 const HANDLE: u32 = 1;
 /// The SIDs of the token's groups, of none of which a condition asks.
-const HELD: u32 = 1 << 16;
+const HELD: u32 = 200;
 
 /// A list for each shape of condition.
 pub fn all() -> Vec<Work> {
@@ -48,7 +49,7 @@ fn body(condition: &Condition) -> Vec<u8> {
 /// The start, and a handle on a second token with so many groups, all of them enabled, and with all
 /// privileges.
 fn asked(groups: usize) -> Model {
-    let mut model = Model::start();
+    let mut model = sid_work::with_sids(SIDS);
     let attributes = Group::ENABLED_BY_DEFAULT | Group::ENABLED;
     let groups = (HELD..).take(groups).map(|sid| Group { sid, attributes }).collect();
     let (number, token) = (2, Token::first());

@@ -2,6 +2,7 @@
 
 mod condition_work;
 pub mod rival;
+mod sid_work;
 pub mod work;
 
 use gen::{Broker, Calls};

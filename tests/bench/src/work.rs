@@ -3,11 +3,11 @@
 use gen::{fields, flat, Rng, NEEDED};
 use model::{
     framed, Elevation, Group, Handle, Level, Mask, Memory, Model, Pair, Request, Token, TokenType,
-    ALL_PRIVILEGES, HANDLES, LAST_CLASS, MAX_BODY, MAX_DACL, MAX_GROUPS, MAX_RESTRICTING,
-    MIN_BUFFER, NO_CHANGE, PAIRS, STATIONS, TOKENS,
+    ALL_PRIVILEGES, FIRST_ENTERED, HANDLES, LAST_CLASS, MAX_BODY, MAX_DACL, MAX_GROUPS,
+    MAX_RESTRICTING, MIN_BUFFER, NO_CHANGE, PAIRS, SIDS, STATIONS, TOKENS,
 };
 
-use crate::condition_work;
+use crate::{condition_work, sid_work};
 
 /// A list of feeds.
 pub struct Work {
@@ -49,19 +49,29 @@ const EMPTY: usize = 1000;
 /// A query's capacity that every report fits in.
 const CAPACITY: u32 = MIN_BUFFER as u32;
 
+/// SIDs of a desk at work: operators, their groups, and what they are restricted to.
+const DESK_SIDS: usize = 2 + OPERATORS as usize + GROUPS.len() + 2;
+const OPERATORS: u32 = 100;
+/// The attributes of an operator's groups.
+const GROUPS: [u32; 6] = [2, 3, 10, 8, 0, 0xC000_0002];
+/// The first group's number, and the first that a copy is restricted to.
+const FIRST_GROUP: u32 = FIRST_ENTERED + OPERATORS;
+const FIRST_RESTRICTING: u32 = FIRST_GROUP + GROUPS.len() as u32;
+
 /// All the lists.
 pub fn all() -> Vec<Work> {
-    let (start, full) = (Model::start(), full());
-    let (shift, on_full) = (shift(REQUESTS), on_full_tables(&full, REQUESTS));
+    let (start, desk, full) = (Model::start(), sid_work::with_sids(DESK_SIDS), full());
+    let (shift, on_full) = (shift(&desk, REQUESTS), on_full_tables(&full, REQUESTS));
     let empty = vec![(0, vec![]); EMPTY];
     let mut all = vec![
         Work::new("empty chunk, start", &start, &empty),
         Work::new("empty chunk, full tables", &full, &empty),
-        Work::new("whole requests, a shift", &start, &shift),
+        Work::new("whole requests, a shift", &desk, &shift),
         Work::new("whole requests, full tables", &full, &on_full),
-        Work::new("one-byte chunks, a shift", &start, &byte_by_byte(&shift[..IN_BYTES])),
+        Work::new("one-byte chunks, a shift", &desk, &byte_by_byte(&shift[..IN_BYTES])),
         Work::new("one-byte chunks, full tables", &full, &byte_by_byte(&on_full[..IN_BYTES])),
     ];
+    all.extend(sid_work::all());
     all.extend(condition_work::all());
     all
 }
@@ -92,9 +102,9 @@ impl Recorder {
 }
 
 /// Operators take over stations, look, adjust, act by copies and leave: so many requests.
-fn shift(requests: usize) -> Feeds {
+fn shift(desk: &Model, requests: usize) -> Feeds {
     let mut rng = Rng::new(1);
-    let mut recorder = Recorder { model: Model::start(), feeds: vec![] };
+    let mut recorder = Recorder { model: desk.clone(), feeds: vec![] };
     while recorder.feeds.len() < requests {
         let station = rng.below(STATIONS) as u32;
         operator(&mut rng, &mut recorder, station);
@@ -107,8 +117,8 @@ fn shift(requests: usize) -> Feeds {
 /// One operator at one station, from taking over to leaving.
 fn operator(rng: &mut Rng, desk: &mut Recorder, station: u32) {
     let own = desk.ask(station, Request::Open { mask: Mask::ALL.0 });
-    let user = 100 + rng.below(1000) as u32;
-    let groups = (0..6).map(|group| (200 + group, [2, 3, 10, 8, 0, 0xC000_0002][group as usize]));
+    let user = FIRST_ENTERED + rng.below(OPERATORS as usize) as u32;
+    let groups = (FIRST_GROUP..).zip(GROUPS);
     let made = desk.ask(
         station,
         Request::Create {
@@ -135,7 +145,7 @@ fn operator(rng: &mut Rng, desk: &mut Recorder, station: u32) {
         let mask = Mask::QUERY.0 | Mask::ADJUST_PRIVILEGES.0;
         let copy = desk.ask(station, Request::Duplicate { handle: made, kind, level, mask });
         desk.ask(station, Request::Query { handle: copy, class: 2, capacity: 16 });
-        let (deny, sids) = (vec![3, 4], vec![300, 301]);
+        let (deny, sids) = (vec![3, 4], vec![FIRST_RESTRICTING, FIRST_RESTRICTING + 1]);
         let (write_restricted, remove) = (0, 1 << 20);
         let less = desk
             .ask(station, Request::Restrict { handle: made, write_restricted, remove, deny, sids });
@@ -153,13 +163,14 @@ fn operator(rng: &mut Rng, desk: &mut Recorder, station: u32) {
 /// Every slot taken, every list as long as it may be, bytes pending at every other station; groups
 /// that request 6 may switch.
 pub fn full() -> Model {
-    let mut model = Model::start();
+    let mut model = sid_work::with_sids(SIDS);
+    let last = *model.sids.numbers().last().expect("a full table");
     let attributes = Group::ENABLED_BY_DEFAULT | Group::ENABLED | Group::OWNER;
     for (slot, number) in (0..TOKENS).zip(1..) {
-        let groups = (0..MAX_GROUPS as u32).map(|sid| Group { sid: u32::MAX - sid, attributes });
+        let groups = (0..MAX_GROUPS as u32).map(|sid| Group { sid: last - sid, attributes });
         model.tokens[slot] = Some(Token {
             groups: groups.collect(),
-            restricting: (0..MAX_RESTRICTING as u32).map(|sid| u32::MAX - sid).collect(),
+            restricting: (0..MAX_RESTRICTING as u32).map(|sid| last - sid).collect(),
             dacl: full_dacl(),
             ..Token { number, ..Token::first() }
         });

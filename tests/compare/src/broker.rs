@@ -44,6 +44,9 @@ extern "C" {
     fn obriska_find(
         handles: *const Record, handles_len: usize, station: u32, number: u32,
     ) -> usize;
+    fn obriska_sid(
+        control: *const u64, control_len: usize, number: u32, out: *mut u8, out_len: usize,
+    ) -> usize;
 }
 
 /// What stands where nobody has written yet, if nothing else is asked for.
@@ -136,6 +139,12 @@ impl Lent {
         let [_, _, handles, _, _] = &self.parts;
         unsafe { obriska_find(handles.as_ptr(), handles.len(), station, number) }
     }
+
+    /// Writes the packed SID that has this number; gives its size, or 0.
+    fn call_sid(&self, number: u32, out: &mut [u8]) -> usize {
+        let [_, _, _, control, _] = &self.parts;
+        unsafe { obriska_sid(control.as_ptr(), control.len(), number, out.as_mut_ptr(), out.len()) }
+    }
 }
 
 impl Lent {
@@ -155,6 +164,20 @@ impl Lent {
     /// A copy of the memory without margins.
     pub fn without_margins(memory: &Memory) -> Self {
         Lent::new(memory, 0, FILLER)
+    }
+
+    /// The packed SID that has this number, in so many bytes; `None` for 0. Nothing else is written.
+    pub fn sid(&self, number: u32, out_len: usize) -> Option<Vec<u8>> {
+        let before = self.bytes();
+        let mut out = Part::new(&vec![self.filler; out_len], 1, MARGIN, self.filler);
+        fill_stack(self.filler);
+        let size = self.call_sid(number, out.bytes_mut());
+        self.check(0, &before);
+        assert!(self.bytes() == before, "the SID's number {number}, and the memory is written");
+        assert!(out.margins_are_whole() && size <= out_len, "size {size}");
+        let (packed, rest) = out.bytes().split_at(size);
+        assert!(rest.iter().all(|&byte| byte == self.filler), "written after {size} bytes");
+        (size > 0).then(|| packed.to_vec())
     }
 
     /// What holds after each call: margins whole, and nothing written by a refused one.

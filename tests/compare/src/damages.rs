@@ -2,9 +2,9 @@
 
 use gen::{each_seed, poke, state, Broker, Call};
 use model::{
-    control_word, station_word, token_word, Elevation, HandleRecord, Memory, Model, TokenType,
-    CONTROL_WORDS, DACL_BYTES, HANDLE_ROWS, MIN_BUFFER, NO_ROOT, PAIRS, PAIR_ROW, PARTS,
-    PENDING_BYTES, STATIONS, STATION_ROW, TOKEN_ROW, TOKEN_WORDS,
+    control_word, station_word, token_word, Elevation, Group, HandleRecord, Memory, Model, Token,
+    TokenType, CONTROL_WORDS, DACL_BYTES, HANDLE_ROWS, MIN_BUFFER, NO_ROOT, PAIRS, PAIR_ROW, PARTS,
+    PENDING_BYTES, SIDS, SID_ROW, STATIONS, STATION_ROW, TOKEN_ROW, TOKEN_WORDS,
 };
 
 use crate::lists::{on_memory, same_bytes};
@@ -189,6 +189,79 @@ fn may_be_placed(model: &Model, [session, elevated, filtered]: [u64; 3]) -> bool
         && full
         && limited
         && elevated.user == filtered.user
+}
+
+/// Each word of the table of random memories changed: its count and places to all values about those that
+/// they may have, the rows by each byte. The broker and the model agree. Gives how many were still valid.
+pub fn compare_tables<B: Broker>(seeds: std::ops::Range<u64>) -> usize {
+    let mut valid = 0;
+    each_seed(seeds, |_, rng| {
+        let memory = state(rng).memory();
+        let mut with = |at: usize, value: u64| {
+            let mut memory = memory.clone();
+            memory.control[at] = value;
+            valid += usize::from(on_memory::<B>(&memory, &empty_feed()).refusal == 0);
+        };
+        let count = memory.control[control_word::SID_COUNT] as usize;
+        for value in [0, 1, 2, count - 1, count, count + 1, SIDS, SIDS + 1, 1 << 32, usize::MAX] {
+            with(control_word::SID_COUNT, value as u64);
+        }
+        for place in [0, 1, count - 1, count, count + 1, rng.below(SIDS), SIDS - 1] {
+            let at = control_word::SID_PLACES + place.min(SIDS - 1);
+            for value in [0, 1, place, count - 1, count, SIDS - 1, SIDS, 1 << 32] {
+                with(at, value as u64);
+            }
+        }
+        for row in [0, 1, 2, count - 1, count, rng.below(SIDS), SIDS - 1] {
+            let row = control_word::SID_ROWS + SID_ROW * row.min(SIDS - 1);
+            for byte in 0..SID_ROW * size_of::<u64>() {
+                let at = row + byte / size_of::<u64>();
+                let bits = rng.pick(&[1, 0x80, 0xFF]) << (8 * (byte % size_of::<u64>()));
+                with(at, memory.control[at] ^ bits);
+            }
+        }
+    });
+    valid
+}
+
+/// Every number about those in the table as a token's user, group and restricting SID: valid exactly for
+/// those in it.
+pub fn compare_numbers<B: Broker>(seeds: std::ops::Range<u64>) {
+    each_seed(seeds, |_, rng| {
+        let model = state(rng);
+        let is_free = |token: &&Token| model.partner(token.number).is_none();
+        let Some(token) = model.tokens.iter().flatten().find(is_free).cloned() else { return };
+        let last = 29 + model.sids.sids().len() as u32;
+        let about = [last.saturating_sub(1), last, last + 1, last + 2];
+        for sid in
+            [0, 6, 7, 8, 17, 18, 19, 31, 32, 33, 284, 285, 286, u32::MAX].into_iter().chain(about)
+        {
+            let attributes = Group::OWNER;
+            let others = [
+                Token { user: sid, ..token.clone() },
+                Token {
+                    groups: with_last(&token.groups, Group { sid, attributes }),
+                    ..token.clone()
+                },
+                Token { restricting: with_last(&token.restricting, sid), ..token.clone() },
+            ];
+            for other in others {
+                let mut changed = model.clone();
+                let slot = changed.tokens.iter_mut().flatten().find(|t| t.number == token.number);
+                *slot.expect("it lives") = other;
+                let fed = on_memory::<B>(&changed.memory(), &empty_feed());
+                assert_eq!(fed.refusal, if model.sids.has(sid) { 0 } else { 13 }, "{sid}");
+            }
+        }
+    });
+}
+
+/// The list with this at its end, or in the place of the last where there are some.
+fn with_last<T: Clone>(list: &[T], last: T) -> Vec<T> {
+    match list.split_last() {
+        Some((_, rest)) => [rest, &[last]].concat(),
+        None => vec![last],
+    }
 }
 
 /// Random memories with a value or two changed anywhere: the broker and the model agree. Gives how

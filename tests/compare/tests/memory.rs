@@ -2,8 +2,8 @@
 //! of each part, and start on any memory.
 
 use compare::damages::{
-    compare_clients, compare_pairs, compare_poked, compare_roots, empty_feed, is_refused,
-    of_other_sizes, refused_calls, starts,
+    compare_clients, compare_numbers, compare_pairs, compare_poked, compare_roots, compare_tables,
+    empty_feed, is_refused, of_other_sizes, refused_calls, starts,
 };
 use compare::lists::on_memory;
 use compare::Lent;
@@ -57,6 +57,18 @@ fn a_pair_is_of_two_tokens_that_request_16_could_leave() {
     let valid = compare_pairs::<Lent>(0..100);
     println!("{valid} pairs more were valid");
     assert!(valid > 10 || one_seed().is_some(), "too few to show anything: {valid}");
+}
+
+#[test]
+fn each_word_of_the_sid_table() {
+    let valid = compare_tables::<Lent>(0..60);
+    println!("{valid} changed tables were still valid");
+    assert!(valid > 100 || one_seed().is_some(), "too few to show anything: {valid}");
+}
+
+#[test]
+fn tokens_keep_numbers_in_the_table() {
+    compare_numbers::<Lent>(0..200);
 }
 
 #[test]

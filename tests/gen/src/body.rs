@@ -1,9 +1,10 @@
 //! Bodies of requests: mostly as wished, sometimes damaged.
 
-use model::{Model, Request, LAST_REQUEST, MAX_BODY, MAX_GROUPS, MORE, UNUSED_REQUESTS};
+use model::{Model, Request, LAST_REQUEST, MAX_BODY, MAX_GROUPS, MORE};
 
 use crate::condition_damages;
 use crate::fields::{fields, flat, Field};
+use crate::packed_damages;
 use crate::rng::Rng;
 use crate::wishes::Wish;
 
@@ -19,19 +20,29 @@ pub fn condition_body(rng: &mut Rng, model: &Model, station: usize) -> Vec<u8> {
     written(rng, &request)
 }
 
+/// The body of a random request that mostly has SIDs.
+pub fn sid_body(rng: &mut Rng, model: &Model, station: usize) -> Vec<u8> {
+    let request = Wish { rng, model, station }.with_sids();
+    written(rng, &request)
+}
+
 /// The body of a random request of a list in which what was is put back.
 pub(crate) fn switching_body(rng: &mut Rng, model: &Model, station: usize) -> Vec<u8> {
     let request = Wish { rng, model, station }.switching();
     written(rng, &request)
 }
 
-/// The request's bytes, sometimes damaged; a condition's more often, in ways of its own.
+/// The request's bytes, sometimes damaged; a condition's and packed SIDs more often, in ways of their
+/// own.
 fn written(rng: &mut Rng, request: &Request) -> Vec<u8> {
     let fields = fields(request);
     let share = if fields.len() == 1 { 20 } else { 8 };
     let mut body = match request {
         Request::Evaluate { condition, .. } if rng.percent(20) => {
             [flat(&fields[..2]), condition_damages::damaged(rng, condition)].concat()
+        }
+        Request::CreatePacked { .. } | Request::RestrictPacked { .. } if rng.percent(12) => {
+            packed_damages::damaged(rng, request).unwrap_or_else(|| flat(&fields))
         }
         _ if rng.percent(share) => damaged(rng, fields),
         _ => flat(&fields),
@@ -69,9 +80,7 @@ fn damaged(rng: &mut Rng, mut fields: Vec<Field>) -> Vec<u8> {
         }
         5 => {
             let next = u64::from(LAST_REQUEST) + 1;
-            let unused = UNUSED_REQUESTS.map(u64::from);
-            let unknown = [&[0, next, next + 1, 200, u64::MAX][..], &unused].concat();
-            fields[0] = Field::Number(rng.pick(&unknown));
+            fields[0] = Field::Number(rng.pick(&[0, next, next + 1, 200, u64::MAX]));
             flat(&fields)
         }
         6 => {

@@ -2,7 +2,7 @@
 
 use model::{Bytes, Fed, Memory, Model, Refusal, MAX_LENGTH_BYTES, MORE};
 
-use crate::body::body;
+use crate::body::{body, sid_body};
 use crate::call::{Call, DrawBody, Script};
 
 /// What takes feeds and reconnects.
@@ -106,6 +106,11 @@ pub fn status(answer: &[u8]) -> Option<u8> {
 /// Makes so many calls of the seed's script on the model and shows each to `check`.
 pub fn run(seed: u64, model: Model, calls: usize, check: impl FnMut(&Step)) {
     run_of(body, seed, model, calls, check);
+}
+
+/// The same, with requests that mostly have SIDs.
+pub fn run_with_sids(seed: u64, model: Model, calls: usize, check: impl FnMut(&Step)) {
+    run_of(sid_body, seed, model, calls, check);
 }
 
 /// The same, with bodies drawn so.

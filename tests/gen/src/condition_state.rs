@@ -5,9 +5,10 @@ use model::{
 };
 
 use crate::rng::Rng;
+use crate::sids::table_of;
 
 /// SIDs of users, groups and restricting ones alike.
-const SIDS: [u32; 6] = [18, 50, 60, 127, 128, u32::MAX];
+const SIDS: [u32; 6] = [18, 50, 60, 127, 128, 285];
 /// Handles of each station.
 const HANDLES_EACH: usize = 3;
 
@@ -15,6 +16,7 @@ const HANDLES_EACH: usize = 3;
 /// token with some privileges enabled; now and then without the right.
 pub fn with_conditions(rng: &mut Rng) -> Model {
     let mut model = Model::start();
+    model.sids = table_of(rng, model::SIDS);
     for (slot, number) in (0..TOKENS).zip(1..) {
         model.tokens[slot] = Some(token(rng, number));
     }

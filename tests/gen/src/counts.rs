@@ -1,6 +1,7 @@
 //! How often each refusal came, each status of each request, what request 6 did to each kind of
 //! group, request 10 to each kind of list, what was made from each kind of token, how stations came to
-//! act for others, how tokens were linked and their partners given, and which conditions were asked for.
+//! act for others, how tokens were linked and their partners given, which conditions were asked for, and
+//! what SIDs requests had.
 
 use std::collections::BTreeMap;
 use std::fmt;
@@ -15,6 +16,7 @@ use crate::links::LinkCounts;
 use crate::partners::PartnerCounts;
 use crate::restrictions::RestrictionCounts;
 use crate::roots::RootCounts;
+use crate::sid_cases::SidCounts;
 
 /// The statuses that each request can get; 0 stands for unknown requests.
 const POSSIBLE: [(u32, &[u8]); LAST_REQUEST as usize + 1] = [
@@ -32,8 +34,8 @@ const POSSIBLE: [(u32, &[u8]); LAST_REQUEST as usize + 1] = [
     (11, &[0, 1, 2, 3, 4, 5, 7]),
     (12, &[0, 1, 2, 3, 5, 7]),
     (13, &[0, 1]),
-    (14, &[1]),
-    (15, &[1]),
+    (14, &[0, 1, 4, 5, 8]),
+    (15, &[0, 1, 2, 3, 5, 8]),
     (16, &[0, 1, 2, 3, 4, 5, 8]),
     (17, &[0, 1, 2, 3, 8, 14]),
     (18, &[0, 1, 2, 3, 5]),
@@ -52,6 +54,7 @@ pub struct Counts {
     links: LinkCounts,
     partners: PartnerCounts,
     conditions: ConditionCounts,
+    sids: SidCounts,
 }
 
 impl Counts {
@@ -65,6 +68,7 @@ impl Counts {
         self.links.step(step);
         self.partners.step(step);
         self.conditions.step(step);
+        self.sids.step(step);
     }
 
     /// Counts what a call returned.
@@ -146,6 +150,11 @@ impl Counts {
         self.conditions.check(least);
     }
 
+    /// Each case of SIDs in requests 3, 10, 14 and 15 came so often at least, and got its status.
+    pub fn check_sids(&self, least: usize) {
+        self.sids.check(least);
+    }
+
     /// Each refusal came so often at least.
     pub fn check_refusals(&self, least: usize) {
         for (refusal, count) in self.refusals() {
@@ -185,6 +194,7 @@ impl fmt::Display for Counts {
         writeln!(f, "{}", self.clients)?;
         writeln!(f, "{}", self.links)?;
         writeln!(f, "{}", self.partners)?;
-        self.conditions.fmt(f)
+        writeln!(f, "{}", self.conditions)?;
+        self.sids.fmt(f)
     }
 }

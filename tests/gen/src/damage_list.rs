@@ -1,4 +1,4 @@
-//! For each rule of valid memory the damages that break this rule and, but for two, no other.
+//! For each rule of valid memory the damages that break this rule and, but for four, no other.
 
 use model::{
     control_word, framed, handle_byte, station_word, token_word, Client, Group, HandleRecord,
@@ -10,6 +10,7 @@ use model::{
 use crate::damage::{is_client, is_paired, references, Target};
 use crate::pair_damages as pairs;
 use crate::rng::Rng;
+use crate::table_damages as table;
 
 type Apply = fn(&mut Target) -> Option<()>;
 
@@ -167,11 +168,6 @@ pub const DAMAGES: &[Damage] = &[
         *t.pending(at, byte) = 1;
         Some(())
     }),
-    damage("ranges", "user", |t| {
-        let slot = unpaired_slot(t)?;
-        *t.word(slot, token_word::USER) = t.rng.pick(&[1 << 32, u64::MAX]);
-        Some(())
-    }),
     damage("ranges", "type", |t| {
         let model = t.model;
         let slot = t.slot(|token| impersonation(token) && !is_client(model, token.number))?;
@@ -195,24 +191,15 @@ pub const DAMAGES: &[Damage] = &[
         in_slot(t, any, token_word::INTEGRITY, &[1, 4095, 20480, (1 << 32) + 4096, u64::MAX])
     }),
     damage("ranges", "group count", |t| {
-        in_slot(t, any, token_word::GROUP_COUNT, &[MAX_GROUPS as u64 + 1, 1 << 32, u64::MAX])
+        let values = [MAX_GROUPS as u64 + 1, 1 << 32, u64::MAX];
+        in_slot(t, has_all_groups, token_word::GROUP_COUNT, &values)
     }),
     damage("ranges", "restricting count", |t| {
-        in_slot(
-            t,
-            any,
-            token_word::RESTRICTING_COUNT,
-            &[MAX_RESTRICTING as u64 + 1, 1 << 32, u64::MAX],
-        )
+        let values = [MAX_RESTRICTING as u64 + 1, 1 << 32, u64::MAX];
+        in_slot(t, has_all_restricting, token_word::RESTRICTING_COUNT, &values)
     }),
     damage("ranges", "DACL length", |t| {
         in_slot(t, any, token_word::DACL_LENGTH, &[MAX_DACL as u64 + 1, 1 << 32, u64::MAX])
-    }),
-    damage("ranges", "restricting SID", |t| {
-        let slot = t.slot(|token| !token.restricting.is_empty())?;
-        let at = t.rng.below(t.token(slot)?.restricting.len());
-        *t.restricting(slot, at) |= t.rng.bit(u32::BITS) << u32::BITS;
-        Some(())
     }),
     damage("ranges", "a handle's station", |t| {
         let at = t.handle_slot(|handle| handle.is_some())?;
@@ -354,6 +341,24 @@ pub const DAMAGES: &[Damage] = &[
     damage("paired users", "a pair's token is of another user", pairs::other_user),
     damage("paired sessions", "a pair's token is of another session", pairs::other_session),
     damage("paired sessions", "a pair is of another session", pairs::session_of_none),
+    damage("SID count", "no SIDs", table::no_sids),
+    damage("SID count", "one SID", table::one_sid),
+    damage("SID count", "a count past the table", table::count_past_the_table),
+    damage("first SIDs", "a SID of the start is another", table::other_first),
+    damage("first SIDs", "the SIDs of the start exchanged", table::exchanged_first),
+    damage("SIDs", "another revision", table::other_revision),
+    damage("SIDs", "a count past 15", table::count_past_15),
+    damage("SIDs", "past the last sub-authority", table::past_the_last),
+    damage("SIDs", "a row of zeros", table::row_of_zeros),
+    damage("different SIDs", "two equal rows", table::equal_rows),
+    damage("SID places", "two places exchanged", table::swapped_places),
+    damage("SID places", "a wrong place", table::wrong_place),
+    damage("free", "a place behind the last SID", table::place_behind),
+    damage("free", "a word behind the last SID", table::row_behind),
+    damage("free", "the count is one less", table::count_one_less),
+    damage("token SIDs", "a token's user", table::unknown_user),
+    damage("token SIDs", "a group's SID", table::unknown_group),
+    damage("token SIDs", "a restricting SID", table::unknown_restricting),
 ];
 
 /// The stations that act for this token.
@@ -391,6 +396,15 @@ fn unpaired_slot(t: &mut Target) -> Option<usize> {
 
 fn any(_: &Token) -> bool {
     true
+}
+
+/// As many as there may be: past the last ones there are no SIDs in the table.
+fn has_all_groups(token: &Token) -> bool {
+    token.groups.len() == MAX_GROUPS
+}
+
+fn has_all_restricting(token: &Token) -> bool {
+    token.restricting.len() == MAX_RESTRICTING
 }
 
 fn impersonation(token: &Token) -> bool {

@@ -1,9 +1,9 @@
 //! Memories damaged in every way, for tests to look at.
 
 use model::{
-    control_word, station_word, token_word, HandleRecord, Memory, Model, CONTROL_WORDS, DACL_ROW,
-    HANDLE_BYTES, MAX_BODY, MAX_DACL, MAX_GROUPS, PENDING_ROW, STATIONS, STATION_ROW, TOKENS,
-    TOKEN_ROW,
+    control_word, station_word, token_word, HandleRecord, Memory, Model, ATTRIBUTES_BIT, DACL_ROW,
+    HANDLE_BYTES, MAX_BODY, MAX_DACL, MAX_GROUPS, MAX_RESTRICTING, PENDING_ROW, SIDS, SID_ROW,
+    STATIONS, STATION_ROW, TOKENS, TOKEN_ROW,
 };
 
 use crate::damage_list::{Damage, DAMAGES};
@@ -41,7 +41,7 @@ pub fn poke(rng: &mut Rng, memory: &mut Memory) {
     let few = [0, 1, 2, 3, 4, 8, PENDING_ROW as u64, 1 << 32, u64::MAX];
     let telling = [&few[..], &sizes, &past, &about].concat();
     let value = if rng.percent(10) { odd } else { rng.pick(&telling) };
-    match rng.below(11) {
+    match rng.below(14) {
         0 => *any(rng, &mut memory.tokens) = value,
         1 => memory.tokens[TOKEN_ROW * live + rng.below(TOKEN_ROW)] ^= rng.bit(u64::BITS),
         2 => memory.tokens[TOKEN_ROW * live + rng.below(token_word::GROUPS)] = value,
@@ -56,12 +56,49 @@ pub fn poke(rng: &mut Rng, memory: &mut Memory) {
             memory.control[row + word] = value;
         }
         9 => {
-            let at = control_word::PAIRS + rng.below(CONTROL_WORDS - control_word::PAIRS);
+            let at = control_word::PAIRS + rng.below(control_word::SID_COUNT - control_word::PAIRS);
             let row = TOKEN_ROW * rng.below(TOKENS);
             let other = memory.tokens[row + rng.pick(&[token_word::NUMBER, token_word::SESSION])];
             memory.control[at] = rng.pick(&[value, other, other]);
         }
-        _ => memory.pending[PENDING_ROW * rng.below(STATIONS) + rng.below(4)] = value as u8,
+        10 => memory.pending[PENDING_ROW * rng.below(STATIONS) + rng.below(4)] = value as u8,
+        11 => poke_token_sid(rng, &mut memory.tokens[TOKEN_ROW * live..][..TOKEN_ROW]),
+        _ => poke_table(rng, &mut memory.control[control_word::SID_COUNT..], value),
+    }
+}
+
+/// Writes another SID into a token's row: mostly a number that some tables have.
+fn poke_token_sid(rng: &mut Rng, row: &mut [u64]) {
+    let number = rng.pick(&[7, 18, 19, 31, 32, 33, 60, 61, 284, 285, 286]);
+    let groups = row[token_word::GROUP_COUNT] as usize % MAX_GROUPS;
+    let restricting = row[token_word::RESTRICTING_COUNT] as usize % MAX_RESTRICTING;
+    match rng.below(3) {
+        0 => row[token_word::USER] = number,
+        1 => {
+            let word = &mut row[token_word::GROUPS + rng.below(groups + 1)];
+            *word = *word >> ATTRIBUTES_BIT << ATTRIBUTES_BIT | number;
+        }
+        _ => row[token_word::RESTRICTING + rng.below(restricting + 1)] = number,
+    }
+}
+
+/// Changes the SID table: its count, a place, or a word of a row.
+fn poke_table(rng: &mut Rng, table: &mut [u64], value: u64) {
+    let count = table[0] as usize % (SIDS + 1);
+    let rows = control_word::SID_ROWS - control_word::SID_COUNT;
+    let (place, other) = (1 + rng.below(SIDS), 1 + rng.below(count + 1) % SIDS);
+    let row = rows + SID_ROW * rng.below((count + 1).min(SIDS));
+    match rng.below(7) {
+        0 => table[0] = rng.pick(&[value, count as u64 + 1, (count as u64).wrapping_sub(1)]),
+        1 => table[other] = rng.pick(&[value, table[place], count as u64]),
+        2 => table.swap(other, place),
+        3 => table[row] ^= rng.bit(u64::BITS),
+        4 => table[row + rng.below(SID_ROW)] ^= rng.bit(u64::BITS),
+        5 => table[row + rng.below(SID_ROW)] = value,
+        _ => {
+            let from = rows + SID_ROW * rng.below((count + 1).min(SIDS));
+            table.copy_within(from..from + SID_ROW, row);
+        }
     }
 }
 

@@ -1,6 +1,6 @@
 //! A request as a list of fields, to be written or damaged field by field.
 
-use model::{write_number, Condition, Request};
+use model::{write_number, Condition, Request, Sid};
 
 use crate::condition_layout;
 
@@ -65,12 +65,32 @@ pub fn fields(request: &Request) -> Vec<Field> {
         Request::Install { handle } => numbers(&[11, (*handle).into()]),
         Request::Impersonate { handle } => numbers(&[12, (*handle).into()]),
         Request::Revert => numbers(&[13]),
+        Request::CreatePacked { user, session, integrity, present, default, groups } => {
+            let head = [*session, (*integrity).into(), *present, *default, groups.len() as u64];
+            let groups = groups.iter().flat_map(|(sid, with)| [packed(sid), number(*with)]);
+            [vec![number(14), packed(user)], numbers(&head), groups.collect()].concat()
+        }
+        Request::RestrictPacked { handle, write_restricted, remove, deny, sids } => {
+            let head = [15, (*handle).into(), (*write_restricted).into(), *remove];
+            let counts = [deny.len() as u64, sids.len() as u64];
+            let deny = deny.iter().map(|&index| number(index)).collect();
+            let sids = sids.iter().map(packed).collect();
+            [numbers(&head), numbers(&counts), deny, sids].concat()
+        }
         Request::Link { elevated, filtered, session } => {
             numbers(&[16, (*elevated).into(), (*filtered).into(), *session])
         }
         Request::GetLinked { handle } => numbers(&[17, (*handle).into()]),
         Request::Evaluate { handle, condition } => of_condition(*handle, condition),
     }
+}
+
+fn number(number: u32) -> Field {
+    Field::Number(number.into())
+}
+
+fn packed(sid: &Sid) -> Field {
+    Field::Bytes(sid.packed())
 }
 
 fn numbers(numbers: &[u64]) -> Vec<Field> {

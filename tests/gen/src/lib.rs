@@ -21,6 +21,8 @@ mod fields;
 mod groups;
 mod link_wishes;
 mod links;
+mod packed_damages;
+mod packed_layout;
 mod pair_damages;
 mod pairs;
 mod partners;
@@ -33,12 +35,18 @@ mod rng;
 mod roots;
 mod seeds;
 mod session;
+mod sid_cases;
+mod sid_grounds;
+mod sid_state;
+mod sid_wishes;
+mod sids;
 mod state;
+mod table_damages;
 mod vectors;
 mod wishes;
 
-pub use body::{body, condition_body};
-pub use broker::{run, status, Broker, Calls, Step};
+pub use body::{body, condition_body, sid_body};
+pub use broker::{run, run_with_sids, status, Broker, Calls, Step};
 pub use call::{Call, Script};
 pub use condition_state::with_conditions;
 pub use counts::Counts;
@@ -53,6 +61,7 @@ pub use put_back_lists::{put_back_list, put_back_state};
 pub use rng::Rng;
 pub use seeds::{each_seed, one_seed};
 pub use session::{session, write_chunk};
+pub use sid_state::with_sids;
 pub use state::{
     near_the_last_numbers, state, with_clients, with_copies, with_groups, with_restrictions,
 };

@@ -117,7 +117,8 @@ pub(crate) fn one_token(t: &mut Target) -> Option<()> {
 }
 
 pub(crate) fn other_user(t: &mut Target) -> Option<()> {
-    member_word(t, |_| true, token_word::USER, &[0, 18, 50, 60, u32::MAX.into()])
+    let users: Vec<u64> = t.model.sids.numbers().into_iter().map(u64::from).collect();
+    member_word(t, |_| true, token_word::USER, &users)
 }
 
 pub(crate) fn other_session(t: &mut Target) -> Option<()> {

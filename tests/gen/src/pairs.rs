@@ -6,10 +6,10 @@ use model::{
 };
 
 use crate::rng::Rng;
+use crate::sids::{few_numbers, start_with_sids};
 
 /// Sessions of pairs; tokens of random states are of some of them too.
 const SESSIONS: [u64; 6] = [999, 9, u64::MAX, 0, 5, 6];
-const USERS: [u32; 3] = [50, 18, u32::MAX];
 
 /// Links some of the primary tokens, which become of one user and session two by two; now and then the
 /// others could be linked too, in another session.
@@ -18,8 +18,9 @@ pub(crate) fn place_pairs(rng: &mut Rng, model: &mut Model) {
     let mut left = rng.shuffled(&slots);
     let most = rng.pick(&[0, 1, 2, PAIRS, PAIRS]).min(left.len() / 2);
     let sessions = rng.shuffled(&SESSIONS);
+    let users = few_numbers(&model.sids);
     for (place, &session) in places(rng).into_iter().zip(&sessions).take(most) {
-        let user = rng.pick(&USERS);
+        let user = rng.pick(&users);
         let [elevated, filtered] = [Elevation::Full, Elevation::Limited].map(|elevation| {
             let slot = left.pop().expect("two for each pair");
             become_of(model, slot, user, session, elevation)
@@ -28,7 +29,7 @@ pub(crate) fn place_pairs(rng: &mut Rng, model: &mut Model) {
     }
     if rng.percent(50) {
         for slot in left {
-            become_of(model, slot, USERS[0], sessions[most], Elevation::Default);
+            become_of(model, slot, users[1], sessions[most], Elevation::Default);
         }
     }
 }
@@ -64,7 +65,7 @@ const LINKED_USER: u32 = 50;
 /// are of five sessions and differ in whatever request 16 reads; some are linked, and of these some have
 /// no handle. Now and then all token slots are taken, or nearly all handle slots.
 pub fn with_pairs(rng: &mut Rng) -> Model {
-    let mut model = Model::start();
+    let mut model = start_with_sids();
     for slot in 0..OWN {
         let enabled = if slot == 0 { ALL_PRIVILEGES } else { ALL_PRIVILEGES & !(1 << TCB) };
         let privileges = Privileges::new(ALL_PRIVILEGES, enabled);

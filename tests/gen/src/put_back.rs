@@ -90,7 +90,9 @@ fn came_between(request: &Request, is_success: bool) -> Vec<(u32, Between)> {
         Request::Groups { handle, .. } => vec![(handle, Between::Groups)],
         Request::Scope { handle, .. } => vec![(handle, Between::Scope)],
         Request::Default { handle, .. } => vec![(handle, Between::Default)],
-        Request::Duplicate { handle, .. } | Request::Restrict { handle, .. } => {
+        Request::Duplicate { handle, .. }
+        | Request::Restrict { handle, .. }
+        | Request::RestrictPacked { handle, .. } => {
             vec![(handle, Between::Copied)]
         }
         Request::Install { handle } => vec![(handle, Between::Installed)],

@@ -9,6 +9,7 @@ use crate::broker::{run_of, Step};
 use crate::pairs::with_pairs;
 use crate::put_back::{PutBack, Switches};
 use crate::rng::Rng;
+use crate::sids::start_with_sids;
 use crate::state::state;
 
 /// How many calls a list has.
@@ -51,7 +52,7 @@ const HANDLES_EACH: usize = 3;
 
 /// A state in which each token has handles of several stations, and two of one of these.
 fn with_shared(rng: &mut Rng) -> Model {
-    let mut model = Model::start();
+    let mut model = start_with_sids();
     for (slot, number) in (0..SHARED).zip(1..) {
         model.tokens[slot] = Some(shared(rng, number, slot < OWN));
     }

@@ -95,7 +95,11 @@ impl RestrictionCounts {
         let source = handle.and_then(|handle| model.token(handle.token));
         let (Some(source), 0 | 5 | 8) = (source, status) else { return };
         let is_out = deny.iter().any(|&index| index as usize >= source.groups.len());
+        let is_unknown = sids.iter().any(|&sid| !model.sids.has(sid));
         if write_restricted > 1 || remove & !ALL_PRIVILEGES != 0 || has_twice(&deny) || is_out {
+            return;
+        }
+        if is_unknown {
             return;
         }
         let is_full = model.tokens.iter().all(Option::is_some);

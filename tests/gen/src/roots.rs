@@ -103,11 +103,13 @@ fn asked(request: &Request) -> Option<(Way, Option<u32>)> {
     const PRIMARY: u32 = TokenType::Primary as u32;
     const ANONYMOUS: u32 = Level::Anonymous as u32;
     match *request {
-        Request::Create { .. } => Some((Create, None)),
+        Request::Create { .. } | Request::CreatePacked { .. } => Some((Create, None)),
         Request::Duplicate { handle, kind: PRIMARY, .. } => Some((Primary, Some(handle))),
         Request::Duplicate { handle, level: ANONYMOUS, .. } => Some((Anonymous, Some(handle))),
         Request::Duplicate { handle, .. } => Some((Impersonation, Some(handle))),
-        Request::Restrict { handle, .. } => Some((Restrict, Some(handle))),
+        Request::Restrict { handle, .. } | Request::RestrictPacked { handle, .. } => {
+            Some((Restrict, Some(handle)))
+        }
         Request::Query { handle, class: STATISTICS, .. } => Some((Statistics, Some(handle))),
         _ => None,
     }

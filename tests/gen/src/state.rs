@@ -1,15 +1,16 @@
 //! Random valid states, also such as no list of requests leads to; and starts to go on from.
 
 use model::{
-    framed, Client, Elevation, Group, Handle, Level, Mask, Model, Privileges, Request, Station,
-    Token, TokenType, ALL_PRIVILEGES, HANDLES, IMPERSONATE, INTEGRITY_LEVELS, MAX_BODY, MAX_DACL,
-    MAX_GROUPS, MAX_RESTRICTING, MIN_BUFFER, NO_ROOT, STATIONS, TOKENS,
+    framed, Client, Elevation, Group, Handle, Level, Mask, Model, Privileges, Request, SidTable,
+    Station, Token, TokenType, ALL_PRIVILEGES, HANDLES, IMPERSONATE, INTEGRITY_LEVELS, MAX_BODY,
+    MAX_DACL, MAX_GROUPS, MAX_RESTRICTING, MIN_BUFFER, NO_ROOT, STATIONS, TOKENS,
 };
 
 use crate::broker::status;
 use crate::fields::{fields, flat};
 use crate::pairs::place_pairs;
 use crate::rng::Rng;
+use crate::sids::{any_table, some_number, start_with_sids};
 use crate::wishes::NEEDED;
 
 /// All levels.
@@ -19,6 +20,7 @@ pub(crate) const LEVELS: [Level; 4] =
 /// A random valid state.
 pub fn state(rng: &mut Rng) -> Model {
     let mut model = Model::start();
+    model.sids = any_table(rng);
     place_tokens(rng, &mut model);
     place_pairs(rng, &mut model);
     let primaries: Vec<u64> = live(&model)
@@ -51,7 +53,7 @@ pub fn near_the_last_numbers(rng: &mut Rng) -> Model {
 /// A start at which every other station has made a token with groups of all kinds, and a copy of it
 /// with an ordinary and a mandatory one made deny-only.
 pub fn with_groups() -> Model {
-    let mut model = Model::start();
+    let mut model = start_with_sids();
     let (user, session, integrity, present, default) = (50, 9, 0, 0, 0);
     let logon = Group::LOGON_ID | 2;
     let of_others = [0, 2, 3, 0x10, logon, logon | 3].map(|attributes| (60, attributes));
@@ -73,7 +75,7 @@ pub fn with_groups() -> Model {
 /// A start at which every other station has made two copies of its token: restricted by a list with
 /// repeats, with the mark and without it; by the longest, with the mark; and marked without SIDs.
 pub fn with_restrictions() -> Model {
-    let mut model = Model::start();
+    let mut model = start_with_sids();
     let repeats = vec![50, 60, 50, 18];
     let most: Vec<u32> = (50..).take(MAX_RESTRICTING).collect();
     let lists = [(0, repeats.clone()), (1, vec![]), (1, repeats), (1, most)];
@@ -95,7 +97,7 @@ pub fn with_restrictions() -> Model {
 /// A start at which every other station has made a token, a copy of it, an anonymous copy of that and
 /// a primary copy of the anonymous one; the first of these is gone, or the third.
 pub fn with_copies() -> Model {
-    let mut model = Model::start();
+    let mut model = start_with_sids();
     let (user, session, integrity) = (50, 9, 0);
     let (present, default) = (ALL_PRIVILEGES, ALL_PRIVILEGES);
     for station in (0..STATIONS).step_by(2) {
@@ -123,7 +125,7 @@ const SERVER_INTEGRITY: usize = 2;
 /// with Impersonate held or not; the clients that each station has handles on differ in whatever the
 /// gates read, each as likely as its opposite.
 pub fn with_clients(rng: &mut Rng) -> Model {
-    let mut model = Model::start();
+    let mut model = start_with_sids();
     for slot in 0..SERVERS {
         model.tokens[slot] = Some(server(number_in(slot), slot));
     }
@@ -215,7 +217,7 @@ fn place_tokens(rng: &mut Rng, model: &mut Model) {
     let given = distinct(rng, &numbers, chosen.len());
     for (&slot, &number) in chosen.iter().zip(&given) {
         let root = random_root(rng, number, &given);
-        let mut token = Token { root, ..random_token(rng, number) };
+        let mut token = Token { root, ..random_token(rng, number, &model.sids) };
         if slot == chosen[0] {
             token.kind = TokenType::Primary;
             token.level = Level::Anonymous;
@@ -269,7 +271,7 @@ fn random_handle(rng: &mut Rng, number: u32, token: u64) -> Handle {
     Handle { station: rng.below(STATIONS) as u32, number, token, mask: mask.max(1) }
 }
 
-fn random_token(rng: &mut Rng, number: u64) -> Token {
+fn random_token(rng: &mut Rng, number: u64, table: &SidTable) -> Token {
     let kind = rng.pick(&[TokenType::Primary, TokenType::Primary, TokenType::Impersonation]);
     let level = match kind {
         TokenType::Primary => Level::Anonymous,
@@ -287,15 +289,18 @@ fn random_token(rng: &mut Rng, number: u64) -> Token {
             default: rng.bits() & present,
             used: rng.bits() & ALL_PRIVILEGES,
         },
-        restricting: small_list(rng, MAX_RESTRICTING).iter().map(|_| random_sid(rng)).collect(),
+        restricting: small_list(rng, MAX_RESTRICTING)
+            .iter()
+            .map(|_| some_number(rng, table))
+            .collect(),
         write_restricted: rng.percent(30),
         user_deny_only: rng.percent(30),
         dacl: small_list(rng, MAX_DACL).iter().map(|_| rng.word() as u8).collect(),
         scope: rng.pick(&[0, 1, u32::MAX]),
         integrity: rng.pick(&INTEGRITY_LEVELS),
-        ..Token::bare(number, rng.pick(&[18, 50, 60, u32::MAX]), rng.pick(&[999, 9, u64::MAX]))
+        ..Token::bare(number, some_number(rng, table), rng.pick(&[999, 9, u64::MAX]))
     };
-    token.groups = small_list(rng, MAX_GROUPS).iter().map(|_| random_group(rng)).collect();
+    token.groups = small_list(rng, MAX_GROUPS).iter().map(|_| random_group(rng, table)).collect();
     place_indexes(rng, &mut token);
     token
 }
@@ -311,19 +316,13 @@ fn small_list(rng: &mut Rng, most: usize) -> Vec<()> {
     vec![(); count]
 }
 
-/// A restricting SID, one that may come again in its list or not.
-fn random_sid(rng: &mut Rng) -> u32 {
-    let any = rng.word() as u32;
-    rng.pick(&[18, 50, 60, 0, u32::MAX, any, any, any])
-}
-
-fn random_group(rng: &mut Rng) -> Group {
+fn random_group(rng: &mut Rng, table: &SidTable) -> Group {
     let logon = if rng.percent(15) { Group::LOGON_ID } else { 0 };
     let mut attributes = rng.word() as u32 & Group::ALL & !Group::LOGON_ID | logon;
     if attributes & Group::DENY_ONLY != 0 {
         attributes &= !Group::ENABLED;
     }
-    Group { sid: rng.pick(&[18, 50, 60, 61, 0, u32::MAX]), attributes }
+    Group { sid: some_number(rng, table), attributes }
 }
 
 fn place_indexes(rng: &mut Rng, token: &mut Token) {

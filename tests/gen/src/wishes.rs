@@ -4,7 +4,8 @@ use model::{
     number_length, Handle, Level, Mask, Model, Privileges, Reader, Refusal, Request, Token,
     TokenType, ALL_PRIVILEGES, ASSIGN_PRIMARY, CREATE_TOKEN, DISABLE, ENABLE, FIRST_PRIVILEGE,
     HANDLES, IMPERSONATE, INTEGRITY_LEVELS, LAST_CLASS, LAST_PRIVILEGE, LAST_REQUEST, MAX_DACL,
-    MAX_GROUPS, MAX_RESTRICTING, NO_CHANGE, REMOVE, RESET_GROUPS, RESET_PRIVILEGES, TCB, TOKENS,
+    MAX_GROUPS, MAX_RESTRICTING, NO_CHANGE, REMOVE, RESET_GROUPS, RESET_PRIVILEGES, SIDS, TCB,
+    TOKENS,
 };
 
 use crate::condition_wishes::Draw;
@@ -26,11 +27,11 @@ const NEEDED_ONES: [u32; 3] = [CREATE_TOKEN, ASSIGN_PRIMARY, TCB];
 /// Their bits.
 pub const NEEDED: u64 = 1 << CREATE_TOKEN | 1 << ASSIGN_PRIMARY | 1 << TCB;
 
-/// The size of the longest report: all groups there may be, of the longest SIDs and attributes.
-const LONGEST_REPORT: u32 =
-    (number_length(MAX_GROUPS as u64) + MAX_GROUPS * 2 * number_length(u32::MAX as u64)) as u32;
+/// The size of the longest report: all groups there may be, of the highest SIDs and attributes.
+const LONGEST_REPORT: u32 = (number_length(MAX_GROUPS as u64)
+    + MAX_GROUPS * (number_length(SIDS as u64) + number_length(u32::MAX as u64)))
+    as u32;
 
-const SIDS: [u32; 9] = [7, 18, 50, 51, 60, 61, 62, 0, u32::MAX];
 /// The right that each request needs on its handle.
 const RIGHTS: [Mask; LAST_REQUEST as usize + 1] = [
     Mask(0),
@@ -48,7 +49,7 @@ const RIGHTS: [Mask; LAST_REQUEST as usize + 1] = [
     Mask::IMPERSONATE,
     Mask(0),
     Mask(0),
-    Mask(0),
+    Mask::DUPLICATE,
     Mask::DUPLICATE,
     Mask::QUERY,
     Mask::QUERY,
@@ -78,6 +79,8 @@ impl Wish<'_> {
             10 => self.restrict(wanted),
             11 => Request::Install { handle },
             12 => Request::Impersonate { handle: self.again().unwrap_or(handle) },
+            14 => self.create_packed(),
+            15 => self.restrict_packed(wanted),
             16 => self.link(),
             17 => Request::GetLinked { handle },
             18 => self.evaluate(wanted),
@@ -90,12 +93,12 @@ impl Wish<'_> {
     /// can be linked, get what is linked, ask for groups if there are any.
     fn kind(&mut self) -> usize {
         let mut weights: [_; RIGHTS.len()] =
-            [0, 16, 6, 10, 14, 14, 14, 8, 12, 14, 14, 20, 5, 2, 0, 0, 4, 4, 6];
+            [0, 16, 6, 10, 14, 14, 14, 8, 12, 14, 14, 20, 5, 2, 8, 8, 4, 4, 6];
         let own = self.own_handles();
         if own.len() < 2 {
             weights[1] = 60;
         }
-        for (kind, more) in [(2, 4), (6, 20), (10, 8), (12, 16), (17, 12), (18, 6)] {
+        for (kind, more) in [(2, 4), (6, 20), (10, 8), (12, 16), (15, 4), (17, 12), (18, 6)] {
             if own.iter().any(|&handle| self.suits(kind, handle)) {
                 weights[kind] += more;
             }
@@ -126,7 +129,7 @@ impl Wish<'_> {
             2 => is_client(self.model, token.number) || is_paired(self.model, token.number),
             6 | 8 | 18 => !token.groups.is_empty(),
             9 => token.root != token.number,
-            10 => token.is_restricted() || token.write_restricted,
+            10 | 15 => token.is_restricted() || token.write_restricted,
             11 | 16 => token.kind == TokenType::Primary,
             12 => token.kind == TokenType::Impersonation,
             17 => is_paired(self.model, token.number),
@@ -192,8 +195,8 @@ impl Wish<'_> {
         self.rng.pick_any(&own).map(|handle| handle.number)
     }
 
-    fn create(&mut self) -> Request {
-        let user = self.rng.pick(&SIDS);
+    pub(crate) fn create(&mut self) -> Request {
+        let mut user = self.number();
         let session = self.rng.pick(&[999, 999, 9, 0, 5, u64::MAX]);
         let mut integrity = self.rng.pick(&INTEGRITY_LEVELS);
         let mut present = (self.rng.bits() | NEEDED) & ALL_PRIVILEGES;
@@ -205,7 +208,9 @@ impl Wish<'_> {
             0 => integrity = self.rng.pick(&[1, 4095, 16385, 20480, u32::MAX]),
             1 => present |= self.unknown_privilege(),
             2 => default = self.rng.word(),
-            3 => groups.extend([(60, 2); MAX_GROUPS + 1]),
+            3 => groups.extend([(user, 2); MAX_GROUPS + 1]),
+            4 => user = self.no_number(),
+            5 => groups.push((self.no_number(), 2)),
             _ => {}
         }
         Request::Create { user, session, integrity, present, default, groups }
@@ -232,7 +237,7 @@ impl Wish<'_> {
     }
 
     fn new_group(&mut self, user: u32) -> (u32, u32) {
-        let sid = self.rng.pick(&SIDS);
+        let sid = self.number();
         if sid == user {
             return (sid, self.rng.pick(&[2, 2, 3, 10, 0xC000_0002]));
         }
@@ -409,7 +414,7 @@ impl Wish<'_> {
         Request::Duplicate { handle: handle.number, kind, level, mask }
     }
 
-    fn restrict(&mut self, handle: Handle) -> Request {
+    pub(crate) fn restrict(&mut self, handle: Handle) -> Request {
         let groups = self.token(handle).map_or(0, |token| token.groups.len());
         let indexes: Vec<u32> = (0..groups as u32).collect();
         let most = if self.rng.percent(10) { MAX_GROUPS } else { 3 };
@@ -429,8 +434,9 @@ impl Wish<'_> {
         }
         Request::Restrict { handle: handle.number, write_restricted, remove, deny, sids }
     }
+
     /// SIDs to restrict by: none, some or all of a restricted source's own, in any order, and others
-    /// among them; now and then as many as a list may have, or more.
+    /// among them; now and then as many as a list may have, or more; seldom one that is not in the table.
     fn restricting(&mut self, handle: Handle) -> Vec<u32> {
         let own = self.token(handle).map_or(vec![], |token| token.restricting.clone());
         let mut sids = match self.rng.weighted(&[3, 3, 2, 4]) {
@@ -445,12 +451,17 @@ impl Wish<'_> {
             7 => MAX_RESTRICTING - sids.len().min(MAX_RESTRICTING),
             _ => MAX_RESTRICTING + 1 + self.rng.below(4 * MAX_RESTRICTING),
         };
-        let common = [&SIDS[..], &sids].concat();
+        let all = self.model.sids.numbers();
         let is_common = self.rng.percent(60);
         for _ in 0..others {
-            let any = self.rng.word() as u32;
-            let sid = if is_common { self.rng.pick(&common) } else { any };
+            let sid = if is_common { self.number() } else { self.rng.pick(&all) };
             sids.insert(self.rng.below(sids.len() + 1), sid);
+        }
+        if self.rng.percent(8) {
+            sids.retain(|sid| !own.contains(sid));
+        }
+        if self.rng.percent(5) {
+            sids.insert(self.rng.below(sids.len() + 1), self.no_number());
         }
         sids
     }

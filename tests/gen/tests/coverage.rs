@@ -1,11 +1,12 @@
 //! Every request gets every status that it can get, request 6 meets every kind of group, request 10
 //! every kind of list, tokens of every kind of root are copied, request 12 meets every row of its gate
-//! table, requests 16, 17 and 18 every case of theirs, and the memory always holds the state.
+//! table, requests 16, 17 and 18 every case of theirs, requests 3, 10, 14 and 15 every case of SIDs, and the
+//! memory always holds the state.
 
 use gen::{
-    body, condition_body, each_seed, fields, flat, near_the_last_numbers, one_seed, state,
-    with_clients, with_conditions, with_copies, with_groups, with_pairs, with_restrictions, Call,
-    Calls, Counts, Rng, Step,
+    body, condition_body, each_seed, fields, flat, near_the_last_numbers, one_seed, sid_body,
+    state, with_clients, with_conditions, with_copies, with_groups, with_pairs, with_restrictions,
+    with_sids, Call, Calls, Counts, Rng, Step,
 };
 use model::{framed, Fed, Mask, Model, Request, HANDLES, IMPERSONATE, MIN_BUFFER, STATIONS};
 
@@ -67,7 +68,7 @@ fn restricted() -> Model {
         let handle = 3 * station + 1;
         let (kind, level, mask) = (2, 3, Mask::ALL.0);
         ask(Request::Duplicate { handle, kind, level, mask });
-        let (write_restricted, remove, deny, sids) = (0, 1 << IMPERSONATE, vec![], vec![70]);
+        let (write_restricted, remove, deny, sids) = (0, 1 << IMPERSONATE, vec![], vec![7]);
         ask(Request::Restrict { handle, write_restricted, remove, deny, sids });
         ask(Request::Install { handle: handle + 2 });
         ask(Request::Close { handle });
@@ -133,7 +134,7 @@ fn every_restriction() {
 #[test]
 fn every_kind_of_root() {
     let mut counts = Counts::default();
-    for seed in 5000..5600 {
+    for seed in 5000..6000 {
         let first = if seed % 2 == 0 { with_copies() } else { state(&mut Rng::new(seed)) };
         run(seed, first, 100, &mut counts);
     }
@@ -190,12 +191,25 @@ fn every_case_of_conditions() {
 }
 
 #[test]
+fn every_case_of_sids() {
+    let mut counts = Counts::default();
+    each_seed(17_000..19_000, |seed, rng| {
+        let first = if seed % 4 == 0 { state(rng) } else { with_sids(rng) };
+        run_of(sid_body, seed, first, 30, &mut counts);
+    });
+    println!("SIDs:\n{counts}");
+    if one_seed().is_none() {
+        counts.check_sids(10);
+    }
+}
+
+#[test]
 fn the_last_numbers_run_out() {
     let mut counts = Counts::default();
     for seed in 2000..2040 {
         run(seed, near_the_last_numbers(&mut Rng::new(seed)), 100, &mut counts);
     }
-    for request in [1, 3, 9, 10] {
+    for request in [1, 3, 9, 10, 14, 15] {
         assert!(counts.of(request, 0) > 0 && counts.of(request, 8) > 0);
     }
 }

@@ -13,11 +13,12 @@ fn undamaged_memories_are_valid() {
     }
 }
 
-/// The rules that a damage breaks: its own alone, with two exceptions that cannot be helped.
+/// The rules that a damage breaks: its own alone, with four exceptions that cannot be helped.
 fn breaks(rule: &'static str, what: &str) -> Vec<&'static str> {
     match what {
         "the next token number is 0" => vec![rule, "numbers"],
         "a free handle slot with a number" => vec![rule, "ranges"],
+        "no SIDs" | "one SID" => vec![rule, "first SIDs", "token SIDs"],
         _ => vec![rule],
     }
 }

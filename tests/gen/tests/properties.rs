@@ -121,7 +121,9 @@ fn copied<'a>(step: &Step<'a>) -> Option<(Request, &'a Token, &'a Token)> {
         return None;
     }
     let source = match request {
-        Request::Duplicate { handle, .. } | Request::Restrict { handle, .. } => source(handle),
+        Request::Duplicate { handle, .. }
+        | Request::Restrict { handle, .. }
+        | Request::RestrictPacked { handle, .. } => source(handle),
         Request::GetLinked { handle } if step.before.next_token < step.after.next_token => {
             let partner = step.before.partner(source(handle).number);
             step.before.token(partner.expect("it is linked")).expect("a partner lives")
@@ -140,6 +142,17 @@ fn a_copy_begins_with_no_privilege_that_its_source_lacked() {
         assert_eq!(copy.privileges.used, source.privileges.used);
         assert_eq!(source, step.after.token(source.number).expect("the source stays"));
     });
+}
+
+/// The numbers of the SIDs that a success of request 10 or 15 gave.
+fn given(request: &Request, after: &Model) -> Option<Vec<u32>> {
+    match request {
+        Request::Restrict { sids, .. } => Some(sids.clone()),
+        Request::RestrictPacked { sids, .. } => {
+            sids.iter().map(|&sid| after.sids.number(sid)).collect()
+        }
+        _ => None,
+    }
 }
 
 /// Each case came so often at least, unless one seed alone is run.
@@ -161,6 +174,8 @@ fn a_copy_of_a_restricted_token_is_restricted_by_nothing_that_its_source_lacked(
             Request::Duplicate { .. } => "duplicate",
             Request::GetLinked { .. } => "clone",
             Request::Restrict { sids, .. } if sids.is_empty() => "restrict by none",
+            Request::RestrictPacked { sids, .. } if sids.is_empty() => "restrict by none, packed",
+            Request::RestrictPacked { .. } => "restrict, packed",
             _ => "restrict",
         };
         if source.is_restricted() {
@@ -173,7 +188,9 @@ fn a_copy_of_a_restricted_token_is_restricted_by_nothing_that_its_source_lacked(
     };
     run_all(check);
     each_seed(6000..6400, |seed, rng| run(seed, state(rng), 200, check));
-    check_counts(&seen.borrow(), ["duplicate", "restrict by none", "restrict", "clone"]);
+    let packed = ["restrict by none, packed", "restrict, packed"];
+    let others = ["duplicate", "restrict by none", "restrict", "clone"];
+    check_counts(&seen.borrow(), packed.into_iter().chain(others));
 }
 
 /// Whether the items stand in the list in their order.
@@ -186,7 +203,8 @@ fn are_in_order(items: &[u32], list: &[u32]) -> bool {
 fn a_restriction_keeps_each_sid_that_is_also_given_as_often_as_it_was() {
     let seen = RefCell::new(BTreeMap::new());
     run_all(|step| {
-        let Some((Request::Restrict { sids, .. }, source, copy)) = copied(step) else { return };
+        let Some((request, source, copy)) = copied(step) else { return };
+        let Some(sids) = given(&request, step.after) else { return };
         if !source.is_restricted() || sids.is_empty() {
             let kept = if sids.is_empty() { &source.restricting } else { &sids };
             assert_eq!(copy.restricting, *kept, "{:?}", step.call);
@@ -198,13 +216,16 @@ fn a_restriction_keeps_each_sid_that_is_also_given_as_often_as_it_was() {
         for &sid in had.iter().chain(&sids) {
             let expected = if sids.contains(&sid) { count(had, sid) } else { 0 };
             assert_eq!(count(kept, sid), expected, "{:?}", step.call);
-            let case = (count(had, sid).min(2), count(&sids, sid).min(2));
+            let is_packed = matches!(request, Request::RestrictPacked { .. });
+            let case = (is_packed, count(had, sid).min(2), count(&sids, sid).min(2));
             *seen.borrow_mut().entry(case).or_insert(0) += 1;
         }
     });
-    // None, one or more in the source, and none, one or more given.
+    // By number or packed; none, one or more in the source, and none, one or more given.
     let cases = (0..3).flat_map(|had| (0..3).map(move |given| (had, given)));
-    check_counts(&seen.borrow(), cases.filter(|&case| case != (0, 0)));
+    let cases = cases.filter(|&case| case != (0, 0));
+    let cases = cases.flat_map(|(had, given)| [(false, had, given), (true, had, given)]);
+    check_counts(&seen.borrow(), cases);
 }
 
 #[test]
@@ -216,7 +237,7 @@ fn second_and_third_restrictions_come() {
             let Some((request, source, copy)) = copied(step) else { return };
             let first = u32::from(source.is_restricted());
             let depth = depths.get(&source.number).copied().unwrap_or(first);
-            let narrows = matches!(request, Request::Restrict { sids, .. } if !sids.is_empty());
+            let narrows = given(&request, step.after).is_some_and(|sids| !sids.is_empty());
             let depth = if copy.is_restricted() { depth + u32::from(narrows) } else { 0 };
             depths.insert(copy.number, depth);
             if narrows {
@@ -227,11 +248,12 @@ fn second_and_third_restrictions_come() {
     check_counts(&seen, [1, 2, 3]);
 }
 
-/// The token that a success of request 3 made.
+/// The token that a success of request 3 or 14 made.
 fn created<'a>(step: &Step<'a>) -> Option<&'a Token> {
     let (_, request) = ended_request(step)?;
-    let is_created = matches!(request, Request::Create { .. }) && step.status() == Some(0);
-    is_created.then(|| step.after.token(step.before.next_token).expect("a success has a token"))
+    let is_create = matches!(request, Request::Create { .. } | Request::CreatePacked { .. });
+    (is_create && step.status() == Some(0))
+        .then(|| step.after.token(step.before.next_token).expect("a success has a token"))
 }
 
 #[test]

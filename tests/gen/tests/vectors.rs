@@ -4,8 +4,8 @@ use std::collections::BTreeSet;
 use std::iter;
 
 use gen::{fields, status, vectors, Calls, Field, Step, Vector};
-use model::{framed, write_number, Condition, Model, Refusal, Request};
-use model::{LAST_CLASS, LAST_REQUEST, UNUSED_REQUESTS};
+use model::{framed, write_number, Condition, Model, Refusal, Request, Sid};
+use model::{LAST_CLASS, LAST_REQUEST};
 
 /// The reports, by their classes from 1 on.
 const REPORTS: [&str; LAST_CLASS as usize] = [
@@ -60,6 +60,7 @@ fn said(request: &Request) -> String {
         Request::Create { .. } | Request::Default { .. } | Request::Restrict { .. } => {
             long(request)
         }
+        Request::CreatePacked { .. } | Request::RestrictPacked { .. } => with_sids(request),
         Request::Query { handle, class, capacity } => {
             format!("query handle={handle} class={class} capacity={capacity}")
         }
@@ -108,6 +109,39 @@ fn long(request: &Request) -> String {
     }
 }
 
+/// A request with packed SIDs.
+fn with_sids(request: &Request) -> String {
+    match request {
+        Request::CreatePacked { user, session, integrity, present, default, groups } => {
+            let groups = groups.iter().map(|(sid, with)| format!("{}:{with}", text(sid)));
+            format!(
+                "create-with-sids user={} session={session} integrity={integrity} \
+                 present={present} default={default} groups={}",
+                text(user),
+                or_none(groups.collect::<Vec<_>>().join(","))
+            )
+        }
+        Request::RestrictPacked { handle, write_restricted, remove, deny, sids } => format!(
+            "restrict-to-sids handle={handle} write-restricted={write_restricted} \
+             removed={remove} deny={} sids={}",
+            list(deny),
+            or_none(sids.iter().map(text).collect::<Vec<_>>().join(","))
+        ),
+        _ => panic!("{request:?}"),
+    }
+}
+
+/// A SID's text.
+fn text(sid: &Sid) -> String {
+    let authority = sid.authority().into_iter().fold(0, |n, byte| n << 8 | u64::from(byte));
+    let authority = match u32::try_from(authority) {
+        Ok(authority) => authority.to_string(),
+        Err(_) => format!("0x{authority:012X}"),
+    };
+    let rest = sid.sub_authorities().iter().map(|sub_authority| format!("-{sub_authority}"));
+    format!("S-1-{authority}{}", rest.collect::<String>())
+}
+
 fn pairs(pairs: &[(u32, u32)]) -> String {
     let pairs: Vec<_> = pairs.iter().map(|(first, second)| format!("{first}:{second}")).collect();
     or_none(pairs.join(","))
@@ -142,6 +176,7 @@ fn answer_name(request: &Request) -> &'static str {
     match request {
         Request::Open { .. } | Request::Create { .. } | Request::Duplicate { .. } => "handle",
         Request::Restrict { .. } | Request::GetLinked { .. } => "handle",
+        Request::CreatePacked { .. } | Request::RestrictPacked { .. } => "handle",
         Request::Close { .. } | Request::Scope { .. } | Request::Default { .. } => "nothing",
         Request::Install { .. } | Request::Link { .. } => "nothing",
         Request::Query { class, .. } => REPORTS[*class as usize - 1],
@@ -216,9 +251,9 @@ fn the_vectors_have_every_request_report_answer_and_status() {
     let served = played.iter().filter(|(vector, _)| status_of(vector) == Some(0));
     let served: Vec<_> = served.filter_map(|(_, request)| request.as_ref()).collect();
     let numbers: BTreeSet<_> = served.iter().map(|request| fields(request)[0].bytes()).collect();
-    let known = (1..=LAST_REQUEST).filter(|number| !UNUSED_REQUESTS.contains(number));
-    assert_eq!(numbers, known.map(|number| Field::Number(number.into()).bytes()).collect());
-    assert_eq!(numbers.len(), 16);
+    let all = (1..=LAST_REQUEST).map(|number| Field::Number(number.into()).bytes());
+    assert_eq!(numbers, all.collect());
+    assert_eq!(numbers.len(), 18);
     let classes = served.iter().filter_map(|request| match request {
         Request::Query { class, .. } => Some(*class),
         _ => None,

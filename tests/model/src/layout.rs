@@ -1,6 +1,8 @@
 //! Sizes and places in the lent memory, as docs/MEMORY.md has them.
 
 use crate::frame::{MAX_BODY, MAX_LENGTH_BYTES};
+use crate::sid::MAX_SID_BYTES;
+use crate::sid_table::SIDS;
 use crate::state::{HANDLES, PAIRS, STATIONS, TOKENS};
 use crate::token::{MAX_DACL, MAX_GROUPS, MAX_RESTRICTING};
 
@@ -74,6 +76,12 @@ pub mod control_word {
     pub const STATIONS: usize = NEXT_HANDLE + 1;
     /// The first pair's row; the others follow.
     pub const PAIRS: usize = STATIONS + super::STATIONS * super::STATION_ROW;
+    /// How many SIDs the table has.
+    pub const SID_COUNT: usize = PAIRS + super::PAIRS * super::PAIR_ROW;
+    /// The place of the lowest row; those of higher rows follow.
+    pub const SID_PLACES: usize = SID_COUNT + 1;
+    /// The row of the first SID; the others follow by number.
+    pub const SID_ROWS: usize = SID_PLACES + super::SIDS;
 }
 
 /// Words of a token's row.
@@ -86,6 +94,8 @@ pub const HANDLE_BYTES: usize = handle_byte::TOKEN.end;
 pub const STATION_ROW: usize = station_word::CLIENT_LEVEL + 1;
 /// Words of a pair's row.
 pub const PAIR_ROW: usize = pair_word::FILTERED + 1;
+/// Words of a SID's row: the longest packed SID, and zeros to the word's end.
+pub const SID_ROW: usize = MAX_SID_BYTES.div_ceil(size_of::<u64>());
 /// Bytes of a station's row of pending bytes.
 pub const PENDING_ROW: usize = MAX_LENGTH_BYTES + MAX_BODY;
 
@@ -96,6 +106,6 @@ pub const DACL_BYTES: usize = TOKENS * DACL_ROW;
 /// Size of the handles part.
 pub const HANDLE_ROWS: usize = HANDLES;
 /// Size of the control part.
-pub const CONTROL_WORDS: usize = control_word::PAIRS + PAIRS * PAIR_ROW;
+pub const CONTROL_WORDS: usize = control_word::SID_ROWS + SIDS * SID_ROW;
 /// Size of the pending part.
 pub const PENDING_BYTES: usize = STATIONS * PENDING_ROW;

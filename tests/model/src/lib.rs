@@ -13,6 +13,7 @@ mod layout;
 mod lent;
 mod memory;
 mod number;
+mod packed;
 mod pairs;
 mod privileges;
 mod program;
@@ -22,19 +23,23 @@ mod refusal;
 mod request;
 mod rights;
 mod serve;
+mod sid;
+mod sid_memory;
+mod sid_table;
 mod state;
 #[cfg(test)]
 mod tests;
 mod token;
 mod tokens;
 mod valid;
+mod valid_sids;
 
 pub use condition::{Condition, MAX_DEPTH};
 pub use feed::{Fed, MIN_BUFFER};
 pub use frame::{framed, MAX_BODY, MAX_LENGTH_BYTES};
 pub use layout::{
     control_word, handle_byte, pair_word, station_word, token_word, ATTRIBUTES_BIT, CONTROL_WORDS,
-    DACL_BYTES, DACL_ROW, HANDLE_BYTES, HANDLE_ROWS, PAIR_ROW, PENDING_BYTES, PENDING_ROW,
+    DACL_BYTES, DACL_ROW, HANDLE_BYTES, HANDLE_ROWS, PAIR_ROW, PENDING_BYTES, PENDING_ROW, SID_ROW,
     STATION_ROW, TOKEN_ROW, TOKEN_WORDS,
 };
 pub use memory::{Bytes, Memory, PARTS};
@@ -49,9 +54,10 @@ pub use record::HandleRecord;
 pub use refusal::Refusal;
 pub use request::{
     Request, DISABLE, ENABLE, LAST_REQUEST, NO_CHANGE, REMOVE, RESET_GROUPS, RESET_PRIVILEGES,
-    UNUSED_REQUESTS,
 };
 pub use rights::Mask;
+pub use sid::{Sid, MAX_SID_BYTES, MAX_SUB_AUTHORITIES, SID_REVISION};
+pub use sid_table::{SidTable, FIRST_ENTERED, SIDS};
 pub use state::{
     Client, Handle, Model, Pair, Station, HANDLES, NO_CLIENT, PAIRS, STATIONS, TOKENS,
 };

@@ -24,8 +24,8 @@ pub struct Memory {
     pub dacls: Vec<u8>,
     /// A record for each handle slot.
     pub handles: Vec<HandleRecord>,
-    /// The control words: the two next numbers, then a row of words for each station, then one for
-    /// each pair.
+    /// The control words: the two next numbers, then a row of words for each station, one for each
+    /// pair, and the SID table.
     pub control: Vec<u64>,
     /// A row of bytes for each station.
     pub pending: Vec<u8>,
@@ -63,7 +63,7 @@ impl Model {
                 row[station_word::CLIENT_LEVEL] = client.level as u64;
             }
         }
-        let rows = words[control_word::PAIRS..].chunks_mut(PAIR_ROW);
+        let rows = words[control_word::PAIRS..control_word::SID_COUNT].chunks_mut(PAIR_ROW);
         for (row, pair) in rows.zip(&self.pairs) {
             if let Some(pair) = pair {
                 row[pair_word::SESSION] = pair.session;
@@ -71,6 +71,7 @@ impl Model {
                 row[pair_word::FILTERED] = pair.filtered;
             }
         }
+        words[control_word::SID_COUNT..].copy_from_slice(&self.sids.words());
         words
     }
 }
@@ -142,6 +143,7 @@ impl Memory {
             handles: handles.try_into().ok()?,
             stations: stations.try_into().ok()?,
             pairs: self.pair_rows().map(|row| row.pair()).collect::<Vec<_>>().try_into().ok()?,
+            sids: self.sid_table()?,
             next_token: self.control[control_word::NEXT_TOKEN],
             next_handle: self.control[control_word::NEXT_HANDLE].try_into().ok()?,
         })
@@ -170,7 +172,7 @@ impl Memory {
 
     /// The places for pairs.
     pub(crate) fn pair_rows(&self) -> impl Iterator<Item = PairRow<'_>> {
-        self.control[control_word::PAIRS..].chunks(PAIR_ROW).map(PairRow)
+        self.control[control_word::PAIRS..control_word::SID_COUNT].chunks(PAIR_ROW).map(PairRow)
     }
 
     /// Every byte of every part, as a host has them.
@@ -186,7 +188,7 @@ impl Memory {
 }
 
 /// The part of a row that a count uses; all of it when the count is too large.
-fn used<T>(row: &[T], count: u64) -> usize {
+pub(crate) fn used<T>(row: &[T], count: u64) -> usize {
     usize::try_from(count).map_or(row.len(), |count| count.min(row.len()))
 }
 

@@ -5,7 +5,7 @@
 #[derive(Clone, Copy, Debug, PartialEq, Eq)]
 pub enum Refusal {
     /// Unknown request, or a body not in its layout, or bytes left; so also a condition of unknown kind
-    /// or too deep.
+    /// or too deep, and what is no packed SID.
     Layout,
     /// The handle is not a live one of this station.
     Handle,
@@ -15,15 +15,16 @@ pub enum Refusal {
     Privilege,
     /// A bad field or entry, an unknown class, installing a non-primary token, acting for a primary
     /// one, restricting a restricted one to none of its SIDs, or to write-restricted where it is not,
-    /// linking tokens that can't be a pair, or an unknown privilege anywhere in a condition.
+    /// linking tokens that can't be a pair, an unknown privilege anywhere in a condition, or a SID
+    /// number that is not in the table.
     Field,
     /// A mandatory, deny-only or logon group, or disabling one with the user's SID.
     Protected,
     /// The token to install is of another user or session; or the own token is restricted, the one
     /// to act for is not, and Impersonate is not held.
     Mismatch,
-    /// No slot is free, no number is left, four other sessions have pairs, or there are too many
-    /// restricting SIDs for an unrestricted token.
+    /// No slot is free, no number is left, four other sessions have pairs, there are too many
+    /// restricting SIDs for an unrestricted token, or more new SIDs than the table has room for.
     Full,
     /// The query's answer, of this size, is larger than the given capacity.
     Capacity(u32),

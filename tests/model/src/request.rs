@@ -2,6 +2,7 @@
 
 use crate::condition::Condition;
 use crate::number::Reader;
+use crate::sid::Sid;
 
 /// The index in a default request that asks for no change.
 pub const NO_CHANGE: u16 = 0xFFFF;
@@ -18,8 +19,6 @@ pub const RESET_GROUPS: (u32, u32) = (0xFFFF_FFFF, 0);
 
 /// The number of the last request; the first is 1.
 pub const LAST_REQUEST: u32 = 18;
-/// Numbers below it that no request has yet.
-pub const UNUSED_REQUESTS: [u32; 2] = [14, 15];
 
 /// A request in its layout; its values may still be bad.
 #[derive(Clone, Debug, PartialEq, Eq)]
@@ -58,6 +57,23 @@ pub enum Request {
     Impersonate { handle: u32 },
     /// 13: acts for none.
     Revert,
+    /// 14: a new token, with packed SIDs.
+    CreatePacked {
+        user: Sid,
+        session: u64,
+        integrity: u32,
+        present: u64,
+        default: u64,
+        groups: Vec<(Sid, u32)>,
+    },
+    /// 15: a restricted copy, with packed SIDs.
+    RestrictPacked {
+        handle: u32,
+        write_restricted: u32,
+        remove: u64,
+        deny: Vec<u32>,
+        sids: Vec<Sid>,
+    },
     /// 16: links two tokens of a session.
     Link { elevated: u32, filtered: u32, session: u64 },
     /// 17: a handle on the other of a pair, or on a clone of it.
@@ -98,6 +114,8 @@ impl Request {
             11 => Request::Install { handle: reader.u32()? },
             12 => Request::Impersonate { handle: reader.u32()? },
             13 => Request::Revert,
+            14 => Self::read_create_packed(reader)?,
+            15 => Self::read_restrict_packed(reader)?,
             16 => Request::Link {
                 elevated: reader.u32()?,
                 filtered: reader.u32()?,
@@ -134,6 +152,25 @@ impl Request {
         Some(Request::Restrict { handle, write_restricted, remove, deny, sids })
     }
 
+    fn read_create_packed(reader: &mut Reader) -> Option<Request> {
+        Some(Request::CreatePacked {
+            user: Sid::read(reader)?,
+            session: reader.u64()?,
+            integrity: reader.u32()?,
+            present: reader.u64()?,
+            default: reader.u64()?,
+            groups: counted_groups(reader)?,
+        })
+    }
+
+    fn read_restrict_packed(reader: &mut Reader) -> Option<Request> {
+        let (handle, write_restricted, remove) = (reader.u32()?, reader.u32()?, reader.u64()?);
+        let (deny_count, sid_count) = (reader.u32()?, reader.u32()?);
+        let deny = reader.list(deny_count)?;
+        let sids = (0..sid_count).map(|_| Sid::read(reader)).collect::<Option<_>>()?;
+        Some(Request::RestrictPacked { handle, write_restricted, remove, deny, sids })
+    }
+
     fn read_evaluate(reader: &mut Reader) -> Option<Request> {
         let (handle, condition) = (reader.u32()?, Condition::read(reader)?);
         Some(Request::Evaluate { handle, condition })
@@ -143,4 +180,10 @@ impl Request {
 fn counted_pairs(reader: &mut Reader) -> Option<Vec<(u32, u32)>> {
     let count = reader.u32()?;
     reader.pairs(count)
+}
+
+/// Packed SIDs, each with attributes.
+fn counted_groups(reader: &mut Reader) -> Option<Vec<(Sid, u32)>> {
+    let count = reader.u32()?;
+    (0..count).map(|_| Some((Sid::read(reader)?, reader.u32()?))).collect()
 }

@@ -21,7 +21,13 @@ impl Model {
             Request::Open { mask } => self.open(station, mask).map(number),
             Request::Close { handle } => self.close(station, handle).map(nothing),
             Request::Create { user, session, integrity, present, default, groups } => self
-                .create(station, (user, session, integrity), (present, default), &groups)
+                .create(
+                    station,
+                    self.sids.clone(),
+                    (user, session, integrity),
+                    (present, default),
+                    &groups,
+                )
                 .map(number),
             Request::Query { handle, class, capacity } => {
                 self.query(station, handle, class, capacity)
@@ -40,11 +46,19 @@ impl Model {
                 self.duplicate(station, handle, kind, level, mask).map(number)
             }
             Request::Restrict { handle, write_restricted, remove, deny, sids } => {
-                self.restrict(station, handle, write_restricted, remove, &deny, &sids).map(number)
+                let (table, less) = (self.sids.clone(), (write_restricted, remove));
+                self.restrict(station, table, handle, less, &deny, &sids).map(number)
             }
             Request::Install { handle } => self.install(station, handle).map(nothing),
             Request::Impersonate { handle } => self.impersonate(station, handle).map(level),
             Request::Revert => Ok(given_up(self.revert(station))),
+            Request::CreatePacked { user, session, integrity, present, default, groups } => self
+                .create_packed(station, (user, session, integrity), (present, default), &groups)
+                .map(number),
+            Request::RestrictPacked { handle, write_restricted, remove, deny, sids } => {
+                let less = (write_restricted, remove);
+                self.restrict_packed(station, handle, less, &deny, &sids).map(number)
+            }
             Request::Link { elevated, filtered, session } => {
                 self.link(station, elevated, filtered, session).map(nothing)
             }

@@ -1,7 +1,8 @@
-//! What the model keeps: tokens, handles, stations, linked pairs and the next numbers.
+//! What the model keeps: tokens, handles, stations, linked pairs, SIDs and the next numbers.
 
 use crate::refusal::Refusal;
 use crate::rights::Mask;
+use crate::sid_table::SidTable;
 use crate::token::{Level, Token};
 
 /// How many stations there are.
@@ -80,6 +81,8 @@ pub struct Model {
     pub stations: [Station; STATIONS],
     /// Places for pairs.
     pub pairs: [Option<Pair>; PAIRS],
+    /// The SIDs that have numbers.
+    pub sids: SidTable,
     /// The next token number.
     pub next_token: u64,
     /// The next handle number.
@@ -87,7 +90,7 @@ pub struct Model {
 }
 
 impl Model {
-    /// The start: every station has token 1, and there are no handles.
+    /// The start: every station has token 1, there are no handles, and 7 and 18 are the only SIDs.
     pub fn start() -> Self {
         let mut tokens = [const { None }; TOKENS];
         tokens[0] = Some(Token::first());
@@ -96,6 +99,7 @@ impl Model {
             handles: [None; HANDLES],
             stations: std::array::from_fn(|_| Station { token: 1, ..Station::default() }),
             pairs: [None; PAIRS],
+            sids: SidTable::default(),
             next_token: 2,
             next_handle: 1,
         }

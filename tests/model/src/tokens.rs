@@ -1,4 +1,5 @@
-//! Requests that make, copy, install or let go of tokens: 1, 2, 3, 9, 10 and 11.
+//! Requests that make, copy, install or let go of tokens: 1, 2, 3, 9, 10 and 11; of 14 and 15 what
+//! they have in common with 3 and 10.
 
 use std::collections::HashSet;
 use std::hash::Hash;
@@ -6,6 +7,7 @@ use std::hash::Hash;
 use crate::privileges::{Privileges, ALL_PRIVILEGES, ASSIGN_PRIMARY, CREATE_TOKEN, TCB};
 use crate::refusal::Refusal;
 use crate::rights::Mask;
+use crate::sid_table::SidTable;
 use crate::state::Model;
 use crate::token::{
     Elevation, Group, Level, Token, TokenType, ANONYMOUS_SID, INTEGRITY_LEVELS, MAX_GROUPS,
@@ -31,10 +33,12 @@ impl Model {
         Ok(())
     }
 
-    /// 3: a new primary token and a handle with all rights.
+    /// 3: a new primary token and a handle with all rights. Its SIDs are numbers in the given table,
+    /// which becomes the model's.
     pub(crate) fn create(
         &mut self,
         station: usize,
+        table: SidTable,
         (user, session, integrity): (u32, u64, u32),
         (present, default): (u64, u64),
         groups: &[(u32, u32)],
@@ -44,17 +48,21 @@ impl Model {
             INTEGRITY_LEVELS.contains(&integrity)
                 && default & !present == 0
                 && present & !ALL_PRIVILEGES == 0
-                && groups.len() <= MAX_GROUPS,
+                && groups.len() <= MAX_GROUPS
+                && table.has(user)
+                && groups.iter().all(|&(sid, _)| table.has(sid)),
         )?;
         let groups = groups
             .iter()
             .map(|&(sid, attributes)| new_group(Group { sid, attributes }, user))
             .collect::<Result<_, _>>()?;
+        Refusal::Full.unless(table.fits())?;
         let privileges = Privileges::new(present, default);
         let bare = Token::bare(self.next_token, user, session);
         let token = Token { privileges, groups, integrity, ..bare };
         let handle = self.add_token(station, token, Mask::ALL.0)?;
         self.mark_used(station, CREATE_TOKEN);
+        self.sids = table;
         Ok(handle)
     }
 
@@ -83,13 +91,14 @@ impl Model {
         self.add_token(station, copy, mask)
     }
 
-    /// 10: a copy with less; a second restriction never widens.
+    /// 10: a copy with less; a second restriction never widens. The SIDs are numbers in the given
+    /// table, which becomes the model's.
     pub(crate) fn restrict(
         &mut self,
         station: usize,
+        table: SidTable,
         handle: u32,
-        write_restricted: u32,
-        remove: u64,
+        (write_restricted, remove): (u32, u64),
         deny: &[u32],
         sids: &[u32],
     ) -> Result<u32, Refusal> {
@@ -100,11 +109,15 @@ impl Model {
                 && remove & !ALL_PRIVILEGES == 0
                 && deny.iter().all(|&index| (index as usize) < source.groups.len())
                 && all_distinct(deny)
-                && (write_restricted == 0 || may_be_write_restricted(source)),
+                && (write_restricted == 0 || may_be_write_restricted(source))
+                && sids.iter().all(|&sid| table.has(sid)),
         )?;
         let restricting = restricting_of_copy(source, sids)?;
+        Refusal::Full.unless(table.fits())?;
         let copy = restricted_copy(source, write_restricted == 1, remove, deny, restricting);
-        self.add_token(station, copy, handle.mask)
+        let made = self.add_token(station, copy, handle.mask)?;
+        self.sids = table;
+        Ok(made)
     }
 
     /// 11: the handle's token becomes the station's primary token.

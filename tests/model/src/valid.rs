@@ -15,6 +15,10 @@ use crate::state::STATIONS;
 use crate::token::{
     Elevation, Group, Level, TokenType, INTEGRITY_LEVELS, MAX_DACL, MAX_GROUPS, MAX_RESTRICTING,
 };
+use crate::valid_sids::{
+    first_sids_are_the_starts, places_are_in_the_rows_order, rows_are_sids, sid_count_is_in_range,
+    sids_are_different, tokens_keep_numbers_in_the_table,
+};
 
 /// A rule's name and its check; all but the first are for memory of the right size.
 pub type Rule = (&'static str, fn(&Memory) -> bool);
@@ -44,6 +48,12 @@ pub const RULES: &[Rule] = &[
     ("paired elevations", paired_tokens_are_full_and_limited),
     ("paired users", paired_tokens_are_of_one_user),
     ("paired sessions", paired_tokens_are_of_the_pairs_session),
+    ("SID count", sid_count_is_in_range),
+    ("first SIDs", first_sids_are_the_starts),
+    ("SIDs", rows_are_sids),
+    ("different SIDs", sids_are_different),
+    ("SID places", places_are_in_the_rows_order),
+    ("token SIDs", tokens_keep_numbers_in_the_table),
 ];
 
 impl Memory {
@@ -65,7 +75,7 @@ impl Memory {
         size_is_right(self)
     }
 
-    fn live_tokens(&self) -> impl Iterator<Item = TokenRow<'_>> {
+    pub(crate) fn live_tokens(&self) -> impl Iterator<Item = TokenRow<'_>> {
         self.token_rows().filter(|row| row.number() != 0)
     }
 
@@ -165,6 +175,8 @@ fn free_slots_are_zero(memory: &Memory) -> bool {
         && memory.handles.iter().all(|handle| handle.number != 0 || all_zero(&handle.bytes()))
         && memory.station_rows().all(|row| all_zero(row.past_pending()))
         && memory.pair_rows().all(|row| !row.is_free() || all_zero(row.0))
+        && all_zero(memory.table_words().places().1)
+        && all_zero(memory.table_words().rows().1)
 }
 
 fn all_zero<T: Default + PartialEq>(items: &[T]) -> bool {
@@ -182,8 +194,7 @@ fn values_are_in_range(memory: &Memory) -> bool {
 
 fn token_is_in_range(row: &TokenRow) -> bool {
     let is_u32 = |word: u64| word <= u32::MAX.into();
-    is_u32(row.user())
-        && is_u32(row.scope())
+    is_u32(row.scope())
         && TokenType::from_number(row.kind()).is_some()
         && Level::from_number(row.level()).is_some()
         && Elevation::from_number(row.elevation()).is_some()
@@ -191,7 +202,6 @@ fn token_is_in_range(row: &TokenRow) -> bool {
         && INTEGRITY_LEVELS.iter().any(|&integrity| row.integrity() == integrity.into())
         && row.group_count() <= MAX_GROUPS as u64
         && row.restricting_count() <= MAX_RESTRICTING as u64
-        && row.restricting_words().0.iter().all(|&sid| is_u32(sid))
         && row.dacl_length() <= MAX_DACL as u64
 }
 

@@ -2,7 +2,11 @@
 //! valgrind is there, instructions. `numbers [ROUNDS [ROW]]`; of each stretch the quickest round
 //! counts. ROW is a part of the rows' names.
 
+#[path = "../../bench/src/condition_work.rs"]
+mod condition_work;
 mod library;
+#[path = "../../bench/src/sid_work.rs"]
+mod sid_work;
 #[path = "../../bench/src/work.rs"]
 #[allow(dead_code)]
 mod work;

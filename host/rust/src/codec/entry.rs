@@ -1,6 +1,8 @@
 //! The entries of requests 5 and 6.
 
-use super::list::{sealed::Numbers, Item};
+use super::error::ReadError;
+use super::list::{sealed::Fields, Item};
+use super::reader::Reader;
 use crate::number;
 
 /// An entry of request 5: a privilege, and what is asked for.
@@ -40,9 +42,9 @@ impl PrivilegeEntry {
 
 impl Item for PrivilegeEntry {}
 
-impl Numbers for PrivilegeEntry {
-    fn read<E>(mut next: impl FnMut() -> Result<u32, E>) -> Result<Self, E> {
-        Ok(PrivilegeEntry { privilege: next()?, attributes: next()? })
+impl Fields for PrivilegeEntry {
+    fn read(reader: &mut Reader, expected: &'static str) -> Result<Self, ReadError> {
+        Ok(PrivilegeEntry { privilege: reader.u32(expected)?, attributes: reader.u32(expected)? })
     }
 
     fn write(self, out: &mut impl Extend<u8>) {
@@ -77,9 +79,9 @@ impl GroupEntry {
 
 impl Item for GroupEntry {}
 
-impl Numbers for GroupEntry {
-    fn read<E>(mut next: impl FnMut() -> Result<u32, E>) -> Result<Self, E> {
-        Ok(GroupEntry { index: next()?, enable: next()? })
+impl Fields for GroupEntry {
+    fn read(reader: &mut Reader, expected: &'static str) -> Result<Self, ReadError> {
+        Ok(GroupEntry { index: reader.u32(expected)?, enable: reader.u32(expected)? })
     }
 
     fn write(self, out: &mut impl Extend<u8>) {

@@ -13,8 +13,9 @@ use crate::limits::{MAX_BODY, MAX_DEPTH};
 /// assert_eq!(cut_short.to_string(), "byte 3: expected a count of entries");
 /// ```
 #[derive(Clone, Copy, Debug, PartialEq, Eq)]
+#[non_exhaustive]
 pub struct ReadError {
-    /// The byte of the frame, counted from 0, at which something else was expected.
+    /// The byte of the frame or of a SID's text, counted from 0, at which something else was expected.
     pub place: usize,
     /// What was expected there.
     pub expected: &'static str,
@@ -31,6 +32,7 @@ impl std::error::Error for ReadError {}
 
 /// Why a request is not written.
 #[derive(Clone, Copy, Debug, PartialEq, Eq)]
+#[non_exhaustive]
 pub enum WriteError {
     /// The buffer is too short; nothing was written.
     Buffer {

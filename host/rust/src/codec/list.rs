@@ -2,22 +2,27 @@
 
 use core::fmt;
 
+use super::error::ReadError;
+use super::reader::Reader;
 use crate::number;
 use crate::terms::Group;
 
 /// What lists have for items.
 pub(super) mod sealed {
-    pub trait Numbers: Copy {
-        /// Takes its numbers one by one.
-        fn read<E>(next: impl FnMut() -> Result<u32, E>) -> Result<Self, E>;
+    use super::{ReadError, Reader};
 
-        /// Writes its numbers.
+    pub trait Fields: Copy {
+        /// Takes its fields; where a number is not there, this was expected.
+        fn read(reader: &mut Reader, expected: &'static str) -> Result<Self, ReadError>;
+
+        /// Writes its fields.
         fn write(self, out: &mut impl Extend<u8>);
     }
 }
 
-/// An item of a [`List`]: a [`Group`], an entry of request 5 or 6, a SID or an index.
-pub trait Item: sealed::Numbers {}
+/// An item of a [`List`]: a [`Group`], an entry of request 5 or 6, the number of a SID or an index;
+/// in requests 14 and 15 a [`SidGroup`](super::SidGroup) or a [`Sid`](super::Sid).
+pub trait Item: sealed::Fields {}
 
 /// A list of a request or an answer: values that are lent, or those of a frame that was read.
 ///
@@ -94,7 +99,10 @@ impl<T: Item> Iterator for Items<'_, T> {
             }
             Form::Read { count, bytes } => {
                 *count = count.checked_sub(1)?;
-                T::read(|| next_number(bytes).ok_or(())).ok()
+                let mut reader = Reader::new(bytes);
+                let item = T::read(&mut reader, "what was read before").ok()?;
+                *bytes = reader.rest();
+                Some(item)
             }
         }
     }
@@ -105,13 +113,6 @@ impl<T: Item> Iterator for Items<'_, T> {
 }
 
 impl<T: Item> ExactSizeIterator for Items<'_, T> {}
-
-/// Takes the first number of bytes that were read before.
-fn next_number(bytes: &mut &[u8]) -> Option<u32> {
-    let (number, rest) = number::read(bytes)?;
-    *bytes = rest;
-    number.try_into().ok()
-}
 
 impl<'a, T: Item> IntoIterator for List<'a, T> {
     type Item = T;
@@ -150,9 +151,9 @@ impl<T: Item + fmt::Debug> fmt::Debug for List<'_, T> {
 
 impl Item for u32 {}
 
-impl sealed::Numbers for u32 {
-    fn read<E>(mut next: impl FnMut() -> Result<u32, E>) -> Result<Self, E> {
-        next()
+impl sealed::Fields for u32 {
+    fn read(reader: &mut Reader, expected: &'static str) -> Result<Self, ReadError> {
+        reader.u32(expected)
     }
 
     fn write(self, out: &mut impl Extend<u8>) {
@@ -162,9 +163,9 @@ impl sealed::Numbers for u32 {
 
 impl Item for Group {}
 
-impl sealed::Numbers for Group {
-    fn read<E>(mut next: impl FnMut() -> Result<u32, E>) -> Result<Self, E> {
-        Ok(Group { sid: next()?, attributes: next()? })
+impl sealed::Fields for Group {
+    fn read(reader: &mut Reader, expected: &'static str) -> Result<Self, ReadError> {
+        Ok(Group { sid: reader.u32(expected)?, attributes: reader.u32(expected)? })
     }
 
     fn write(self, out: &mut impl Extend<u8>) {

@@ -44,6 +44,7 @@ mod reply;
 mod report;
 mod request;
 mod request_read;
+mod sid;
 mod writer;
 
 pub use condition::ConditionRef;
@@ -54,3 +55,4 @@ pub use list::{Item, Items, List};
 pub use reply::Reply;
 pub use report::{Class, Report, Statistics};
 pub use request::{Request, KEEP};
+pub use sid::{Sid, SidGroup};

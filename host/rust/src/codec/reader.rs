@@ -5,7 +5,7 @@ use super::list::{Item, List};
 use crate::number;
 
 /// A frame and the place of its first byte that is not read yet.
-pub(crate) struct Reader<'a> {
+pub struct Reader<'a> {
     bytes: &'a [u8],
     place: usize,
 }
@@ -78,7 +78,7 @@ impl<'a> Reader<'a> {
     ) -> Result<List<'a, T>, ReadError> {
         let start = self.place;
         for _ in 0..count {
-            T::read(|| self.u32(expected))?;
+            T::read(self, expected)?;
         }
         Ok(List::of_bytes(count, &self.bytes[start..self.place]))
     }

@@ -34,7 +34,7 @@ pub enum Reply<'a> {
     },
     /// Requests 2, 7, 8, 11 and 16 have nothing to say but that they were done.
     Done,
-    /// Requests 1, 3, 9, 10 and 17: the number of the new handle.
+    /// Requests 1, 3, 9, 10, 14, 15 and 17: the number of the new handle.
     Handle(u32),
     /// Request 4.
     Report(Report<'a>),
@@ -114,6 +114,8 @@ fn success<'a>(
         | Request::Create { .. }
         | Request::Duplicate { .. }
         | Request::Restrict { .. }
+        | Request::CreateWithSids { .. }
+        | Request::RestrictToSids { .. }
         | Request::GetLinked { .. } => body.u32("a handle").map(Reply::Handle),
         Request::Privileges { .. } => privileges(body).map(Reply::Privileges),
         Request::Groups { .. } => groups(body).map(Reply::Groups),

@@ -5,10 +5,13 @@ use super::list::List;
 use super::reader::Reader;
 use crate::limits::{MAX_DACL, MAX_GROUPS, MAX_RESTRICTING};
 use crate::terms::{Elevation, Group, Level, Privileges, TokenType};
+#[cfg(feature = "std")]
+use crate::view::Token;
 
 /// A class of request 4.
 #[derive(Clone, Copy, Debug, PartialEq, Eq, Hash)]
 #[allow(missing_docs)] // those of their reports
+#[non_exhaustive]
 pub enum Class {
     User = 1,
     Groups = 2,
@@ -58,15 +61,15 @@ impl Class {
 #[derive(Clone, Copy, Debug, PartialEq, Eq)]
 #[non_exhaustive]
 pub enum Report<'a> {
-    /// The user's SID.
+    /// The number of the user's SID.
     User(u32),
     /// The groups.
     Groups(List<'a, Group>),
     /// The privilege words.
     Privileges(Privileges),
-    /// The SID of the default owner.
+    /// The number of the default owner's SID.
     Owner(u32),
-    /// The SID of the primary group.
+    /// The number of the primary group's SID.
     PrimaryGroup(u32),
     /// The default DACL.
     Dacl(&'a [u8]),
@@ -76,7 +79,7 @@ pub enum Report<'a> {
     Level(Level),
     /// Its number and others that change or stay with it.
     Statistics(Statistics),
-    /// The restricting SIDs.
+    /// The numbers of the restricting SIDs.
     Restricting(List<'a, u32>),
     /// The interactivity scope.
     Scope(u32),
@@ -88,6 +91,7 @@ pub enum Report<'a> {
 
 /// The report of class 9.
 #[derive(Clone, Copy, Debug, PartialEq, Eq)]
+#[non_exhaustive]
 pub struct Statistics {
     /// The token's number.
     pub number: u64,
@@ -99,6 +103,14 @@ pub struct Statistics {
     pub token_type: TokenType,
     /// The number of the token that it descends from, or [`NO_ROOT`](crate::NO_ROOT).
     pub root: u64,
+}
+
+#[cfg(feature = "std")]
+impl From<&Token> for Statistics {
+    fn from(token: &Token) -> Self {
+        let &Token { number, session, modified, token_type, root, .. } = token;
+        Statistics { number, session, modified, token_type, root }
+    }
 }
 
 /// The report of this class that comes next.

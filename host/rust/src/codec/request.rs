@@ -7,6 +7,7 @@ use super::condition::ConditionRef;
 use super::entry::{GroupEntry, PrivilegeEntry};
 use super::error::WriteError;
 use super::list::List;
+use super::sid::{Sid, SidGroup};
 use super::writer::{put, Writer};
 use crate::limits::MAX_BODY;
 use crate::terms::Group;
@@ -43,7 +44,7 @@ pub enum Request<'a> {
     },
     /// Request 3 makes a token.
     Create {
-        /// The user's SID.
+        /// The number of the user's SID, which is in the table, as those of the groups are.
         user: u32,
         /// The session.
         session: u64,
@@ -120,7 +121,7 @@ pub enum Request<'a> {
         removed: u64,
         /// The indexes of the groups that become deny-only.
         deny: List<'a, u32>,
-        /// The restricting SIDs.
+        /// The numbers of the restricting SIDs, which are in the table.
         sids: List<'a, u32>,
     },
     /// Request 11 makes a token the station's own.
@@ -135,6 +136,36 @@ pub enum Request<'a> {
     },
     /// Request 13 acts for none any more.
     Revert,
+    /// Request 14 makes a token, as [`Create`](Request::Create) does, by SIDs themselves: those that
+    /// are not in the table yet are entered.
+    CreateWithSids {
+        /// The user.
+        user: Sid,
+        /// The session.
+        session: u64,
+        /// See [`names::INTEGRITY`](crate::names::INTEGRITY).
+        integrity: u32,
+        /// The privileges that it has; privilege n is bit n.
+        present: u64,
+        /// Those of them that are enabled.
+        default: u64,
+        /// Its groups.
+        groups: List<'a, SidGroup>,
+    },
+    /// Request 15 makes a weaker copy, as [`Restrict`](Request::Restrict) does, by SIDs themselves:
+    /// those that are not in the table yet are entered.
+    RestrictToSids {
+        /// With right DUPLICATE.
+        handle: u32,
+        /// 1 sets the marks, 0 leaves them.
+        write_restricted: u32,
+        /// The privileges that the copy does not get.
+        removed: u64,
+        /// The indexes of the groups that become deny-only.
+        deny: List<'a, u32>,
+        /// The restricting SIDs.
+        sids: List<'a, Sid>,
+    },
     /// Request 16 links two tokens.
     Link {
         /// The handle of the one that becomes full.
@@ -159,7 +190,7 @@ pub enum Request<'a> {
 }
 
 impl Request<'_> {
-    /// Its number, 1 to 13 or 16 to 18.
+    /// Its number, 1 to 18.
     pub fn number(&self) -> u32 {
         match self {
             Request::OpenOwn { .. } => 1,
@@ -175,6 +206,8 @@ impl Request<'_> {
             Request::Install { .. } => 11,
             Request::Impersonate { .. } => 12,
             Request::Revert => 13,
+            Request::CreateWithSids { .. } => 14,
+            Request::RestrictToSids { .. } => 15,
             Request::Link { .. } => 16,
             Request::GetLinked { .. } => 17,
             Request::Evaluate { .. } => 18,
@@ -263,6 +296,12 @@ impl Request<'_> {
                 put(&[groups.len() as u64], out);
                 groups.write(out);
             }
+            Request::CreateWithSids { user, session, integrity, present, default, groups } => {
+                out.extend(user.packed().iter().copied());
+                put(&[session, integrity.into(), present, default], out);
+                put(&[groups.len() as u64], out);
+                groups.write(out);
+            }
             Request::Privileges { handle, entries } => {
                 put(&[handle.into(), entries.len() as u64], out);
                 entries.write(out);
@@ -277,6 +316,12 @@ impl Request<'_> {
                 out.extend(dacl.iter().copied());
             }
             Request::Restrict { handle, write_restricted, removed, deny, sids } => {
+                put(&[handle.into(), write_restricted.into(), removed], out);
+                put(&[deny.len() as u64, sids.len() as u64], out);
+                deny.write(out);
+                sids.write(out);
+            }
+            Request::RestrictToSids { handle, write_restricted, removed, deny, sids } => {
                 put(&[handle.into(), write_restricted.into(), removed], out);
                 put(&[deny.len() as u64, sids.len() as u64], out);
                 deny.write(out);

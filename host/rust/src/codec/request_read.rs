@@ -6,6 +6,7 @@ use super::frame;
 use super::list::{Item, List};
 use super::reader::Reader;
 use super::request::Request;
+use super::sid::Sid;
 use crate::limits::MAX_BODY;
 
 /// A count's only limit is what the bytes hold.
@@ -43,6 +44,8 @@ fn read_body<'a>(body: &mut Reader<'a>) -> Result<Request<'a>, ReadError> {
         11 => Ok(Request::Install { handle: handle(body)? }),
         12 => Ok(Request::Impersonate { handle: handle(body)? }),
         13 => Ok(Request::Revert),
+        14 => create_with_sids(body),
+        15 => restrict_to_sids(body),
         16 => link(body),
         17 => Ok(Request::GetLinked { handle: handle(body)? }),
         18 => Ok(Request::Evaluate { handle: handle(body)?, condition: ConditionRef::take(body)? }),
@@ -111,6 +114,35 @@ fn restrict<'a>(body: &mut Reader<'a>) -> Result<Request<'a>, ReadError> {
     let deny = body.count(ANY, "a count of indexes")?;
     let sids = body.count(ANY, "a count of SIDs")?;
     Ok(Request::Restrict {
+        handle,
+        write_restricted,
+        removed,
+        deny: body.list(deny, "an index")?,
+        sids: body.list(sids, "a SID")?,
+    })
+}
+
+fn create_with_sids<'a>(body: &mut Reader<'a>) -> Result<Request<'a>, ReadError> {
+    Ok(Request::CreateWithSids {
+        user: Sid::take(body)?,
+        session: body.u64("a session")?,
+        integrity: body.u32("an integrity")?,
+        present: body.u64("the present privileges")?,
+        default: body.u64("the default privileges")?,
+        groups: {
+            let count = body.count(ANY, "a count of groups")?;
+            body.list(count, "a group")?
+        },
+    })
+}
+
+fn restrict_to_sids<'a>(body: &mut Reader<'a>) -> Result<Request<'a>, ReadError> {
+    let handle = handle(body)?;
+    let write_restricted = body.u32("a write-restricted mark")?;
+    let removed = body.u64("the removed privileges")?;
+    let deny = body.count(ANY, "a count of indexes")?;
+    let sids = body.count(ANY, "a count of SIDs")?;
+    Ok(Request::RestrictToSids {
         handle,
         write_restricted,
         removed,

@@ -1,4 +1,4 @@
-//! Requests 3, 9 and 10: new tokens, made in the free slot.
+//! Requests 3, 9 and 10, 14 and 15: new tokens, made in the free slot.
 
 use super::groups::{attribute, in_word, is_fixed, Set, WORD_GROUPS};
 use super::layout::{
@@ -10,21 +10,45 @@ use super::memory::{Memory, Row};
 use super::reader::{refuse, Body, Reader};
 use super::records::is_mask;
 use super::requests::Served;
+use super::table::Numbers;
 
 impl Memory<'_> {
-    pub fn create(&mut self, station: usize, reader: &mut Reader, out: &mut Body) -> Served {
-        let (user, session, integrity) = (reader.u32(), reader.u64(), u64::from(reader.u32()));
+    /// With SIDs packed or by number; what was entered goes again if it is refused.
+    pub fn create<const PACKED: bool>(
+        &mut self,
+        station: usize,
+        reader: &mut Reader,
+        out: &mut Body,
+    ) -> Served {
+        let count = *self.sids.count;
+        let served = self.create_token::<PACKED>(station, reader, out);
+        if PACKED && served.is_err() {
+            self.sids.forget(count);
+        }
+        served
+    }
+
+    fn create_token<const PACKED: bool>(
+        &mut self,
+        station: usize,
+        reader: &mut Reader,
+        out: &mut Body,
+    ) -> Served {
+        let user = self.sids.read::<PACKED>(reader);
+        let (mut known, mut room) = (user.known, user.room);
+        let (session, integrity) = (reader.u64(), u64::from(reader.u32()));
         let (present, default, count) = (reader.u64(), reader.u64(), reader.u32());
         let (mut groups, mut at, mut bad) = ([0; MAX_GROUPS], 0, count as usize > MAX_GROUPS);
         reader.each(count, |reader| {
-            let (sid, attributes) = (reader.u32(), reader.u32());
-            let group = u64::from(sid) | in_word(attributes);
+            let (sid, attributes) = (self.sids.read::<PACKED>(reader), reader.u32());
+            (known, room) = (known & sid.known, room & sid.room);
+            let group = u64::from(sid.number) | in_word(attributes);
             let by_default = attribute(group, ENABLED_BY_DEFAULT);
             let logon = attributes & LOGON_ID;
             bad |= attributes & !GIVEN != 0
                 || logon != 0 && logon != LOGON_ID
                 || by_default && attribute(group, DENY_ONLY)
-                || !by_default && is_fixed(group, user.into());
+                || !by_default && (is_fixed(group) || sid.is::<PACKED>(&user));
             if let Some(place) = groups.get_mut(at) {
                 *place = group | (u64::from(by_default) * in_word(ENABLED));
             }
@@ -34,15 +58,17 @@ impl Memory<'_> {
         let own = self.held(station, CREATE_TOKEN)?;
         refuse(
             5,
-            !bad && integrity % INTEGRITY_STEP == 0
+            !bad && known
+                && integrity % INTEGRITY_STEP == 0
                 && integrity <= MAX_INTEGRITY
                 && default & !present == 0
                 && present & !ALL_PRIVILEGES == 0,
         )?;
+        refuse(8, room)?;
         let (slot, place) = (self.free_token()?, self.free_handle()?);
         let row = &mut self.tokens[slot];
         row[word::SESSION] = session;
-        row[word::USER] = user.into();
+        row[word::USER] = user.number.into();
         row[word::TYPE] = PRIMARY;
         row[word::ELEVATION] = DEFAULT_ELEVATION;
         row[word::INTEGRITY] = integrity;
@@ -95,17 +121,39 @@ impl Memory<'_> {
         Ok(())
     }
 
-    pub fn restrict(&mut self, station: usize, reader: &mut Reader, out: &mut Body) -> Served {
+    /// The same as [`Memory::create`] with the SIDs.
+    pub fn restrict<const PACKED: bool>(
+        &mut self,
+        station: usize,
+        reader: &mut Reader,
+        out: &mut Body,
+    ) -> Served {
+        let count = *self.sids.count;
+        let served = self.restrict_token::<PACKED>(station, reader, out);
+        if PACKED && served.is_err() {
+            self.sids.forget(count);
+        }
+        served
+    }
+
+    fn restrict_token<const PACKED: bool>(
+        &mut self,
+        station: usize,
+        reader: &mut Reader,
+        out: &mut Body,
+    ) -> Served {
         let (handle, write, remove) = (reader.u32(), reader.u32(), reader.u64());
         let (denies, count) = (reader.u32(), reader.u32());
         let (mut deny, mut sids, mut at) = (Set::default(), [0; MAX_RESTRICTING], 0);
         let mut bad = write > 1 || remove & !ALL_PRIVILEGES != 0;
         reader.each(denies, |reader| bad |= !deny.add(reader.u32()));
-        let given = reader.clone();
+        let (mut known, mut room, mut given) = (true, true, Numbers::default());
         reader.each(count, |reader| {
-            let sid = reader.u32();
+            let sid = self.sids.read::<PACKED>(reader);
+            (known, room) = (known & sid.known, room & sid.room);
+            given.add(sid.number);
             if let Some(place) = sids.get_mut(at) {
-                *place = u64::from(sid);
+                *place = u64::from(sid.number);
             }
             at += 1;
         });
@@ -115,13 +163,14 @@ impl Memory<'_> {
         let [groups, had] =
             [word::GROUP_COUNT, word::RESTRICTING_COUNT].map(|word| row[word] as usize);
         bad |= write == 1 && had > 0 && row[word::WRITE_RESTRICTED] == 0;
-        refuse(5, !bad && deny.is_below(groups))?;
+        refuse(5, !bad && known && deny.is_below(groups))?;
         if had == 0 {
             refuse(8, at <= MAX_RESTRICTING)?;
         } else {
-            (sids, at) = narrowed(&row[word::RESTRICTING..][..had], given, count);
+            (sids, at) = narrowed(&row[word::RESTRICTING..][..had], &given, count == 0);
             refuse(5, at > 0)?;
         }
+        refuse(8, room)?;
         let (slot, place) = (self.free_token()?, self.free_handle()?);
         self.copy(source, slot);
         let row = &mut self.tokens[slot];
@@ -141,17 +190,10 @@ impl Memory<'_> {
 }
 
 /// Those of a restricted token's SIDs that are also given, all if none is, and how many they are.
-fn narrowed(own: &[u64], mut given: Reader, count: u32) -> ([u64; MAX_RESTRICTING], usize) {
-    let mut keep = if count == 0 { u64::MAX } else { 0 };
-    given.each(count, |given| {
-        let sid = u64::from(given.u32());
-        for (at, &own) in own.iter().enumerate() {
-            keep |= u64::from(own == sid) << at;
-        }
-    });
+fn narrowed(own: &[u64], given: &Numbers, is_none: bool) -> ([u64; MAX_RESTRICTING], usize) {
     let (mut sids, mut kept) = ([0; MAX_RESTRICTING], 0);
-    for (at, &sid) in own.iter().enumerate() {
-        if keep >> at & 1 == 1 {
+    for &sid in own {
+        if is_none || given.has(sid) {
             sids[kept] = sid;
             kept += 1;
         }

@@ -19,10 +19,9 @@ pub fn attribute(group: u64, attributes: u32) -> bool {
     (group >> ATTRIBUTES) as u32 & attributes != 0
 }
 
-/// Whether a new group of a token of this user must be enabled by default: mandatory, logon, the
-/// user's SID.
-pub fn is_fixed(group: u64, user: u64) -> bool {
-    attribute(group, MANDATORY | LOGON_ID) || group as u32 == user as u32
+/// Whether a new group must be enabled by default whatever its SID: mandatory, logon.
+pub fn is_fixed(group: u64) -> bool {
+    attribute(group, MANDATORY | LOGON_ID)
 }
 
 /// A set of groups: group i at bit i % 64 of word i / 64.

@@ -9,6 +9,14 @@ pub const HANDLES: usize = 32;
 /// Places for linked pairs.
 pub const PAIRS: usize = 4;
 
+/// SIDs in the table, and those that are always there: the numbers 7 and 18.
+pub const SIDS: usize = 256;
+pub const FIRST_SIDS: usize = 2;
+/// The number of the first SID after these.
+pub const FIRST_ENTERED: u32 = 32;
+/// One past the highest number.
+pub const NUMBERS: usize = FIRST_ENTERED as usize + SIDS - FIRST_SIDS;
+
 /// Most groups, restricting SIDs and DACL bytes of a token.
 pub const MAX_GROUPS: usize = 64;
 pub const MAX_RESTRICTING: usize = 16;
@@ -77,6 +85,17 @@ pub mod pair_word {
     pub const FILTERED: usize = 2;
 }
 pub const PAIR_ROW: usize = pair_word::FILTERED + 1;
+
+/// Words of a SID's row, the packed SID; most sub-authorities.
+pub const SID_ROW: usize = 9;
+pub const MAX_SUB_AUTHORITIES: u8 = 15;
+/// The rows of 7 and 18: S-1-5-7 and S-1-5-18.
+pub const FIRST_ROWS: [[u64; SID_ROW]; FIRST_SIDS] =
+    [first_row(ANONYMOUS_SID), first_row(SYSTEM_SID)];
+
+const fn first_row(sub_authority: u64) -> [u64; SID_ROW] {
+    [0x0500_0000_0000_0101, sub_authority, 0, 0, 0, 0, 0, 0, 0]
+}
 
 /// Bytes of a token's DACL and of a station's pending bytes.
 pub const DACL_ROW: usize = MAX_DACL;

@@ -1,9 +1,9 @@
 //! The lent parts, and the same parts as tables once their sizes are known to be right.
 
 use super::layout::{
-    station_word, word, ALL_PRIVILEGES, DACL_ROW, DEFAULT_ELEVATION, HANDLES, MAX_INTEGRITY,
-    NEXT_HANDLE, NEXT_NUMBERS, NEXT_TOKEN, PAIRS, PAIR_ROW, PENDING_ROW, PRIMARY, STATIONS,
-    STATION_ROW, SYSTEM_SID, TOKENS, TOKEN_ROW,
+    station_word, word, ALL_PRIVILEGES, DACL_ROW, DEFAULT_ELEVATION, FIRST_ROWS, FIRST_SIDS,
+    HANDLES, MAX_INTEGRITY, NEXT_HANDLE, NEXT_NUMBERS, NEXT_TOKEN, PAIRS, PAIR_ROW, PENDING_ROW,
+    PRIMARY, SIDS, SID_ROW, STATIONS, STATION_ROW, SYSTEM_SID, TOKENS, TOKEN_ROW,
 };
 
 /// A handle's record; a free one is all zero.
@@ -25,7 +25,7 @@ pub struct Parts {
     pub dacls: Vec<u8>,
     /// Handle records.
     pub handles: Vec<Handle>,
-    /// Control words: next numbers, stations and pairs.
+    /// Control words: next numbers, stations, pairs and SIDs.
     pub control: Vec<u64>,
     /// Pending bytes.
     pub pending: Vec<u8>,
@@ -54,6 +54,16 @@ impl Station {
 }
 
 pub type Row = [u64; TOKEN_ROW];
+pub type SidRow = [u64; SID_ROW];
+
+/// The SID table.
+pub struct Table<'a> {
+    pub count: &'a mut u64,
+    /// The rows' places, by rising rows.
+    pub places: &'a mut [u64; SIDS],
+    /// By number.
+    pub rows: &'a mut [SidRow; SIDS],
+}
 
 /// The parts as tables.
 pub struct Memory<'a> {
@@ -63,6 +73,7 @@ pub struct Memory<'a> {
     pub next: &'a mut [u64; NEXT_NUMBERS],
     pub stations: &'a mut [[u64; STATION_ROW]; STATIONS],
     pub pairs: &'a mut [[u64; PAIR_ROW]; PAIRS],
+    pub sids: Table<'a>,
     pub pending: &'a mut [[u8; PENDING_ROW]; STATIONS],
 }
 
@@ -70,7 +81,10 @@ impl Parts {
     /// The tables, when each part has its size.
     pub fn view(&mut self) -> Option<Memory<'_>> {
         let (next, rows) = self.control.split_first_chunk_mut()?;
-        let (stations, pairs) = rows.split_at_mut_checked(STATIONS * STATION_ROW)?;
+        let (stations, rows) = rows.split_at_mut_checked(STATIONS * STATION_ROW)?;
+        let (pairs, rows) = rows.split_at_mut_checked(PAIRS * PAIR_ROW)?;
+        let (count, rows) = rows.split_first_mut()?;
+        let (places, rows) = rows.split_first_chunk_mut()?;
         Some(Memory {
             tokens: table(&mut self.tokens)?,
             dacls: table(&mut self.dacls)?,
@@ -78,6 +92,7 @@ impl Parts {
             next,
             stations: table(stations)?,
             pairs: table(pairs)?,
+            sids: Table { count, places, rows: table(rows)? },
             pending: table(&mut self.pending)?,
         })
     }
@@ -118,6 +133,11 @@ impl Memory<'_> {
         *self.stations = [[0; STATION_ROW]; STATIONS];
         self.stations.iter_mut().for_each(|words| words[station_word::TOKEN] = 1);
         *self.pairs = [[0; PAIR_ROW]; PAIRS];
+        *self.sids.count = FIRST_SIDS as u64;
+        *self.sids.places = [0; SIDS];
+        self.sids.places[1] = 1;
+        self.sids.rows.as_flattened_mut().fill(0);
+        self.sids.rows[..FIRST_SIDS].copy_from_slice(&FIRST_ROWS);
     }
 
     pub fn station(&self, station: usize) -> Station {

@@ -14,6 +14,7 @@ mod reports;
 mod requests;
 mod sids;
 mod stream;
+mod table;
 mod valid;
 
 use layout::{MIN_BUFFER, STATIONS};

@@ -1,6 +1,7 @@
 //! The numbers of a body, and the answer's body while it is made.
 
-use super::layout::{MAX_GROUPS, MAX_LENGTH_BYTES};
+use super::layout::{MAX_GROUPS, MAX_LENGTH_BYTES, MAX_SUB_AUTHORITIES, SID_ROW};
+use super::memory::SidRow;
 
 /// Bits of a number in each byte, and the bit that says that more follow.
 pub const BITS: usize = 7;
@@ -79,6 +80,26 @@ impl<'a> Reader<'a> {
                 &[]
             }
         }
+    }
+
+    /// A packed SID, as it stands in a row.
+    pub fn sid(&mut self) -> SidRow {
+        let mut row = [0; SID_ROW];
+        let head = self.take(8).try_into().map_or(0, u64::from_le_bytes);
+        let (revision, count) = (head as u8, (head >> 8) as u8);
+        if revision != 1 || count > MAX_SUB_AUTHORITIES {
+            self.fail();
+            return row;
+        }
+        let (pairs, rest) = self.take(4 * u32::from(count)).as_chunks();
+        row[0] = head;
+        for (word, pair) in row[1..].iter_mut().zip(pairs) {
+            *word = u64::from_le_bytes(*pair);
+        }
+        if let Ok(last) = rest.try_into() {
+            row[1 + pairs.len()] = u32::from_le_bytes(last).into();
+        }
+        row
     }
 
     /// So many entries, read one by one; stops where one is not in its layout.

@@ -11,16 +11,18 @@ use super::memory::{Handle, Memory, Row, Station};
 use super::reader::MORE;
 use super::records::is_mask;
 use super::stream::length;
+use super::table::are_outside;
 
 impl Memory<'_> {
     pub fn is_valid(&self) -> bool {
         let numbers: [u64; TOKENS] = std::array::from_fn(|slot| self.tokens[slot][word::NUMBER]);
         self.numbers_are_valid(&numbers)
+            && self.sids.is_valid()
             && self
                 .tokens
                 .iter()
                 .zip(self.dacls.iter())
-                .all(|(row, dacl)| token_is_valid(row, dacl))
+                .all(|(row, dacl)| token_is_valid(row, dacl, *self.sids.count))
             && self.streams_are_valid()
             && self.references_are_valid(&numbers)
     }
@@ -187,14 +189,16 @@ fn bytes_are_zero(bytes: &[u8]) -> bool {
     bytes.iter().fold(0, |all, byte| all | byte) == 0
 }
 
-fn token_is_valid(row: &Row, dacl: &[u8; DACL_ROW]) -> bool {
+fn token_is_valid(row: &Row, dacl: &[u8; DACL_ROW], table: u64) -> bool {
     if row[word::NUMBER] == 0 {
         return words_are_zero(row) && bytes_are_zero(dacl);
     }
     let (kind, level, integrity) = (row[word::TYPE], row[word::LEVEL], row[word::INTEGRITY]);
     let counts = [word::GROUP_COUNT, word::RESTRICTING_COUNT, word::DACL_LENGTH];
     let [groups, restricting, length] = counts.map(|word| row[word] as usize);
-    (row[word::USER] | row[word::SCOPE]) >> u32::BITS == 0
+    row[word::SCOPE] >> u32::BITS == 0
+        && row[word::USER] >> u32::BITS == 0
+        && !are_outside(&row[word::USER..][..1], table)
         && (kind == PRIMARY && level == ANONYMOUS || kind == IMPERSONATION && level <= DELEGATION)
         && row[word::ELEVATION].wrapping_sub(1) < LIMITED
         && (row[word::WRITE_RESTRICTED] | row[word::USER_DENY_ONLY]) <= 1
@@ -206,11 +210,11 @@ fn token_is_valid(row: &Row, dacl: &[u8; DACL_ROW]) -> bool {
         && groups <= MAX_GROUPS
         && restricting <= MAX_RESTRICTING
         && length <= MAX_DACL
-        && lists_are_valid(row, groups, restricting)
+        && lists_are_valid(row, groups, restricting, table)
         && bytes_are_zero(&dacl[length..])
 }
 
-fn lists_are_valid(row: &Row, groups: usize, restricting: usize) -> bool {
+fn lists_are_valid(row: &Row, groups: usize, restricting: usize, table: u64) -> bool {
     let (groups, rest) = row[GROUPS].split_at(groups);
     let (sids, free) = row[GROUPS.end..].split_at(restricting);
     let (mut all, mut both, mut halves) = (0, 0, 0);
@@ -223,6 +227,7 @@ fn lists_are_valid(row: &Row, groups: usize, restricting: usize) -> bool {
     const { assert!(DENY_ONLY == ENABLED << 2 && LOGON_ID == 3 << 30) };
     let bad = all & !(GIVEN | ENABLED) | both & ENABLED | halves & 1 << 31;
     let wide = sids.iter().fold(0, |all, sid| all | sid) >> u32::BITS;
+    let outside = are_outside(groups, table) | are_outside(sids, table);
     let owns = match row[word::OWNER] {
         0 => true,
         owner => {
@@ -232,6 +237,7 @@ fn lists_are_valid(row: &Row, groups: usize, restricting: usize) -> bool {
     };
     bad == 0
         && wide == 0
+        && !outside
         && owns
         && row[word::PRIMARY_GROUP] <= groups.len() as u64
         && words_are_zero(rest)

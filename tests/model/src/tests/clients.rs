@@ -1,6 +1,6 @@
 //! Impersonate and revert, requests 12 and 13.
 
-use super::{ask, body, create, handle, open, send, status, token_of, token_of_mut};
+use super::{ask, body, create, handle, open, send, start, status, token_of, token_of_mut};
 use crate::{Client, Level, Model, TokenType, HANDLES, IMPERSONATE, MIN_BUFFER, TOKENS};
 
 const USED: u64 = 1 << IMPERSONATE;
@@ -32,7 +32,7 @@ const ALIKE: Pair = Pair {
 
 /// Station 0 has the server, token 2, and this handle on the client, token 3.
 fn staged(pair: Pair) -> (Model, u64) {
-    let mut model = Model::start();
+    let mut model = start();
     let server = handle(&mut model, 0, &create(&[]));
     assert_eq!(status(&mut model, 0, &[11, server]), 0);
     let client = handle(&mut model, 0, &[9, server, 2, 3, 0x1EF]);
@@ -263,7 +263,7 @@ fn a_token_at_anonymous_is_not_none() {
 
 #[test]
 fn revert_answers_the_tokens_number_not_the_handles() {
-    let mut model = Model { next_token: u64::MAX - 1, ..Model::start() };
+    let mut model = Model { next_token: u64::MAX - 1, ..start() };
     let own = open(&mut model, 0, 0x1EF);
     let copy = handle(&mut model, 0, &[9, own, 2, 2, 4]);
     assert_eq!(ask(&mut model, 0, &[12, copy]), [0, 2]);
@@ -308,7 +308,7 @@ fn one_that_is_replaced_is_freed_with_its_last_reference() {
 
 #[test]
 fn two_stations_may_act_for_one_token() {
-    let mut model = Model::start();
+    let mut model = start();
     let [own, other] = [0, 1].map(|station| open(&mut model, station, 0x1EF));
     let copy = handle(&mut model, 0, &[9, own, 2, 3, 4]);
     assert_eq!(status(&mut model, 1, &[12, copy]), 2, "by a handle of its own");
@@ -328,7 +328,7 @@ fn two_stations_may_act_for_one_token() {
 
 #[test]
 fn install_leaves_the_client_and_its_level() {
-    let mut model = Model::start();
+    let mut model = start();
     let made = handle(&mut model, 0, &[3, 51, 9, 0, 0, 0, 0]);
     let own = open(&mut model, 0, 0x1EF);
     let copy = handle(&mut model, 0, &[9, own, 2, 3, 0x1EF]);

@@ -1,6 +1,6 @@
 //! Request 18.
 
-use super::{ask, body, handle, open, send, status, token_of_mut, with_groups};
+use super::{ask, body, handle, open, send, start, status, token_of_mut, with_groups};
 use crate::{
     Condition, Model, Privileges, ALL_PRIVILEGES, LAST_PRIVILEGE, MAX_BODY, MAX_DEPTH, TCB,
 };
@@ -361,7 +361,7 @@ fn the_order_of_its_refusals() {
 
 #[test]
 fn query_alone_is_enough() {
-    let mut model = Model::start();
+    let mut model = start();
     let own = open(&mut model, 0, 8);
     assert_eq!(ask(&mut model, 0, &[18, own, 4, TCB.into()]), [0, 1]);
 }
@@ -380,7 +380,7 @@ fn the_handles_token_is_asked_and_not_the_stations() {
 
 #[test]
 fn nothing_changes_not_even_a_used_bit() {
-    let mut model = Model::start();
+    let mut model = start();
     let own = open(&mut model, 0, 8);
     let before = model.clone();
     for privilege in 2..=36 {

@@ -1,6 +1,6 @@
 //! Duplicate and restrict, requests 9 and 10.
 
-use super::{ask, body, create, handle, open, status, token_of, token_of_mut, with_groups};
+use super::{ask, body, create, handle, open, start, status, token_of, token_of_mut, with_groups};
 use crate::{Elevation, Group, Level, Model, Privileges, Token, TokenType, HANDLES, MAX_GROUPS};
 
 /// A handle on a token with something in every field.
@@ -76,7 +76,7 @@ fn an_anonymous_copy_keeps_only_the_used_bits() {
 
 #[test]
 fn an_impersonation_level_does_not_rise() {
-    let mut model = Model::start();
+    let mut model = start();
     let own = open(&mut model, 0, 0x1EF);
     for source_level in 0..4 {
         let source = handle(&mut model, 0, &[9, own, 2, source_level, 0x1EF]);
@@ -93,7 +93,7 @@ fn an_impersonation_level_does_not_rise() {
 
 #[test]
 fn duplicate_checks_its_fields() {
-    let mut model = Model::start();
+    let mut model = start();
     open(&mut model, 0, 0x0A);
     let bad: [[u64; 5]; 9] = [
         [9, 1, 0, 1, 2],
@@ -128,7 +128,7 @@ fn restrict_takes_away() {
 
 #[test]
 fn restrict_gives_the_mask_of_the_source_handle() {
-    let mut model = Model::start();
+    let mut model = start();
     let own = open(&mut model, 0, 0x0A);
     handle(&mut model, 0, &[10, own, 0, 0, 0, 0]);
     assert_eq!(model.handles[1].unwrap().mask, 0x0A);
@@ -136,7 +136,7 @@ fn restrict_gives_the_mask_of_the_source_handle() {
 
 #[test]
 fn write_restricted_sets_both_marks_and_0_keeps_them() {
-    let mut model = Model::start();
+    let mut model = start();
     let own = open(&mut model, 0, 2);
     let marks = |model: &Model, handle| {
         let token = token_of(model, handle);
@@ -155,7 +155,7 @@ fn write_restricted_sets_both_marks_and_0_keeps_them() {
 
 #[test]
 fn restrict_keeps_type_and_level() {
-    let mut model = Model::start();
+    let mut model = start();
     let own = open(&mut model, 0, 2);
     let source = handle(&mut model, 0, &[9, own, 2, 2, 2]);
     let copy = handle(&mut model, 0, &[10, source, 0, 0, 0, 0]);
@@ -204,7 +204,7 @@ fn all_denied_groups_stay_in_their_places() {
 
 #[test]
 fn bad_fields_come_before_a_full_table() {
-    let mut model = Model::start();
+    let mut model = start();
     let own = open(&mut model, 0, 0x1EF);
     for _ in 1..HANDLES {
         open(&mut model, 0, 1);

@@ -1,17 +1,17 @@
 //! Create, request 3.
 
-use super::{ask, create, handle, open, status, token_of};
-use crate::{Elevation, Group, Level, Model, Privileges, Token, TokenType};
+use super::{ask, create, handle, open, start, status, token_of};
+use crate::{Elevation, Group, Level, Privileges, Token, TokenType};
 
 const LOGON: u64 = 0xC000_0000;
 
 fn with_group(sid: u64, attributes: u64) -> u8 {
-    status(&mut Model::start(), 0, &create(&[(sid, attributes)]))
+    status(&mut start(), 0, &create(&[(sid, attributes)]))
 }
 
 #[test]
 fn it_makes_a_primary_token() {
-    let mut model = Model::start();
+    let mut model = start();
     let request = [3, 50, u64::MAX, 4096, 0b11100, 0b01000, 2, 60, 2, 61, 8];
     let made = handle(&mut model, 0, &request);
     let expected = Token {
@@ -42,7 +42,7 @@ fn it_makes_a_primary_token() {
 
 #[test]
 fn it_needs_the_privilege_before_good_fields() {
-    let mut model = Model::start();
+    let mut model = start();
     let own = open(&mut model, 0, 0x20);
     assert_eq!(status(&mut model, 0, &[5, own, 1, 2, 0]), 0);
     assert_eq!(ask(&mut model, 0, &[3, 50, 9, 4096, 0, 0, 0]), [4]);
@@ -56,10 +56,10 @@ fn it_needs_the_privilege_before_good_fields() {
 #[test]
 fn integrity_has_five_values() {
     for integrity in [0, 4096, 8192, 12288, 16384] {
-        assert_eq!(status(&mut Model::start(), 0, &[3, 50, 9, integrity, 0, 0, 0]), 0);
+        assert_eq!(status(&mut start(), 0, &[3, 50, 9, integrity, 0, 0, 0]), 0);
     }
     for integrity in [1, 4095, 4097, 16385, 20480, 0xFFFF_FFFF] {
-        assert_eq!(ask(&mut Model::start(), 0, &[3, 50, 9, integrity, 0, 0, 0]), [5]);
+        assert_eq!(ask(&mut start(), 0, &[3, 50, 9, integrity, 0, 0, 0]), [5]);
     }
 }
 
@@ -67,18 +67,18 @@ fn integrity_has_five_values() {
 fn privileges_are_within_limits() {
     let words = [(4, 4, 0), (4, 0, 0), (4, 8, 5), (1, 0, 5), (2, 0, 5), (3, 3, 5), (0, 4, 5)];
     for (present, default, expected) in words {
-        let mut model = Model::start();
+        let mut model = start();
         assert_eq!(status(&mut model, 0, &[3, 50, 9, 0, present, default, 0]), expected);
     }
-    assert_eq!(status(&mut Model::start(), 0, &[3, 50, 9, 0, 1 << 36, 1 << 36, 0]), 0);
-    assert_eq!(status(&mut Model::start(), 0, &[3, 50, 9, 0, 1 << 37, 0, 0]), 5);
-    assert_eq!(status(&mut Model::start(), 0, &[3, 50, 9, 0, u64::MAX, 0, 0]), 5);
+    assert_eq!(status(&mut start(), 0, &[3, 50, 9, 0, 1 << 36, 1 << 36, 0]), 0);
+    assert_eq!(status(&mut start(), 0, &[3, 50, 9, 0, 1 << 37, 0, 0]), 5);
+    assert_eq!(status(&mut start(), 0, &[3, 50, 9, 0, u64::MAX, 0, 0]), 5);
 }
 
 #[test]
 fn sixty_four_groups_and_no_more() {
     let groups = vec![(60, 2); 65];
-    let mut model = Model::start();
+    let mut model = start();
     let made = handle(&mut model, 0, &create(&groups[..64]));
     assert_eq!(token_of(&model, made).groups, [Group { sid: 60, attributes: 6 }; 64]);
     assert_eq!(ask(&mut model, 0, &create(&groups)), [5]);
@@ -126,7 +126,7 @@ fn deny_only_groups_are_not_enabled_by_default() {
 
 #[test]
 fn any_bad_group_is_refused() {
-    let mut model = Model::start();
+    let mut model = start();
     for at in 0..5 {
         let mut groups = vec![(60, 2); 5];
         groups[at].1 = 4;
@@ -136,7 +136,7 @@ fn any_bad_group_is_refused() {
 
 #[test]
 fn bad_fields_come_before_a_full_table() {
-    let mut model = Model::start();
+    let mut model = start();
     model.next_token = u64::MAX;
     assert_eq!(ask(&mut model, 0, &[3, 50, 9, 1, 0, 0, 0]), [5]);
     assert_eq!(ask(&mut model, 0, &[3, 50, 9, 0, 0, 0, 0]), [8]);
@@ -144,8 +144,8 @@ fn bad_fields_come_before_a_full_table() {
 }
 
 #[test]
-fn any_user_and_session_will_do() {
-    let mut model = Model::start();
-    assert_eq!(status(&mut model, 0, &[3, 0, 0, 0, 0, 0, 0]), 0);
-    assert_eq!(status(&mut model, 0, &[3, 0xFFFF_FFFF, u64::MAX, 0, 0, 0, 1, 0, 0]), 0);
+fn any_user_in_the_table_and_any_session_will_do() {
+    let mut model = start();
+    assert_eq!(status(&mut model, 0, &[3, 7, 0, 0, 0, 0, 0]), 0);
+    assert_eq!(status(&mut model, 0, &[3, 199, u64::MAX, 0, 0, 0, 1, 7, 0]), 0);
 }

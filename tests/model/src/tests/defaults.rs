@@ -1,13 +1,12 @@
 //! Scope and default, requests 7 and 8.
 
-use super::{ask, body, create, handle, open, send, status, token_of, with_groups};
-use crate::Model;
+use super::{ask, body, create, handle, open, send, start, status, token_of, with_groups};
 
 const NO_CHANGE: u64 = 0xFFFF;
 
 #[test]
 fn scope_changes_nothing_else_but_modified_and_used() {
-    let mut model = Model::start();
+    let mut model = start();
     let made = handle(&mut model, 0, &create(&[(60, 2)]));
     let mut expected = model.clone();
     let token = expected.tokens[1].as_mut().unwrap();
@@ -19,7 +18,7 @@ fn scope_changes_nothing_else_but_modified_and_used() {
 
 #[test]
 fn scope_needs_tcb_on_the_callers_own_token() {
-    let mut model = Model::start();
+    let mut model = start();
     let made = handle(&mut model, 0, &create(&[]));
     let own = open(&mut model, 0, 0x1EF);
     let blind = open(&mut model, 0, 8);

@@ -1,6 +1,6 @@
 //! Groups, request 6.
 
-use super::{ask, body, handle, open, send, status, token_of, with_groups};
+use super::{ask, body, handle, open, send, start, status, token_of, with_groups};
 use crate::adjust::ENABLED_WORDS;
 use crate::{Group, Model};
 
@@ -123,7 +123,7 @@ fn reset_is_not_refused_for_protected_groups() {
 
 #[test]
 fn reset_without_groups_steps_modified() {
-    let mut model = Model::start();
+    let mut model = start();
     let own = open(&mut model, 0, 0x40);
     assert_eq!(ask(&mut model, 0, &[6, own, 1, RESET, 0]), report(0));
     assert_eq!(model.primary(0).modified, 2);

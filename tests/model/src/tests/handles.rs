@@ -1,11 +1,11 @@
 //! Open and close, requests 1 and 2; slots and numbers; the layout of requests.
 
-use super::{ask, handle, open, send, status};
-use crate::{Handle, Model};
+use super::{ask, handle, open, send, start, status};
+use crate::Handle;
 
 #[test]
 fn open_checks_the_mask() {
-    let mut model = Model::start();
+    let mut model = start();
     for mask in [0, 0x10, 0x200, 0x1FF, 0xFFFF_FFFF] {
         assert_eq!(ask(&mut model, 0, &[1, mask]), [5]);
     }
@@ -18,7 +18,7 @@ fn open_checks_the_mask() {
 
 #[test]
 fn a_freed_slot_is_taken_again_but_not_its_number() {
-    let mut model = Model::start();
+    let mut model = start();
     for _ in 0..4 {
         open(&mut model, 0, 8);
     }
@@ -31,7 +31,7 @@ fn a_freed_slot_is_taken_again_but_not_its_number() {
 
 #[test]
 fn close_is_for_live_handles_of_the_station() {
-    let mut model = Model::start();
+    let mut model = start();
     let own = open(&mut model, 0, 8);
     assert_eq!(status(&mut model, 1, &[2, own]), 2);
     assert_eq!(status(&mut model, 0, &[2, 0]), 2);
@@ -42,7 +42,7 @@ fn close_is_for_live_handles_of_the_station() {
 
 #[test]
 fn every_request_on_a_handle_asks_for_the_stations_own() {
-    let mut model = Model::start();
+    let mut model = start();
     let own = open(&mut model, 0, 0x1EF);
     let copy = handle(&mut model, 0, &[9, own, 2, 1, 4]);
     let requests: [&[u64]; 10] = [
@@ -76,10 +76,10 @@ fn every_right_is_asked_for() {
         (1, &[11, 1]),
     ];
     for (right, request) in rights {
-        let mut model = Model::start();
+        let mut model = start();
         open(&mut model, 0, 0x1EF & !right);
         assert_eq!(status(&mut model, 0, request), 3, "{request:?}");
-        let mut model = Model::start();
+        let mut model = start();
         open(&mut model, 0, right);
         assert_eq!(status(&mut model, 0, request), 0, "{request:?}");
     }
@@ -87,7 +87,7 @@ fn every_right_is_asked_for() {
 
 #[test]
 fn the_last_token_is_freed_with_its_last_handle() {
-    let mut model = Model::start();
+    let mut model = start();
     let own = open(&mut model, 0, 0x1EF);
     let first = handle(&mut model, 0, &[9, own, 1, 0, 8]);
     let second = handle(&mut model, 0, &[9, own, 1, 0, 8]);
@@ -104,19 +104,19 @@ fn the_last_token_is_freed_with_its_last_handle() {
 
 #[test]
 fn the_last_handle_number_is_never_given() {
-    let mut model = Model::start();
+    let mut model = start();
     model.next_handle = u32::MAX - 1;
     assert_eq!(ask(&mut model, 0, &[1, 8]), [0, 0xFE, 0xFF, 0xFF, 0xFF, 0x0F]);
     assert_eq!(model.next_handle, u32::MAX);
     assert_eq!(ask(&mut model, 0, &[1, 8]), [8]);
     assert_eq!(ask(&mut model, 0, &[2, u64::from(u32::MAX) - 1]), [0]);
     assert_eq!(ask(&mut model, 0, &[1, 8]), [8]);
-    assert_eq!(ask(&mut model, 0, &[3, 5, 5, 0, 0, 0, 0]), [8]);
+    assert_eq!(ask(&mut model, 0, &[3, 50, 5, 0, 0, 0, 0]), [8]);
 }
 
 #[test]
 fn the_last_token_number_is_never_given() {
-    let mut model = Model::start();
+    let mut model = start();
     model.next_token = u64::MAX - 1;
     let own = open(&mut model, 0, 0x1EF);
     let copy = handle(&mut model, 0, &[9, own, 1, 0, 0x1EF]);
@@ -125,18 +125,18 @@ fn the_last_token_number_is_never_given() {
     assert_eq!(model.next_token, u64::MAX);
     assert_eq!(ask(&mut model, 0, &[9, own, 1, 0, 8]), [8]);
     assert_eq!(ask(&mut model, 0, &[10, own, 0, 0, 0, 0]), [8]);
-    assert_eq!(ask(&mut model, 0, &[3, 5, 5, 0, 0, 0, 0]), [8]);
+    assert_eq!(ask(&mut model, 0, &[3, 50, 5, 0, 0, 0, 0]), [8]);
     assert_eq!(status(&mut model, 0, &[1, 8]), 0);
 }
 
 #[test]
 fn a_17th_token_is_refused() {
-    let mut model = Model::start();
+    let mut model = start();
     for _ in 1..16 {
-        handle(&mut model, 0, &[3, 5, 5, 0, 0, 0, 0]);
+        handle(&mut model, 0, &[3, 50, 5, 0, 0, 0, 0]);
     }
     let own = open(&mut model, 0, 0x1EF);
-    assert_eq!(ask(&mut model, 0, &[3, 5, 5, 0, 0, 0, 0]), [8]);
+    assert_eq!(ask(&mut model, 0, &[3, 50, 5, 0, 0, 0, 0]), [8]);
     assert_eq!(ask(&mut model, 0, &[9, own, 2, 0, 1]), [8]);
     assert_eq!(ask(&mut model, 0, &[10, own, 0, 0, 0, 0]), [8]);
     assert_eq!(ask(&mut model, 0, &[2, 5]), [0]);
@@ -146,20 +146,20 @@ fn a_17th_token_is_refused() {
 
 #[test]
 fn refusal_1_is_for_layouts() {
-    let mut model = Model::start();
+    let mut model = start();
     let own = open(&mut model, 0, 0x1EF) as u8;
     let copy = handle(&mut model, 0, &[9, own.into(), 2, 1, 4]) as u8;
     let requests: [&[u8]; 13] = [
         &[1, 8],
         &[2, own],
-        &[3, 5, 5, 0, 4, 4, 1, 9, 2],
+        &[3, 50, 5, 0, 4, 4, 1, 60, 2],
         &[4, own, 1, 9],
         &[5, own, 2, 2, 0, 3, 0],
         &[6, own, 1, 0xFF, 0xFF, 0xFF, 0xFF, 0x0F, 0],
         &[7, own, 0x80, 0x01],
         &[8, own, 0, 0, 1, 3, 7, 8, 9],
         &[9, own, 1, 0, 1],
-        &[10, own, 0, 4, 0, 2, 5, 6],
+        &[10, own, 0, 4, 0, 2, 70, 71],
         &[11, own],
         &[12, copy],
         &[13],
@@ -175,8 +175,8 @@ fn refusal_1_is_for_layouts() {
 
 #[test]
 fn refusal_1_is_for_unknown_requests() {
-    let mut model = Model::start();
-    for request in [0, 14, 15, 127, 128, 257, u64::MAX] {
+    let mut model = start();
+    for request in [0, 19, 20, 127, 128, 257, u64::MAX] {
         assert_eq!(ask(&mut model, 0, &[request]), [1]);
         assert_eq!(ask(&mut model, 0, &[request, 1]), [1]);
     }
@@ -184,7 +184,7 @@ fn refusal_1_is_for_unknown_requests() {
 
 #[test]
 fn a_field_wider_than_its_width_is_a_matter_of_layout() {
-    let mut model = Model::start();
+    let mut model = start();
     let own = open(&mut model, 0, 0x1EF);
     assert_eq!(ask(&mut model, 0, &[1, 1 << 32]), [1]);
     assert_eq!(ask(&mut model, 0, &[2, own + (1 << 32)]), [1]);

@@ -1,14 +1,13 @@
 //! Install, request 11.
 
-use super::{ask, create, handle, open, status, token_of_mut};
-use crate::Model;
+use super::{ask, create, handle, open, start, status, token_of_mut};
 
 const ASSIGN: u64 = 1 << 3;
 const TCB: u64 = 1 << 7;
 
 #[test]
 fn it_replaces_the_stations_token_and_frees_the_old_one() {
-    let mut model = Model::start();
+    let mut model = start();
     let first = handle(&mut model, 0, &create(&[]));
     assert_eq!(ask(&mut model, 0, &[11, first]), [0]);
     assert_eq!(model.stations[0].token, 2);
@@ -26,7 +25,7 @@ fn it_replaces_the_stations_token_and_frees_the_old_one() {
 
 #[test]
 fn used_bits_fall_on_the_token_before() {
-    let mut model = Model::start();
+    let mut model = start();
     let made = handle(&mut model, 0, &create(&[]));
     model.tokens[0].as_mut().unwrap().privileges.used = 0;
     assert_eq!(ask(&mut model, 0, &[11, made]), [0]);
@@ -41,10 +40,10 @@ fn tcb_is_used_only_if_user_or_session_differs() {
     for (user, session, used) in [
         (18, 999, ASSIGN),
         (18, 998, ASSIGN | TCB),
-        (19, 999, ASSIGN | TCB),
-        (19, 998, ASSIGN | TCB),
+        (50, 999, ASSIGN | TCB),
+        (50, 998, ASSIGN | TCB),
     ] {
-        let mut model = Model::start();
+        let mut model = start();
         let made = handle(&mut model, 0, &[3, user, session, 0, 0, 0, 0]);
         model.tokens[0].as_mut().unwrap().privileges.used = 0;
         assert_eq!(ask(&mut model, 0, &[11, made]), [0]);
@@ -54,8 +53,8 @@ fn tcb_is_used_only_if_user_or_session_differs() {
 
 #[test]
 fn without_tcb_user_and_session_must_match() {
-    for (user, session, expected) in [(18, 999, 0), (18, 998, 7), (19, 999, 7), (19, 998, 7)] {
-        let mut model = Model::start();
+    for (user, session, expected) in [(18, 999, 0), (18, 998, 7), (50, 999, 7), (50, 998, 7)] {
+        let mut model = start();
         let made = handle(&mut model, 0, &[3, user, session, 0, 0, 0, 0]);
         let own = open(&mut model, 0, 0x20);
         assert_eq!(status(&mut model, 0, &[5, own, 1, 7, 0]), 0);
@@ -65,7 +64,7 @@ fn without_tcb_user_and_session_must_match() {
 
 #[test]
 fn the_order_of_its_refusals() {
-    let mut model = Model::start();
+    let mut model = start();
     let own = open(&mut model, 0, 0x1EF);
     let blind = open(&mut model, 0, 0x1EE);
     let other = handle(&mut model, 0, &create(&[]));
@@ -83,7 +82,7 @@ fn the_order_of_its_refusals() {
 
 #[test]
 fn installing_the_own_token_marks_one_use() {
-    let mut model = Model::start();
+    let mut model = start();
     let own = open(&mut model, 0, 1);
     let mut expected = model.clone();
     expected.tokens[0].as_mut().unwrap().privileges.used = ASSIGN;
@@ -93,7 +92,7 @@ fn installing_the_own_token_marks_one_use() {
 
 #[test]
 fn a_request_is_held_to_the_new_token_at_once() {
-    let mut model = Model::start();
+    let mut model = start();
     let made = handle(&mut model, 0, &[3, 50, 9, 0, 0, 0, 0]);
     assert_eq!(ask(&mut model, 0, &[11, made]), [0]);
     assert_eq!(ask(&mut model, 0, &create(&[])), [4]);

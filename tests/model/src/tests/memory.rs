@@ -1,6 +1,6 @@
 //! The layout of the lent memory.
 
-use super::{ask, handle, open, send};
+use super::{ask, handle, open, send, start};
 use crate::layout::{
     control_word, station_word, token_word, DACL_ROW, HANDLE_BYTES, PENDING_ROW, STATION_ROW,
     TOKEN_ROW,
@@ -8,13 +8,13 @@ use crate::layout::{
 use crate::{HandleRecord, Memory, Model, ALL_PRIVILEGES, HANDLES, MIN_BUFFER, PARTS, STATIONS};
 
 /// The bytes of each part, as docs/MEMORY.md's first table has them.
-const SIZES: [usize; PARTS.len()] = [12_928, 4_096, 512, 432, 16_400];
+const SIZES: [usize; PARTS.len()] = [12_928, 4_096, 512, 20_920, 16_400];
 
 #[test]
 fn sizes() {
     let sizes = Model::start().memory().bytes().map(|part| part.len());
     assert_eq!(sizes, SIZES);
-    assert_eq!(sizes.iter().sum::<usize>(), 34_368);
+    assert_eq!(sizes.iter().sum::<usize>(), 54_856);
 }
 
 #[test]
@@ -27,14 +27,17 @@ fn the_start_in_memory() {
     assert!(rest.iter().all(|&word| word == 0));
     assert_eq!(memory.handles, [HandleRecord::default(); HANDLES]);
     let stations = [1, 0, 0, 0, 0].repeat(STATIONS);
-    assert_eq!(memory.control, [vec![2, 1], stations, vec![0; 12]].concat());
+    let before = [vec![2, 1], stations, vec![0; 12]].concat();
+    let (before_sids, sids) = memory.control.split_at(before.len());
+    assert_eq!(before_sids, before);
+    assert_eq!(sids, Model::start().sids.words());
     assert!(memory.dacls.iter().chain(&memory.pending).all(|&byte| byte == 0));
     assert_eq!(memory.model(), Some(Model::start()));
 }
 
 /// A model with something in each part.
 fn busy() -> Model {
-    let mut model = Model::start();
+    let mut model = start();
     let request = [3, 50, 9, 4096, 12, 4, 2, 60, 2, 61, 0xC000_000A];
     let made = handle(&mut model, 2, &request);
     let request = [10, made, 1, 8, 1, 3, 0, 70, 71, 72];

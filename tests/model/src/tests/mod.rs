@@ -14,6 +14,7 @@ mod install;
 mod lent;
 mod memory;
 mod numbers;
+mod packed;
 mod pair_memory;
 mod pairs;
 mod privileges;
@@ -22,10 +23,12 @@ mod put_back;
 mod query;
 mod restrictions;
 mod roots;
+mod sid_memory;
+mod sids;
 mod slips;
 mod streams;
 
-use crate::{framed, write_number, Model, Token, MAX_LENGTH_BYTES, MIN_BUFFER, MORE};
+use crate::{framed, write_number, Model, Sid, Token, MAX_LENGTH_BYTES, MIN_BUFFER, MORE};
 
 /// The body that the numbers make.
 fn body(numbers: &[u64]) -> Vec<u8> {
@@ -95,6 +98,18 @@ fn token_of_mut(model: &mut Model, handle: u64) -> &mut Token {
     model.live_mut(number)
 }
 
+/// How many SIDs stand in the table of [`start`]; the last has number 199.
+const STARTED_SIDS: u32 = 170;
+
+/// The start, with the numbers from 32 to 199 in the table too.
+fn start() -> Model {
+    let mut model = Model::start();
+    for sub_authority in 100..98 + STARTED_SIDS {
+        model.sids.enter(Sid::nt(sub_authority));
+    }
+    model
+}
+
 /// A create request: user 50, session 9, privileges 2 to 36 present, and these groups.
 fn create(groups: &[(u64, u64)]) -> Vec<u64> {
     let mut numbers = vec![3, 50, 9, 8192, crate::ALL_PRIVILEGES, 0, groups.len() as u64];
@@ -104,7 +119,7 @@ fn create(groups: &[(u64, u64)]) -> Vec<u64> {
 
 /// A fresh model and station 0's handle with all rights on a token with these groups.
 fn with_groups(groups: &[(u64, u64)]) -> (Model, u64) {
-    let mut model = Model::start();
+    let mut model = start();
     let handle = handle(&mut model, 0, &create(groups));
     (model, handle)
 }

@@ -1,13 +1,13 @@
 //! Pairs in the lent memory.
 
-use super::{ask, create, handle};
+use super::{ask, create, handle, start};
 use crate::layout::{control_word, pair_word, token_word, PAIR_ROW, TOKEN_ROW};
 use crate::{Memory, Model, PAIRS};
 
 /// Pairs of session 9 (tokens 2 and 3), 0 (4 and 5) and 7 (6 and 7), each with a handle on both, and two
 /// tokens of session 7 outside.
 fn paired() -> Model {
-    let mut model = Model::start();
+    let mut model = start();
     for session in [9, 0, 7, 7] {
         let mut numbers = create(&[]);
         numbers[2] = session;
@@ -48,8 +48,8 @@ fn valid_with_token(number: usize, word: usize, value: u64) -> bool {
 #[test]
 fn every_pair_has_its_words() {
     let control = paired().memory().control;
-    assert_eq!((control_word::PAIRS, control.len()), (42, 54));
-    assert_eq!(control[42..], [9, 2, 3, 0, 4, 5, 7, 6, 7, 0, 0, 0]);
+    assert_eq!((control_word::PAIRS, control_word::SID_COUNT), (42, 54));
+    assert_eq!(control[42..54], [9, 2, 3, 0, 4, 5, 7, 6, 7, 0, 0, 0]);
     assert_eq!(PAIRS * PAIR_ROW, 12);
 }
 

@@ -1,6 +1,6 @@
 //! Requests 16 and 17.
 
-use super::{ask, body, create, handle, open, status, token_of, token_of_mut};
+use super::{ask, body, create, handle, open, start, status, token_of, token_of_mut};
 use crate::{Elevation, Level, Model, Pair, Token, TokenType, HANDLES, TCB, TOKENS};
 
 /// A create request for this user and session.
@@ -13,7 +13,7 @@ fn of(user: u64, session: u64) -> Vec<u64> {
 /// Handles 1 to 4 of station 0: two tokens, 2 and 3, of user 50 in session 9, one of another user and one
 /// of another session.
 fn four() -> Model {
-    let mut model = Model::start();
+    let mut model = start();
     for (user, session) in [(50, 9), (50, 9), (51, 9), (50, 10)] {
         handle(&mut model, 0, &of(user, session));
     }
@@ -122,7 +122,7 @@ fn a_replaced_pair_no_longer_keeps_its_tokens() {
 
 #[test]
 fn a_fifth_session_finds_no_place_and_a_bad_pair_comes_before() {
-    let mut model = Model::start();
+    let mut model = start();
     for session in 0..5 {
         let [first, second] = [(); 2].map(|()| handle(&mut model, 0, &of(50, session)));
         let expected = if session == 4 { 8 } else { 0 };

@@ -1,13 +1,13 @@
 //! Putting back what request 5 changed, from its report; and where that is not claimed.
 
-use super::{ask, body, open, status};
+use super::{ask, body, open, start, status};
 use crate::{Model, Privileges, ALL_PRIVILEGES};
 
 const RESET: u64 = 0x8000_0000;
 
 /// The start, with a handle of station 0 and one of station 1 on the first token.
 fn with_two_handles() -> (Model, u64, u64) {
-    let mut model = Model::start();
+    let mut model = start();
     let (own, others) = (open(&mut model, 0, 0x20), open(&mut model, 1, 0x20));
     (model, own, others)
 }

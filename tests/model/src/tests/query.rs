@@ -1,12 +1,12 @@
 //! Query, request 4.
 
-use super::{ask, body, handle, open, send, status, token_of_mut};
+use super::{ask, body, handle, open, send, start, status, token_of_mut};
 use crate::{Elevation, Group, Level, Model, Privileges, Token, TokenType};
 
 /// A model with a handle on a token whose fields all differ.
 fn rich() -> (Model, u64) {
-    let mut model = Model::start();
-    let made = handle(&mut model, 0, &[3, 1, 1, 0, 0, 0, 0]);
+    let mut model = start();
+    let made = handle(&mut model, 0, &[3, 50, 1, 0, 0, 0, 0]);
     let token = token_of_mut(&mut model, made);
     *token = Token {
         number: token.number,
@@ -72,7 +72,7 @@ fn unknown_classes_come_before_the_capacity() {
 
 #[test]
 fn the_start_token_has_empty_lists() {
-    let mut model = Model::start();
+    let mut model = start();
     let own = open(&mut model, 0, 8);
     for (class, report) in [(2, 0), (4, 18), (5, 18), (6, 0), (8, 0), (10, 0), (11, 0), (12, 1)] {
         assert_eq!(ask(&mut model, 0, &[4, own, class, 1]), [0, report]);
@@ -81,13 +81,13 @@ fn the_start_token_has_empty_lists() {
 
 #[test]
 fn the_largest_report_fits_the_buffer() {
-    let mut model = Model::start();
-    let made = handle(&mut model, 0, &[3, 1, 1, 0, 0, 0, 0]);
+    let mut model = start();
+    let made = handle(&mut model, 0, &[3, 50, 1, 0, 0, 0, 0]);
     let token = token_of_mut(&mut model, made);
-    token.groups = vec![Group { sid: u32::MAX, attributes: 0xC000_000F }; 64];
+    token.groups = vec![Group { sid: 199, attributes: 0xC000_000F }; 64];
     token.dacl = vec![9; 256];
-    assert_eq!(ask(&mut model, 0, &[4, made, 2, 641]).len(), 642);
-    assert_eq!(ask(&mut model, 0, &[4, made, 2, 640]), body(&[9, 641]));
+    assert_eq!(ask(&mut model, 0, &[4, made, 2, 449]).len(), 450);
+    assert_eq!(ask(&mut model, 0, &[4, made, 2, 448]), body(&[9, 449]));
     assert_eq!(ask(&mut model, 0, &[4, made, 6, 258]).len(), 259);
     assert_eq!(ask(&mut model, 0, &[4, made, 6, 257]), body(&[9, 258]));
 }

@@ -1,6 +1,6 @@
 //! Roots: whom a token descends from, and class 9, which tells it.
 
-use super::{ask, body, create, handle, open, status, token_of, token_of_mut};
+use super::{ask, body, create, handle, open, start, status, token_of, token_of_mut};
 use crate::{Model, NO_ROOT};
 
 /// Duplicates with all rights: a primary one, one for impersonation, an anonymous one.
@@ -25,7 +25,7 @@ fn root(model: &Model, handle: u64) -> u64 {
 
 #[test]
 fn started_and_created_tokens_are_their_own_roots() {
-    let mut model = Model::start();
+    let mut model = start();
     assert_eq!(model.primary(0).root, 1);
     let own = open(&mut model, 0, 0x1EF);
     assert_eq!(root(&model, own), 1);
@@ -37,7 +37,7 @@ fn started_and_created_tokens_are_their_own_roots() {
 
 #[test]
 fn a_created_token_does_not_descend_from_its_maker() {
-    let mut model = Model::start();
+    let mut model = start();
     let own = open(&mut model, 0, 0x1EF);
     let copy = handle(&mut model, 0, &primary(own));
     assert_eq!(status(&mut model, 0, &[11, copy]), 0);
@@ -48,7 +48,7 @@ fn a_created_token_does_not_descend_from_its_maker() {
 
 #[test]
 fn copies_of_copies_have_the_oldest_as_their_root() {
-    let mut model = Model::start();
+    let mut model = start();
     let made = handle(&mut model, 0, &create(&[]));
     for copy in [primary, impersonation] {
         let first = handle(&mut model, 0, &copy(made));
@@ -62,7 +62,7 @@ fn copies_of_copies_have_the_oldest_as_their_root() {
 
 #[test]
 fn a_root_may_be_gone() {
-    let mut model = Model::start();
+    let mut model = start();
     let made = handle(&mut model, 0, &create(&[]));
     let copy = handle(&mut model, 0, &primary(made));
     assert_eq!(status(&mut model, 0, &[2, made]), 0);
@@ -75,7 +75,7 @@ fn a_root_may_be_gone() {
 
 #[test]
 fn an_anonymous_copy_has_no_root_and_so_has_all_that_is_made_from_it() {
-    let mut model = Model::start();
+    let mut model = start();
     let own = open(&mut model, 0, 0x1EF);
     let stripped = handle(&mut model, 0, &anonymous(own));
     let again = handle(&mut model, 0, &anonymous(stripped));
@@ -91,7 +91,7 @@ fn an_anonymous_copy_has_no_root_and_so_has_all_that_is_made_from_it() {
 
 #[test]
 fn a_primary_copy_at_level_0_is_not_stripped_of_its_root() {
-    let mut model = Model::start();
+    let mut model = start();
     let own = open(&mut model, 0, 0x1EF);
     let copy = handle(&mut model, 0, &primary(own));
     let of_level_1 = handle(&mut model, 0, &impersonation(own));
@@ -103,7 +103,7 @@ fn a_primary_copy_at_level_0_is_not_stripped_of_its_root() {
 
 #[test]
 fn adjusting_and_installing_leave_the_root() {
-    let mut model = Model::start();
+    let mut model = start();
     let own = open(&mut model, 0, 0x1EF);
     let copy = handle(&mut model, 0, &primary(own));
     let requests: [&[u64]; 5] = [
@@ -121,7 +121,7 @@ fn adjusting_and_installing_leave_the_root() {
 
 #[test]
 fn class_9_gives_the_root_as_its_fifth_number() {
-    let mut model = Model::start();
+    let mut model = start();
     let own = open(&mut model, 0, 0x1EF);
     let copy = handle(&mut model, 0, &primary(own));
     let made = handle(&mut model, 0, &create(&[]));
@@ -140,7 +140,7 @@ fn class_9_gives_the_root_as_its_fifth_number() {
 #[test]
 fn the_root_counts_for_the_reports_size() {
     for (root, size) in [(NO_ROOT, 1), (127, 1), (128, 2), (1 << 35, 6), (u64::MAX - 1, 10)] {
-        let mut model = Model { next_token: u64::MAX - 1, ..Model::start() };
+        let mut model = Model { next_token: u64::MAX - 1, ..start() };
         let made = handle(&mut model, 0, &[3, 50, 0, 0, 0, 0, 0]);
         token_of_mut(&mut model, made).root = root;
         let size = 10 + 1 + 10 + 1 + size;
@@ -151,7 +151,7 @@ fn the_root_counts_for_the_reports_size() {
 
 #[test]
 fn the_last_numbers_token_is_its_own_root() {
-    let mut model = Model { next_token: u64::MAX - 1, ..Model::start() };
+    let mut model = Model { next_token: u64::MAX - 1, ..start() };
     let made = handle(&mut model, 0, &create(&[]));
     assert_eq!(root(&model, made), u64::MAX - 1);
     assert_eq!(status(&mut model, 0, &primary(made)), 8);

@@ -1,11 +1,11 @@
 //! The slips that document 01 has already seen.
 
-use super::{ask, body, create, handle, open, status, token_of};
-use crate::{framed, Model, MIN_BUFFER};
+use super::{ask, body, create, handle, open, start, status, token_of};
+use crate::{framed, MIN_BUFFER};
 
 #[test]
 fn a_primary_duplicate_at_level_0_is_not_stripped() {
-    let mut model = Model::start();
+    let mut model = start();
     let own = open(&mut model, 0, 0x1EF);
     let copy = handle(&mut model, 0, &[9, own, 1, 0, 0x1EF]);
     let (source, copy) = (token_of(&model, own), token_of(&model, copy));
@@ -15,7 +15,7 @@ fn a_primary_duplicate_at_level_0_is_not_stripped() {
 
 #[test]
 fn an_absent_privilege_may_be_disabled() {
-    let mut model = Model::start();
+    let mut model = start();
     let own = open(&mut model, 0, 0x20);
     assert_eq!(status(&mut model, 0, &[5, own, 1, 20, 4]), 0);
     assert_eq!(ask(&mut model, 0, &[5, own, 1, 20, 0]), [0, 0, 0]);
@@ -23,7 +23,7 @@ fn an_absent_privilege_may_be_disabled() {
 
 #[test]
 fn a_reset_does_not_enable_a_removed_privilege() {
-    let mut model = Model::start();
+    let mut model = start();
     let own = open(&mut model, 0, 0x20);
     assert_eq!(status(&mut model, 0, &[5, own, 1, 20, 4]), 0);
     assert_eq!(status(&mut model, 0, &[5, own, 1, 0, 0x8000_0000]), 0);
@@ -33,7 +33,7 @@ fn a_reset_does_not_enable_a_removed_privilege() {
 
 #[test]
 fn a_handle_number_is_not_used_again() {
-    let mut model = Model::start();
+    let mut model = start();
     for number in 1..100 {
         assert_eq!(open(&mut model, 0, 8), number);
         assert_eq!(ask(&mut model, 0, &[2, number]), [0]);
@@ -43,7 +43,7 @@ fn a_handle_number_is_not_used_again() {
 
 #[test]
 fn a_request_is_bound_to_the_token_at_its_last_byte() {
-    let mut model = Model::start();
+    let mut model = start();
     let made = handle(&mut model, 0, &[3, 50, 9, 0, 0, 0, 0]);
     let other = handle(&mut model, 1, &[3, 60, 8, 0, 0, 0, 0]);
     let begun = framed(&body(&[1, 8]));
@@ -60,7 +60,7 @@ fn a_request_is_bound_to_the_token_at_its_last_byte() {
 
 #[test]
 fn a_privilege_lost_before_the_last_byte_is_not_held() {
-    let mut model = Model::start();
+    let mut model = start();
     let own = open(&mut model, 1, 0x20);
     let begun = framed(&body(&create(&[])));
     let (last, first) = begun.split_last().unwrap();
@@ -71,7 +71,7 @@ fn a_privilege_lost_before_the_last_byte_is_not_held() {
 
 #[test]
 fn a_handle_stays_on_its_token_when_the_station_installs_another() {
-    let mut model = Model::start();
+    let mut model = start();
     let own = open(&mut model, 0, 8);
     let made = handle(&mut model, 0, &create(&[]));
     assert_eq!(ask(&mut model, 0, &[11, made]), [0]);

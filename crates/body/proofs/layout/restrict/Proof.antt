@@ -1,5 +1,6 @@
 -- Five numbers and two lists. Assumes nothing.
 use borrow.Author.Needs.{needs}
+use Rattle.body.proofs.Sids.{numbers-onward}
 use Rattle.body.proofs.Bodies.{restrict-read}
 use Rattle.body.proofs.layout.restrict.Statement.{statement}
 use Rattle.body.proofs.layout.restrict.Tie as tie
@@ -20,4 +21,4 @@ restrict-spec =
     (λ c. search needs)
     (λ c. search needs)
     (λ c. search needs)
-    (λ c. search (needs, restrict-read)))
+    (λ c. search (needs, restrict-read, numbers-onward)))

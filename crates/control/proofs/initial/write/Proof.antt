@@ -1,9 +1,9 @@
--- The counters over zeros; then its loop gives a station more its token. Assumes nothing.
+-- The counters and the SID table over zeros; then its loop gives a station more its token. Assumes nothing.
 use Prim.Native.Nat.{_-_}
 use mathlib.Core.Path.{refl}
 use borrow.Author.Needs.{needs}
 use Rattle.rules.specs.State.{stationCount}
-use Rattle.control.proofs.Beginning.{Begun, begun-none, begun-more, begun-all}
+use Rattle.control.proofs.Beginning.{Begun, words-in, sids-long, sids-zero, begun-none, begun-more, begun-all}
 use Rattle.control.proofs.initial.write.Statement.{statement}
 use Rattle.control.proofs.initial.write.Tie as tie
 
@@ -20,7 +20,11 @@ write-spec =
     (λ c κs. search needs)
     (λ c. search needs)
     (λ c. search needs)
-    (λ c. begun-none (c .before .before .zero-words .ensures) refl)
+    (λ c. search needs)
+    (λ c. search needs)
+    (λ c. search (needs, words-in))
+    (λ c κs. search (needs, sids-zero, sids-long))
+    (λ c. begun-none (c .before .before .before .before .before .before .zero-words .ensures) (c .before .before .write-sids .ensures) refl)
     (λ c. search needs)
     (λ c κs. search needs)
     (λ c. search needs)

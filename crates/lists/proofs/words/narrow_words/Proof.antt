@@ -3,8 +3,8 @@ use Prim.Native.Nat.{_-_, _/_}
 use mathlib.Core.Path.{refl}
 use lib.ListN.{length}
 use borrow.Author.Needs.{needs}
-use Rattle.rules.specs.Memory.{word32}
-use Rattle.lists.specs.Tests.{isZero, isNarrow}
+use Rattle.rules.specs.Basic.{isZero, word32}
+use Rattle.lists.specs.Tests.{isNarrow}
 use Rattle.lists.proofs.Truth.{narrow-none}
 use Rattle.lists.proofs.Loops.{or-none, Gathered, gathered-none, gathered-more, gathered-done}
 use Rattle.lists.proofs.words.narrow_words.Statement.{statement}

@@ -3,7 +3,7 @@ use Prim.Native.Nat.{_-_}
 use mathlib.Core.Path.{refl}
 use lib.ListN.{length}
 use borrow.Author.Needs.{needs}
-use Rattle.lists.specs.Tests.{isZero}
+use Rattle.rules.specs.Basic.{isZero}
 use Rattle.lists.proofs.Loops.{or-none, Gathered, gathered-none, gathered-more, gathered-done}
 use Rattle.lists.proofs.words.zero_words.Statement.{statement}
 use Rattle.lists.proofs.words.zero_words.Tie as tie

@@ -1,0 +1,9 @@
+pub mod Loops
+pub mod Parts
+pub mod Reading
+pub mod Writing
+pub mod Finding
+pub mod Exact
+pub mod Entering
+pub mod Entered
+pub mod Numbers

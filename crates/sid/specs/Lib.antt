@@ -1,0 +1,4 @@
+pub mod Tests
+pub mod Reading
+pub mod Finding
+pub mod Numbers
