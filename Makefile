@@ -23,7 +23,7 @@ libdir = build
 endif
 library = $(libdir)/libobriska.a
 
-.PHONY: lib help play talk example install check-hosts check-c bench-numbers clean
+.PHONY: lib help play talk example install check-hosts check-c check-same bench-numbers clean
 .PHONY: need-cargo need-cc need-checks need-benches
 lib: $(library)
 
@@ -34,6 +34,7 @@ help:
 	@echo "make example             build/first_minute, the example host in C"
 	@echo "make install PREFIX=..   headers, library and pkg-config file (DESTDIR is honoured)"
 	@echo "make check-hosts         tests of the C headers and example, the Rust crate and talk"
+	@echo "make check-same          compiles the library once more: it is the same byte for byte"
 	@echo "make bench-numbers       times the number reader beside the one before it"
 	@echo "make clean               removes build/ and host/target/"
 
@@ -104,6 +105,16 @@ install: $(library)
 
 check-c: need-checks $(library)
 	@OBRISKA_LIB_DIR=$(abspath $(libdir)) host/c/check
+
+# The archive is compiled once more and compared.
+check-same: $(library)
+	@rm -f target/staticlib/libbroker.a
+	@host/progress $(libdir)/again.log rt staticlib broker
+	@if cmp $(library) target/staticlib/libbroker.a; then \
+	    echo "test result: ok. 1 passed; 0 failed"; \
+	else \
+	    echo "test result: FAILED. 0 passed; 1 failed"; exit 1; \
+	fi
 
 check-hosts: need-cargo check-c
 	$(cargo) test $(host)

@@ -48,6 +48,8 @@ extern "C" {
 #define OBRISKA_VERSION_MAJOR 0
 #define OBRISKA_VERSION_MINOR 2
 #define OBRISKA_VERSION_PATCH 0
+#define OBRISKA_VERSION_NUMBER \
+    (65536 * OBRISKA_VERSION_MAJOR + 256 * OBRISKA_VERSION_MINOR + OBRISKA_VERSION_PATCH)
 
 /* The layout of the lent memory, raised whenever that changes. Store it with memory that is to be lent
  * again later, and start anew where it differs: docs/MEMORY.md has the form and all layouts. */
@@ -392,6 +394,11 @@ size_t obriska_find(const struct obriska_handle *handles, size_t handles_len, ui
  * the number's row is no SID's, which valid memory never has. Reads `control` alone. */
 size_t obriska_sid(const uint64_t *control, size_t control_len, uint32_t number, uint8_t *out,
                    size_t out_len);
+
+/* The edition of the library that is linked: OBRISKA_VERSION_NUMBER and OBRISKA_LAYOUT where it is this
+ * header's. A host that loads the library at run time, or links one that was built elsewhere, compares. */
+uint32_t obriska_version(void);
+uint32_t obriska_layout(void);
 
 /* ---- the same on one struct ------------------------------------------------------------------ */
 

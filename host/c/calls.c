@@ -663,6 +663,8 @@ static void the_version_is_made_of_its_parts(void)
     snprintf(version, sizeof version, "%d.%d.%d", OBRISKA_VERSION_MAJOR, OBRISKA_VERSION_MINOR,
              OBRISKA_VERSION_PATCH);
     EXPECT(strcmp(version, OBRISKA_VERSION) == 0);
+    EXPECT(obriska_version() == OBRISKA_VERSION_NUMBER);
+    EXPECT(obriska_layout() == OBRISKA_LAYOUT);
 }
 
 int main(void)

@@ -6,6 +6,7 @@ ghost use Rattle.handle.specs.Meaning.{slotsOf};
 ghost use Rattle.handle.specs.Loaded.{loaded};
 ghost use Rattle.valid.specs.Meaning.{memoryOf};
 ghost use Rattle.control.specs.Sids.{SidWritten};
+ghost use Rattle.broker.specs.Edition.{version, layout};
 ghost use Rattle.start.specs.Promise.{StartPromise, ReconnectPromise};
 ghost use Rattle.calls.specs.Promise.{FeedPromise};
 use calls::Fed;
@@ -103,4 +104,20 @@ pub extern "C" fn obriska_sid(control: &[u64], number: u32, out: &mut [u8]) -> u
     ensures { λ r. ⌜ SidWritten (now (control .entry)) number (now (out .entry)) (now (out .exit)) r ⌝ }
 {
     sids::write(control, number, out)
+}
+
+// The edition that is linked: major, minor and patch, a byte each.
+#[no_mangle]
+pub extern "C" fn obriska_version() -> u32
+    ensures { λ r. ⌜ r ≡ version ⌝ }
+{
+    0x000200
+}
+
+// The layout of the lent memory that it takes.
+#[no_mangle]
+pub extern "C" fn obriska_layout() -> u32
+    ensures { λ r. ⌜ r ≡ layout ⌝ }
+{
+    6
 }

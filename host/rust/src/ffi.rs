@@ -87,6 +87,20 @@ extern "C" {
         out: *mut u8,
         out_len: usize,
     ) -> usize;
+
+    fn obriska_version() -> u32;
+
+    fn obriska_layout() -> u32;
+}
+
+pub(crate) fn version() -> u32 {
+    // SAFETY: it takes nothing and touches no memory.
+    unsafe { obriska_version() }
+}
+
+pub(crate) fn layout() -> u32 {
+    // SAFETY: it takes nothing and touches no memory.
+    unsafe { obriska_layout() }
 }
 
 pub(crate) fn start(m: &mut Memory) -> u32 {

@@ -94,6 +94,8 @@ pub use refusal::Refusal;
 #[cfg(feature = "alloc")]
 pub use restore::{Restore, RestoreError};
 pub use terms::{Client, Elevation, Group, Level, Privileges, TokenType, NO_CLIENT, NO_ROOT};
+#[cfg(feature = "std")]
+pub use version::{library_layout, library_version};
 pub use version::{LAYOUT, VERSION};
 #[cfg(feature = "std")]
 pub use view::{Handle, Station, Token};

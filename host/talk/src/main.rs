@@ -29,7 +29,7 @@ Sends each line of SCRIPT, or of standard input, to a broker at its start and pr
   --hex      shows the bytes both ways
   --words    the names that lines may have, one a line, for completion
   --help     this text and the requests
-  --version  the program's name and version
+  --version  the program's version and the library's
 
 Ends with 0; with 1 if a line was bad (it is named, and nothing is sent), an answer was not as
 expected, or a file could not be saved or loaded; with 2 if the words on the command line were bad,
@@ -56,7 +56,12 @@ fn main() -> ExitCode {
                 return ExitCode::SUCCESS;
             }
             "--version" => {
-                println!("obriska-talk {}", env!("CARGO_PKG_VERSION"));
+                let [major, minor, patch] = obriska::library_version();
+                println!(
+                    "obriska-talk {}, library {major}.{minor}.{patch}, layout {}",
+                    env!("CARGO_PKG_VERSION"),
+                    obriska::library_layout()
+                );
                 return ExitCode::SUCCESS;
             }
             _ if !word.starts_with('-') && options.script.is_none() => options.script = Some(word),

@@ -268,8 +268,10 @@ fn the_words_for_completion_stand_one_in_a_line() {
 }
 
 #[test]
-fn the_version_is_the_packages() {
+fn the_version_is_the_packages_and_the_librarys() {
     let version = talk(&["--version"], "0: open all\n");
-    let expected = concat!("obriska-talk ", env!("CARGO_PKG_VERSION"), "\n");
-    assert_eq!((text(&version.stdout), version.status.code()), (expected, Some(0)));
+    let package = env!("CARGO_PKG_VERSION");
+    let expected =
+        format!("obriska-talk {package}, library {package}, layout {}\n", obriska::LAYOUT);
+    assert_eq!((text(&version.stdout), version.status.code()), (&*expected, Some(0)));
 }
