@@ -13,6 +13,7 @@ use Rattle.rules.specs.Given.{Given, byNumber, bySid, GivenGroup}
 use Rattle.rules.specs.Request.{Reader, _>>=_, follow, give, times, u32, sidNumber, packedSid, group}
 use Rattle.rules.proofs.Sids.{whole}
 use Rattle.sid.specs.Reading.{packedSize}
+use Rattle.sid.proofs.Reading.{size-zero, size-some, size-is}
 use Rattle.number.specs.Rest.{Rest, rest, lost, readFrom, after}
 use Rattle.number.specs.Meaning.{restOf, FieldAfter, Onward}
 use Rattle.number.specs.declared.cursor.Cursor.{Cursor}
@@ -112,24 +113,13 @@ module _ (bytes : List ℕ) where
   -- by its size r, 0 where none is
   module _ (r : ℕ) (e : r ≡ packedSize bytes) where
     size-packed : (r ≡ 0 → ⊥) → isPacked bytes ≡ true
-    unfolding packedSize
-    size-packed ne = by (isPacked bytes) e
-      where
-        by : (b : Bool) → r ≡ (if b then sidSize bytes else 0) → b ≡ true
-        by true d = refl
-        by false d = absurd (ne d)
+    size-packed ne = size-some bytes (λ z. ne (e ∙ z))
 
-    size-zero : r ≡ 0 → isPacked bytes ≡ false
-    unfolding packedSize sidSize
-    size-zero z = by (isPacked bytes) e
-      where
-        by : (b : Bool) → r ≡ (if b then sidSize bytes else 0) → b ≡ false
-        by true d = absurd (omega (arith, d, z))
-        by false d = refl
+    size-none : r ≡ 0 → isPacked bytes ≡ false
+    size-none z = size-zero bytes (sym e ∙ z)
 
     size-whole : (r ≡ 0 → ⊥) → r ≡ sidSize bytes
-    unfolding packedSize
-    size-whole ne = e ∙ rw (size-packed ne)
+    size-whole ne = e ∙ size-is bytes (size-packed ne)
 
     size-fits : (r ≡ 0 → ⊥) → r ≤ length bytes
     size-fits ne = omega (arith, size-whole ne, whole bytes (size-packed ne))
@@ -137,7 +127,7 @@ module _ (bytes : List ℕ) where
 -- what stands at a place, by its size
 module _ (s : List ℕ) (at r : ℕ) (e : r ≡ packedSize (drop at s)) where
   pub no-sid : r ≡ 0 → bad ≡ packedSid (drop at s)
-  no-sid z = packed-none (drop at s) (size-zero (drop at s) r e z)
+  no-sid z = packed-none (drop at s) (size-none (drop at s) r e z)
 
   module _ (ne : r ≡ 0 → ⊥) where
     pub sid-packed : isPacked (drop at s) ≡ true

@@ -9,7 +9,7 @@ use lib.ListN.{length, take, drop, getD, set}
 use borrow.Author.Tests.{eq-eqb, ne-eqb}
 use lib.Seq.{drop-at, take-append-add, drop-append-add}
 use Rattle.table.specs.Table.{flat}
-use Rattle.table.specs.Sections.{Sectioned, placeOf, joined, section-part, section-word, sections-long}
+use Rattle.table.specs.Sections.{placeOf, joined, section-part, section-word, sections-long}
 use Rattle.rules.specs.Basic.{if_then_else_}
 use Rattle.rules.specs.Number.{got}
 use Rattle.rules.specs.Sid.{Sid, packed}

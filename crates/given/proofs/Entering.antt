@@ -1,7 +1,7 @@
 -- A SID enters where the words hold the first 256 of a list: it is one of these, or there is room behind them, or there is none. Assumes nothing.
-use Prim.Native.Nat.{ℕ, zero, suc, _+_, _-_, _≤_, _<_, min}
+use Prim.Native.Nat.{ℕ, zero, suc, _+_, _-_, _≤_, _<_}
 use native.Mathlib.Omega.{arith}
-use mathlib.Core.Path.{_≡_, refl, sym, ap, ap₂, _∙_, subst}
+use mathlib.Core.Path.{_≡_, refl, sym, ap, _∙_, subst}
 use mathlib.Core.Bool.{Bool, true, false, _&&_, _||_, and-true, and-false}
 use mathlib.Core.Logic.{_⊎_, inl, inr, ⊎-elim}
 use mathlib.Core.List.{List, [], _∷_, _++_, append-assoc, append-nil}
@@ -10,7 +10,7 @@ use lib.ListN.{length, take, drop, length-take, length-append, take-append-drop}
 use lib.Seq.{take-all, take-at}
 use borrow.Author.Tests.{eqb-true, lt-ltb, le-ltb, ltb-true, ltb-false}
 use Rattle.rules.specs.Basic.{if_then_else_}
-use Rattle.rules.specs.Sid.{Sid, validSid, sameSid}
+use Rattle.rules.specs.Sid.{Sid, sameSid}
 use Rattle.rules.specs.SidTable.{maxSids, numberAt, isIn, placeOf, numberOf, entered, fitsTable, sidsValid}
 use Rattle.rules.specs.SidRows.{sidWords, rowSid, writeSids, sidsAt, sidWordsValid}
 use Rattle.rules.proofs.Logic.{and-l, and-r, not-both, either}
@@ -195,14 +195,6 @@ module _ (x ws ws′ : List ℕ) (place : ℕ) (rowed : Rowed x) (e : EnteredAs 
   held-so : Capped (entered (rowSid x) sids) ws′
   held-so = cases _ (known-held x ws ws′ place rowed e sids c) (new-held x ws ws′ place rowed e sids c) (none-held x ws ws′ place rowed e sids c)
 
-  -- a place below 256 is room
-  roomy : (ltb place maxSids ≡ true) ⊎ (ltb place maxSids ≡ false)
-  roomy = either (ltb place maxSids)
-
-  pub upto : place ≤ maxSids
-  upto = cases _ (λ h. omega (arith, known-below x ws ws′ place rowed e sids c h)) (λ h r. omega (arith, past x ws ws′ place rowed e sids c h, r))
-      (λ h f. omega (arith, past x ws ws′ place rowed e sids c h, few x ws ws′ place rowed e sids c))
-
   fits-so : fitsTable (entered (rowSid x) sids) ≡ (fitsTable sids && ltb place maxSids)
   fits-so =
       cases _
@@ -220,14 +212,6 @@ module _ (x ws ws′ : List ℕ) (place : ℕ) (rowed : Rowed x) (e : EnteredAs 
       cases _ (λ h. absurd (omega (arith, ltb-false place maxSids t, known-below x ws ws′ place rowed e sids c h)))
       (λ h r. absurd (omega (arith, ltb-false place maxSids t, past x ws ws′ place rowed e sids c h, r)))
       (none-number x ws ws′ place rowed e sids c)
-
--- valid words hold the SIDs that they stand for
-pub place-upto : {x ws ws′ : List ℕ} {place : ℕ} → sidWordsValid ws ≡ true → EnteredAs x ws ws′ place → place ≤ maxSids
-unfolding sidWordsValid
-place-upto {x} {ws} {place = place} v e =
-    let ok : sidsValid (sidsAt ws) ≡ true = search (and-l, and-r) in
-    let few = sids-few (sidsAt ws) ok in
-    ⊎-elim (λ h. omega (arith, e .place, place-in (rowSid x) (rowSid x) (sidsAt ws) h .0, few)) (λ h. omega (arith, e .place, absent-place (rowSid x) (sidsAt ws) h, few)) (either (isIn (rowSid x) (sidsAt ws)))
 
 -- the words stay as many
 pub same-long : {x ws ws′ : List ℕ} {place : ℕ} → sidWordsValid ws ≡ true → EnteredAs x ws ws′ place → length ws′ ≡ length ws

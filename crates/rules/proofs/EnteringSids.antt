@@ -2,7 +2,7 @@
 use Prim.Native.Nat.{ℕ}
 use mathlib.Core.Path.{_≡_, refl, ap}
 use mathlib.Core.Bool.{true, false}
-use mathlib.Core.List.{List, [], _∷_, map}
+use mathlib.Core.List.{List, []}
 use Rattle.rules.specs.AdjustDefaults as AdjustDefaults
 use Rattle.rules.specs.AdjustGroups as AdjustGroups
 use Rattle.rules.specs.AdjustPrivileges as AdjustPrivileges

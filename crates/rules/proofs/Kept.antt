@@ -40,7 +40,7 @@ use Rattle.rules.specs.Request as Request
 use Rattle.rules.specs.Request.{parse, Request}
 use Rattle.rules.specs.Restrict as Restrict
 use Rattle.rules.specs.Serve.{rule, decided, decision, serve}
-use Rattle.rules.specs.State.{stationCount, withTokens, setToken, setClient, numberOf, tokenOf, callerNumber, caller, held, putToken, changeToken, usedOn, used, canAddToken, handleOf, canAddHandle, released, entering, withSids, State}
+use Rattle.rules.specs.State.{stationCount, withTokens, setToken, setClient, numberOf, tokenOf, callerNumber, caller, held, putToken, changeToken, usedOn, used, canAddToken, handleOf, canAddHandle, released, entering, State}
 use Rattle.rules.specs.Station.{noClient}
 use Rattle.rules.specs.Table.{someFree, withSlots, canAdd}
 use Rattle.rules.specs.Token.{maxGroups, maxRestricting, primary, impersonation, full, limited, primaryOf, newToken, withPrivileges, withElevation, Token, Identity}

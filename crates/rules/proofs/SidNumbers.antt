@@ -373,9 +373,6 @@ unfolding enteredAll enteredBy
 all-entered-in (x ∷ xs) s ss (here e) = stays-in xs s (enteredBy x ss) (ap (λ (y : Given). isIn s (enteredBy y ss)) (sym e) ∙ entered-in s ss)
 all-entered-in (x ∷ xs) s ss (there m) = all-entered-in xs s (enteredBy x ss) m
 
-pub all-entered-number : (xs : List Given) (s : Sid) (ss : List Sid) → 2 ≤ length ss → Mem (bySid s) xs → isNumber (enteredAll xs ss) (numberOf (enteredAll xs ss) s) ≡ true
-all-entered-number xs s ss l m = number-is s (enteredAll xs ss) (omega (arith, enteredAll-long xs ss)) (all-entered-in xs s ss m)
-
 unfoldable pub isByNumber : Given → Bool
 isByNumber (byNumber n) = true
 isByNumber (bySid s) = false

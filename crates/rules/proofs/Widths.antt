@@ -9,7 +9,7 @@ use borrow.Author.Tests.{lt-ltb}
 use Rattle.rules.specs.Basic.{all, isBelow}
 use Rattle.rules.specs.Condition.{Condition, allOf, anyOf, negated, privilegeEnabled, groupEnabled, Conditions, none, more, maxDepth}
 use Rattle.rules.specs.Entry.{Entry}
-use Rattle.rules.specs.Given.{Given, GivenGroup, groupSid, bySid}
+use Rattle.rules.specs.Given.{Given, GivenGroup, groupSid}
 use Rattle.rules.specs.Sid.{packed, readSid, validSid, Sid}
 use Rattle.rules.specs.Growth.{Mem}
 use Rattle.rules.specs.Number.{max16, max32, max64, readNumber, Read, got, bad}

@@ -1,5 +1,4 @@
 -- What enters the SID table: a refused request enters none, and a success the SIDs that it gives packed, in its order. Assumes nothing.
-use Prim.Native.Nat.{ℕ}
 use mathlib.Core.Path.{_≡_}
 use mathlib.Core.List.{List, [], _∷_, map}
 use Rattle.rules.specs.Number.{Read, got, bad}

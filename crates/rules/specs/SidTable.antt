@@ -22,7 +22,7 @@ numberAt zero = anonymous
 numberAt (suc zero) = system
 numberAt (suc (suc k)) = firstNumber + k
 
--- n is the number of one of them
+-- n is the number of one of them: two are below 32, and the others follow without gaps
 unfoldable pub isNumber : List Sid → ℕ → Bool
 isNumber sids n = eqb n anonymous || eqb n system || (leb firstNumber n && ltb n (30 + length sids))
 

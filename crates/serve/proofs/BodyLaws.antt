@@ -1,16 +1,12 @@
 -- A whole body: its request number chooses the layout. Assumes nothing.
-use Prim.Native.Nat.{ℕ, zero, suc, _≤_}
+use Prim.Native.Nat.{ℕ, zero, suc}
 use native.Mathlib.Omega.{arith}
 use mathlib.Core.Path.{_≡_, refl, sym, ap, _∙_}
-use mathlib.Core.Logic.{⊎-elim}
 use mathlib.Core.List.{List}
-use lib.Dec.{eqb}
 use lib.ListN.{getD, List·getD-eq-default}
-use borrow.Author.Tests.{eqb-true, eqb-false}
 use Rattle.rules.specs.Number.{bad}
 use Rattle.rules.specs.Request.{Request, Reader, layouts, unknown, parse}
 use Rattle.rules.specs.Serve.{decision, serve}
-use Rattle.rules.proofs.Logic.{either}
 use Rattle.number.specs.Rest.{Rest, rest, lost, readFrom}
 use Rattle.number.specs.Meaning.{restOf}
 use Rattle.number.specs.declared.cursor.Field.{Field}

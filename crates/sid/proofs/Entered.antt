@@ -7,16 +7,16 @@ use mathlib.Core.Logic.{_⊎_, inl, inr, ⊎-elim}
 use mathlib.Core.List.{List, [], _∷_, _++_}
 use lib.ListN.{length, take, drop, getD, length-drop, length-take, length-append}
 use lib.Seq.{take-all, take-take}
-use Rattle.rules.specs.Basic.{if_then_else_, isBelow, all}
-use Rattle.rules.specs.Sid.{Sid, noSid, validSid, isPacked, sidIn}
+use Rattle.rules.specs.Basic.{if_then_else_, isBelow}
+use Rattle.rules.specs.Sid.{Sid, noSid, validSid}
 use Rattle.rules.specs.SidTable.{maxSids, isIn, placeOf, entered, fitsTable, sidsValid}
 use Rattle.rules.specs.SidRows.{rowWords, sidRow, rowSid, rank, rowAt, rowsAt, sidWords, writeSids, sidsAt, sidWordsValid}
 use Rattle.rules.specs.Growth.{Mem}
 use Rattle.rules.proofs.Logic.{either, mem-all}
-use Rattle.rules.proofs.Sids.{is-below, sid-valid, row-back, row-one, length-row}
+use Rattle.rules.proofs.Sids.{is-below, row-back, row-one, length-row}
 use Rattle.rules.proofs.SidOrder.{every, rising-distinct, order-below}
-use Rattle.rules.proofs.SidNumbers.{at-in, place-in, absent-place, sids-fit, sids-few, sid-at, entered-valid, entered-known, entered-new, few-fit, many-unfit}
-use Rattle.rules.proofs.SidWords.{rowsOf, placesOf, length-rowsOf, length-placesOf, count-in, places-in, rows-in, row-of, places-rise, places-front, read-back, written-valid, words-size, words-written, words-valid}
+use Rattle.rules.proofs.SidNumbers.{at-in, place-in, absent-place, sids-fit, sids-few, sid-at, entered-known, entered-new, few-fit, many-unfit}
+use Rattle.rules.proofs.SidWords.{rowsOf, placesOf, length-rowsOf, length-placesOf, count-in, places-in, rows-in, row-of, places-rise, places-front, words-size, words-written, words-valid}
 use Rattle.sid.specs.Finding.{Sought, FoundAt, added, Rowed, EnteredAs}
 use Rattle.sid.proofs.Entering.{added-written}
 
@@ -168,43 +168,6 @@ place-upto s ss =
 pub rowed : (s : Sid) → validSid s ≡ true → Rowed (sidRow s)
 rowed s v = record { same = ap sidRow (row-back s v); sound = ap validSid (row-back s v) ∙ v }
 
--- and of a packed one
-pub packed-rowed : (bytes : List ℕ) → all (isBelow 256) bytes ≡ true → isPacked bytes ≡ true → Rowed (sidRow (sidIn bytes))
-packed-rowed bytes h p = rowed (sidIn bytes) (sid-valid bytes p h)
-
--- where it fits, the words are the longer table's, and valid
-module _ {x ws ws′ : List ℕ} {r : ℕ} (v : sidWordsValid ws ≡ true) (x-row : Rowed x) (h : EnteredAs x ws ws′ r) where
-  module _ (f : fitsTable (entered (rowSid x) (sidsAt ws)) ≡ true) where
-    written : ws′ ≡ writeSids (entered (rowSid x) (sidsAt ws))
-    written = h .written ∙ rw f refl
-
-    longer-valid : sidsValid (entered (rowSid x) (sidsAt ws)) ≡ true
-    longer-valid = entered-valid (rowSid x) (sidsAt ws) (words-valid ws v) (x-row .sound) f
-
-    pub entered-sids : sidsAt ws′ ≡ entered (rowSid x) (sidsAt ws)
-    entered-sids = ap sidsAt written ∙ read-back (entered (rowSid x) (sidsAt ws)) longer-valid
-
-    pub entered-words : sidWordsValid ws′ ≡ true
-    entered-words = ap sidWordsValid written ∙ written-valid (entered (rowSid x) (sidsAt ws)) longer-valid
-
-  -- where it doesn't, they stay
-  pub entered-not : fitsTable (entered (rowSid x) (sidsAt ws)) ≡ false → ws′ ≡ ws
-  entered-not f = h .written ∙ rw f refl
-
-  -- the place is below 256 just where it fits
-  pub entered-place : r ≤ maxSids
-  entered-place = omega (arith, h .place, place-upto (rowSid x) (sidsAt ws), sids-few (sidsAt ws) (words-valid ws v))
-
-  pub place-fits : r < maxSids → fitsTable (entered (rowSid x) (sidsAt ws)) ≡ true
-  place-fits l =
-      ⊎-elim (λ i. ap fitsTable (entered-known (rowSid x) (sidsAt ws) i) ∙ sids-fit (sidsAt ws) (words-valid ws v))
-      (λ i. ap fitsTable (entered-new (rowSid x) (sidsAt ws) i)
-      ∙ few-fit (sidsAt ws ++ (rowSid x ∷ [])) (omega (arith, h .place, absent-place (rowSid x) (sidsAt ws) i, length-append (sidsAt ws) (rowSid x ∷ []))))
-      (either (isIn (rowSid x) (sidsAt ws)))
-
-  pub no-place : maxSids ≤ r → fitsTable (entered (rowSid x) (sidsAt ws)) ≡ false
-  no-place l =
-      ⊎-elim (λ i. absurd (omega (arith, h .place, place-in (rowSid x) noSid (sidsAt ws) i .0, sids-few (sidsAt ws) (words-valid ws v))))
-      (λ i. ap fitsTable (entered-new (rowSid x) (sidsAt ws) i)
-      ∙ many-unfit (sidsAt ws ++ (rowSid x ∷ [])) (omega (arith, h .place, absent-place (rowSid x) (sidsAt ws) i, length-append (sidsAt ws) (rowSid x ∷ []))))
-      (either (isIn (rowSid x) (sidsAt ws)))
+-- the place of what was entered, 256 where there was no room
+pub entered-place : {x ws ws′ : List ℕ} {r : ℕ} → sidWordsValid ws ≡ true → EnteredAs x ws ws′ r → r ≤ maxSids
+entered-place {x} {ws} v h = omega (arith, h .place, place-upto (rowSid x) (sidsAt ws), sids-few (sidsAt ws) (words-valid ws v))

@@ -10,8 +10,7 @@ use lib.ListN.{length, take, drop, getD, set, length-set, length-drop, replicate
 use lib.Seq.{drop-cons, take-all, drop-drop, take-suc, take-suc-set, getD-drop}
 use borrow.Author.Tests.{eq-eqb, ne-eqb, le-leb, lt-leb}
 use Rattle.rules.specs.Basic.{if_then_else_, word32}
-use Rattle.rules.specs.Number.{got, bad}
-use Rattle.rules.specs.Sid.{maxSubs, fromBytes, sidSize, isPacked, subsIn, sidIn, readSid}
+use Rattle.rules.specs.Sid.{maxSubs, fromBytes, sidSize, isPacked, subsIn, sidIn}
 use Rattle.rules.specs.SidRows.{rowWords, pairs, sidRow}
 use Rattle.rules.proofs.Sids.{length-subsIn, long-8, revision-1, count-15, whole, length-row}
 use Rattle.sid.specs.Reading.{packedSize}
@@ -264,11 +263,3 @@ module _ (bytes : List ℕ) where
   pub size-is : isPacked bytes ≡ true → packedSize bytes ≡ sidSize bytes
   unfolding packedSize
   size-is p = rw p refl
-
-  pub read-none : packedSize bytes ≡ 0 → readSid bytes ≡ bad
-  unfolding readSid
-  read-none h = rw (size-zero h) refl
-
-  pub read-some : (packedSize bytes ≡ 0 → ⊥) → readSid bytes ≡ got (sidIn bytes) (drop (packedSize bytes) bytes)
-  unfolding readSid
-  read-some h = rw (size-some h, size-is (size-some h)) refl

@@ -1,5 +1,4 @@
 -- Six words over zeros. Assumes nothing.
-use mathlib.Core.Path.{refl}
 use borrow.Author.Needs.{needs}
 use Rattle.control.proofs.Beginning.{first-sids}
 use Rattle.control.proofs.initial.write_sids.Statement.{statement}

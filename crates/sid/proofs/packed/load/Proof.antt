@@ -1,6 +1,5 @@
 -- sid::packed::load meets its contract: its loop fills the row. Assumes nothing.
 use Prim.Native.Nat.{_-_}
-use native.Mathlib.Omega.{arith}
 use borrow.Author.Needs.{needs}
 use Rattle.rules.specs.SidRows.{rowWords}
 use Rattle.sid.proofs.Reading.{load-low, load-high, load-one, load-place, load-next, Loading, loading-none, loading-more, loading-done}

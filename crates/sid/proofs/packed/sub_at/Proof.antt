@@ -1,5 +1,4 @@
 -- sid::packed::sub_at meets its contract. Assumes nothing.
-use native.Mathlib.Omega.{arith}
 use borrow.Author.Needs.{needs}
 use Rattle.sid.proofs.Reading.{sub-start, sub-fits, sub-room, sub-there, sub-none}
 use Rattle.sid.proofs.packed.sub_at.Statement.{statement}
