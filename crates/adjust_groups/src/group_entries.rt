@@ -14,14 +14,14 @@ use privilege::words;
 use token::words::unpack;
 
 // The ENABLED bits from before; where the refusal is not 0, some entry is bad or asks for what is protected, and nothing changed.
-#[derive(Drop)]
+#[derive(Clone, Copy)]
 pub struct Switched {
     pub refusal: u64,
     pub previous: u64,
 }
 
 // Whether no entry asked for what is protected, and the word of the indexes named so far, as long as no entry was bad.
-#[derive(Drop)]
+#[derive(Clone, Copy)]
 struct Progress {
     ok: bool,
     free: bool,

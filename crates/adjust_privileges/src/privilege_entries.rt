@@ -14,7 +14,7 @@ use privilege::words;
 const RESET: u64 = 0x8000_0000;
 
 // The privileges after the entries, and which of those named were present and enabled before; or, where not ok, some entry is bad.
-#[derive(Drop)]
+#[derive(Clone, Copy)]
 pub struct Adjusted {
     pub ok: bool,
     pub privileges: Privileges,
@@ -23,7 +23,7 @@ pub struct Adjusted {
 }
 
 // The privileges so far and the word of those named so far, as long as no entry was bad.
-#[derive(Drop)]
+#[derive(Clone, Copy)]
 struct Progress {
     ok: bool,
     made: Privileges,

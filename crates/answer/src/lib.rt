@@ -28,7 +28,7 @@ const MAX_NUMBERS: usize = 2 + 2 * MAX_GROUPS;
 // The status, a count and all restricting SIDs.
 const MAX_SIDS: usize = 2 + MAX_RESTRICTING;
 
-#[derive(Drop)]
+#[derive(Clone, Copy)]
 pub enum Answer {
     // A refusal by its number.
     Refused(u64),

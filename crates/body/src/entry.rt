@@ -6,7 +6,7 @@ ghost use Rattle.body.specs.Entries.{PairAt, is_just};
 use number::Number;
 
 // An entry and the place after it, or none.
-#[derive(Drop)]
+#[derive(Clone, Copy)]
 pub enum Pair {
     Got { key: u64, value: u64, next: usize },
     Bad,

@@ -1,14 +1,14 @@
 // What a body says, by the layout of its request: ok if it was whole, and its fields.
 
 // Requests 1, 2, 11, 12 and 17: a mask or a handle.
-#[derive(Drop)]
+#[derive(Clone, Copy)]
 pub struct One {
     pub ok: bool,
     pub value: u32,
 }
 
 // Request 4.
-#[derive(Drop)]
+#[derive(Clone, Copy)]
 pub struct QueryFields {
     pub ok: bool,
     pub handle: u32,
@@ -17,7 +17,7 @@ pub struct QueryFields {
 }
 
 // Request 7.
-#[derive(Drop)]
+#[derive(Clone, Copy)]
 pub struct ScopeFields {
     pub ok: bool,
     pub handle: u32,
@@ -25,7 +25,7 @@ pub struct ScopeFields {
 }
 
 // Request 9; `kind` is the type.
-#[derive(Drop)]
+#[derive(Clone, Copy)]
 pub struct DuplicateFields {
     pub ok: bool,
     pub handle: u32,
@@ -35,7 +35,7 @@ pub struct DuplicateFields {
 }
 
 // Request 16.
-#[derive(Drop)]
+#[derive(Clone, Copy)]
 pub struct LinkFields {
     pub ok: bool,
     pub elevated: u32,
@@ -44,7 +44,7 @@ pub struct LinkFields {
 }
 
 // Requests 5 and 6: count entries from a place on.
-#[derive(Drop)]
+#[derive(Clone, Copy)]
 pub struct EntriesFields {
     pub ok: bool,
     pub handle: u32,
@@ -53,7 +53,7 @@ pub struct EntriesFields {
 }
 
 // Request 8: size bytes from a place on.
-#[derive(Drop)]
+#[derive(Clone, Copy)]
 pub struct DefaultsFields {
     pub ok: bool,
     pub handle: u32,
@@ -65,7 +65,7 @@ pub struct DefaultsFields {
 }
 
 // Request 3: count groups from a place on.
-#[derive(Drop)]
+#[derive(Clone, Copy)]
 pub struct CreateFields {
     pub ok: bool,
     pub user: u32,
@@ -78,7 +78,7 @@ pub struct CreateFields {
 }
 
 // Request 14: the user's packed SID and count groups, each from a place on.
-#[derive(Drop)]
+#[derive(Clone, Copy)]
 pub struct PackedCreateFields {
     pub ok: bool,
     pub user_at: usize,
@@ -91,7 +91,7 @@ pub struct PackedCreateFields {
 }
 
 // Requests 10 and 15: the indexes to deny and the restricting SIDs, each from a place on.
-#[derive(Drop)]
+#[derive(Clone, Copy)]
 pub struct RestrictFields {
     pub ok: bool,
     pub handle: u32,

@@ -16,7 +16,7 @@ pub const MAX_ANSWER: usize = 1024;
 
 // What a feed returns: the refusal (0, or 11 to 13), the bytes used, the whole answer's length.
 #[repr(C)]
-#[derive(Drop)]
+#[derive(Clone, Copy)]
 pub struct Fed {
     pub refusal: u32,
     pub used: usize,
@@ -24,7 +24,7 @@ pub struct Fed {
 }
 
 // What feed returns, and the one handle that changes: a slot past the end of the lent list is none.
-#[derive(Drop)]
+#[derive(Clone, Copy)]
 pub struct Turn {
     pub fed: Fed,
     pub change: Change,

@@ -13,7 +13,7 @@ use token::words::is_enabled;
 const MAX_DEPTH: u64 = 8;
 
 // What is told of a condition: its value, whether every privilege that it names exists, and the place after it.
-#[derive(Drop)]
+#[derive(Clone, Copy)]
 pub enum Told {
     Value {
         value: bool,
@@ -24,7 +24,7 @@ pub enum Told {
 }
 
 // Of all bytes from a place on: no condition, one that names a privilege that does not exist, or its value.
-#[derive(Drop)]
+#[derive(Clone, Copy)]
 pub enum Verdict {
     Bad,
     Unknown,

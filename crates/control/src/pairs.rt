@@ -8,7 +8,7 @@ ghost use Rattle.control.specs.Pairs.{PairFound, PlaceFree, PlaceGiven, RowGiven
 use crate::layout::*;
 
 // A place's row, as it stands there.
-#[derive(Drop)]
+#[derive(Clone, Copy)]
 pub struct Pair {
     pub session: u64,
     pub elevated: u64,

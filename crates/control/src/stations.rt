@@ -7,14 +7,14 @@ ghost use Rattle.control.specs.Stations.{WordGiven, CallerNumber, TokenSet, Clie
 use crate::layout::*;
 
 // The token that a station acts for and the level in force: 0 and 0 where there is none.
-#[derive(Drop)]
+#[derive(Clone, Copy)]
 pub struct Client {
     pub token: u64,
     pub level: u64,
 }
 
 // How many bytes are pending, and whether the stream is broken.
-#[derive(Drop)]
+#[derive(Clone, Copy)]
 pub struct Stream {
     pub count: usize,
     pub broken: bool,

@@ -10,7 +10,7 @@ use sid::layout::MAX_SIDS;
 use sid::number::is_number;
 
 // How many restricting SIDs the copy has, whether each SID given is in the table, and whether those that are new fit it.
-#[derive(Drop)]
+#[derive(Clone, Copy)]
 pub struct Asked {
     pub listed: u64,
     pub known: bool,

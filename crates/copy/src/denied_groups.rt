@@ -12,7 +12,7 @@ use token::layout::{HEAD_WORDS, TOKEN_WORDS};
 use token::{attributes, words};
 
 // The word of the indexes named so far, as long as every index was good.
-#[derive(Drop)]
+#[derive(Clone, Copy)]
 struct Marks {
     ok: bool,
     named: u64,

@@ -13,7 +13,7 @@ use token::layout::*;
 use token::row;
 
 // What the request asks of the token that it copies: how many groups and restricting SIDs it has, and its write-restricted mark.
-#[derive(Drop)]
+#[derive(Clone, Copy)]
 pub struct Source {
     pub groups: u64,
     pub restricting: u64,

@@ -10,7 +10,7 @@ use table::slices;
 use token::layout::{GROUPS_END, MAX_RESTRICTING, RESTRICTING_COUNT, TOKEN_WORDS};
 
 // How many SIDs a list has and, where they fit a token, the SIDs and zeros behind them.
-#[derive(Drop)]
+#[derive(Clone, Copy)]
 pub struct Sids {
     pub count: u64,
     pub words: [u64; MAX_RESTRICTING],

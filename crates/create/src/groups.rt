@@ -14,7 +14,7 @@ use token::layout::{HEAD_WORDS, MAX_GROUPS};
 use token::{Group, attributes};
 
 // How many groups were entered; ok if every pair was good.
-#[derive(Drop)]
+#[derive(Clone, Copy)]
 pub struct Groups {
     pub ok: bool,
     pub count: usize,

@@ -35,7 +35,7 @@ mod groups;
 mod packed;
 
 // ok if every field is good, room if every SID is in the table.
-#[derive(Drop)]
+#[derive(Clone, Copy)]
 pub struct Made {
     pub ok: bool,
     pub room: bool,

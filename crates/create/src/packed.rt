@@ -17,21 +17,21 @@ use token::Group;
 use token::layout::{HEAD_WORDS, MAX_GROUPS};
 
 // The number of a SID that entered, 0 without room.
-#[derive(Drop)]
+#[derive(Clone, Copy)]
 pub struct Numbered {
     pub room: bool,
     pub number: u32,
 }
 
 // The attributes of the group at a place, behind its SID, and the place after them.
-#[derive(Drop)]
+#[derive(Clone, Copy)]
 pub enum Spot {
     Got { attributes: u64, next: usize },
     Bad,
 }
 
 // How many groups were entered; ok if every pair was good, room if every SID is in the table.
-#[derive(Drop)]
+#[derive(Clone, Copy)]
 pub struct PackedGroups {
     pub ok: bool,
     pub room: bool,

@@ -11,7 +11,7 @@ use token::layout::TOKEN_SLOTS;
 use token::slots;
 
 // What the handle is refused for, 0 if nothing, and its token's slot: always one that can be lent.
-#[derive(Drop)]
+#[derive(Clone, Copy)]
 pub struct Located {
     pub refusal: u64,
     pub slot: usize,

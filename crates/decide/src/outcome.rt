@@ -7,7 +7,7 @@ use handle::{NONE, SLOTS};
 use state::handles::Change;
 
 // The answer, and the one handle that changes: a slot past the last is none.
-#[derive(Drop)]
+#[derive(Clone, Copy)]
 pub struct Outcome {
     pub answer: Answer,
     pub change: Change,

@@ -9,7 +9,7 @@ use sid::layout::MAX_SIDS;
 use sid::number::number_at;
 
 // The SID's number; where the table is full and it is new, there is no room, and the number is none of the table's.
-#[derive(Drop)]
+#[derive(Clone, Copy)]
 pub struct Entered {
     pub room: bool,
     pub number: u64,

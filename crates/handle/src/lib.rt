@@ -23,7 +23,7 @@ const WORD_16: u64 = 65536;
 
 // 16 bytes, none of them padding.
 #[repr(C)]
-#[derive(Drop)]
+#[derive(Clone, Copy)]
 pub struct Handle {
     pub station: u16,
     pub mask: u16,
@@ -40,7 +40,7 @@ pub const NONE: Handle = Handle {
 };
 
 // A slot whose number is 0 is free.
-#[derive(Drop)]
+#[derive(Clone, Copy)]
 pub struct Handles {
     pub words: [u64; HANDLE_WORDS],
 }

@@ -24,7 +24,7 @@ use token::Identity;
 const IDENTIFICATION: u8 = 1;
 
 // What is asked of the server and the client.
-#[derive(Drop)]
+#[derive(Clone, Copy)]
 struct Gate {
     // One user, and both or neither are restricted.
     alike: bool,

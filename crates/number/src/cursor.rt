@@ -8,14 +8,14 @@ ghost use Rattle.number.specs.Meaning.{rest_of, FieldAfter, Onward};
 use crate::{Number, Skipped, number_at, skip};
 
 // A place in the body. Once something was not there, ok is false and stays so.
-#[derive(Drop)]
+#[derive(Clone, Copy)]
 pub struct Cursor {
     pub at: usize,
     pub ok: bool,
 }
 
 // A field's value, 0 where it was not there, and the cursor after it.
-#[derive(Drop)]
+#[derive(Clone, Copy)]
 pub struct Field {
     pub value: u64,
     pub next: Cursor,

@@ -22,14 +22,14 @@ pub const U32: u64 = 0xFFFFFFFF;
 pub const U64: u64 = 0xFFFFFFFFFFFFFFFF;
 
 // What stands at a place: a value and the place after it, or no number of the field.
-#[derive(Drop)]
+#[derive(Clone, Copy)]
 pub enum Number {
     Value { value: u64, next: usize },
     Bad,
 }
 
 // The place after some numbers, or not so many numbers.
-#[derive(Drop)]
+#[derive(Clone, Copy)]
 pub enum Skipped {
     To(usize),
     Bad,

@@ -4,7 +4,7 @@ ghost use Rattle.number.specs.Meaning.{NumberAt};
 
 use crate::{Number, byte, read};
 
-#[derive(Drop)]
+#[derive(Clone, Copy)]
 pub struct Reader<'a> {
     pub body: &'a [u8],
     pub at: usize,

@@ -19,7 +19,7 @@ const CHUNKS: u64 = 4294967295;
 const BUFFER: usize = 65536;
 
 // After one feed: how much of the chunk is used, whether the answer was written, the handles.
-#[derive(Drop)]
+#[derive(Clone, Copy)]
 struct Step {
     used: usize,
     written: bool,
@@ -27,14 +27,14 @@ struct Step {
 }
 
 // After a chunk: whether all its answers were written, the handles.
-#[derive(Drop)]
+#[derive(Clone, Copy)]
 struct Served {
     written: bool,
     handles: Handles,
 }
 
 // After a chunk or a read: whether to go on, how many chunks it was, where the bytes held begin and end, the handles.
-#[derive(Drop)]
+#[derive(Clone, Copy)]
 struct Advanced {
     going: bool,
     chunks: u64,
@@ -44,7 +44,7 @@ struct Advanced {
 }
 
 // After all chunks: whether the program stopped before it had taken the most, how many it took, the handles.
-#[derive(Drop)]
+#[derive(Clone, Copy)]
 struct Ended {
     stopped: bool,
     chunks: u64,

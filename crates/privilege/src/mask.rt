@@ -5,7 +5,7 @@ ghost use Rattle.rules.specs.Mask.{permits, valid_mask};
 ghost use Rattle.rules.specs.Mask as rights;
 
 // A set of rights, each a bit.
-#[derive(Drop)]
+#[derive(Clone, Copy)]
 pub struct Mask(pub u32);
 
 impl Mask {

@@ -6,7 +6,7 @@ ghost use Rattle.privilege.specs.Meaning.{privileges_of, entry_of};
 
 use crate::words;
 
-#[derive(Drop)]
+#[derive(Clone, Copy)]
 pub struct Privileges {
     pub present: u64,
     pub enabled: u64,

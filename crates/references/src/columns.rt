@@ -13,7 +13,7 @@ use token::layout::{KIND, NUMBER, TOKEN_SLOTS, TOKEN_WORDS};
 use token_rows::PRIMARY;
 
 // The first `count` of `numbers`.
-#[derive(Drop)]
+#[derive(Clone, Copy)]
 pub struct Given {
     pub count: usize,
     pub numbers: [u64; TOKEN_SLOTS],

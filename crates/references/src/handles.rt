@@ -17,7 +17,7 @@ use privilege::mask::Mask;
 // Whether the fields of all are valid; of the live ones, the first `count` of each list, their numbers and their tokens'. Behind these in
 // `referred` stand the live pairs' tokens, up to `held`, then the stations' primary ones and those that they act for, so that all references
 // are counted in one list.
-#[derive(Drop)]
+#[derive(Clone, Copy)]
 pub struct Held {
     pub ok: bool,
     pub count: usize,

@@ -15,7 +15,7 @@ use token::layout::MAX_RESTRICTING;
 pub const NUMBERS: usize = 286;
 
 // Whether all had room, and the list of their numbers: of more than a token has, the first ones.
-#[derive(Drop)]
+#[derive(Clone, Copy)]
 pub struct Gathered {
     pub room: bool,
     pub list: Sids,

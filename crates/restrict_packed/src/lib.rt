@@ -28,7 +28,7 @@ use handle::HANDLE_WORDS;
 use state::handles::find_handle;
 
 // The copy's list, and what the SIDs given are asked for.
-#[derive(Drop)]
+#[derive(Clone, Copy)]
 struct Taken {
     list: Sids,
     asked: Asked,

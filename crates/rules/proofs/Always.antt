@@ -1,5 +1,5 @@
 -- Over any list of calls from a valid state: the state stays valid, and what lasts of tokens and handles lasts. Assumes nothing.
-use Prim.Native.Nat.{ℕ, suc, ◌+◌, ◌*◌, ◌-◌, ◌≤◌, ◌<◌}
+use Prim.Native.Nat.{ℕ, zero, suc, ◌+◌, ◌*◌, ◌-◌, ◌≤◌, ◌<◌}
 use native.Mathlib.Omega.{arith}
 use mathlib.Core.Path.{◌≡◌, refl, sym, ap, subst}
 use mathlib.Core.Bool.{Bool, true, false, ◌||◌}
@@ -168,6 +168,8 @@ events_serve (e ∷ es) p h f x m =
 -- ---- calls: only bytes, and only of the stations
 
 mem_take : {A : Type 0} (k : ℕ) (xs : List A) {a : A} → Mem a (take k xs) → Mem a xs
+mem_take {A = A} zero xs {a = a} x' = elim x' [ ]
+mem_take {A = A} (suc k) [] {a = a} x3 = elim x3 [ ]
 mem_take (suc k) (x ∷ xs) (here e) = here e
 mem_take (suc k) (x ∷ xs) (there m) = there (mem_take k xs m)
 

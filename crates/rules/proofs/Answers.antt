@@ -112,6 +112,7 @@ group_numbers_lem g h =
 
 pair_numbers : (gs : List Group) → all group_valid gs ≡ true → (n : ℕ) → Mem n (Query.pairs gs) → n < 2 ^ 32
 unfolding Query.pairs all
+pair_numbers [] h n x'' = elim x'' [ ]
 pair_numbers (g ∷ gs) h n (here e) = rw e (group_numbers_lem g (and_l (group_valid g) _ h)).0
 pair_numbers (g ∷ gs) h n (there (here e)) = rw e (group_numbers_lem g (and_l (group_valid g) _ h)).1
 pair_numbers (g ∷ gs) h n (there (there m)) = pair_numbers gs (and_r (group_valid g) (all group_valid gs) h) n m
@@ -242,6 +243,7 @@ bits_below (g ∷ gs) =
 
 words_below : (k : ℕ) (gs : List Group) (n : ℕ) → Mem n (enabled_words k gs) → n < 2 ^ 64
 unfolding enabled_words
+words_below zero gs n x' = elim x' [ ]
 words_below (suc k) gs n (here e) = let l = bits_below (take 64 gs) in let short : length (take 64 gs) ≤ 64 = simp length-take (omega arith) in omega (arith, pow_mono short)
 words_below (suc k) gs n (there m) = words_below k (drop 64 gs) n m
 

@@ -90,6 +90,7 @@ next k n rest h = record { is_ranked = search (and_l, and_r); low = leb-true k (
 
 above : (k : ℕ) (x : Decision) → rises k x ≡ true → (n : ℕ) → Mem n (failing x) → k ≤ rank n
 unfolding rises failing
+above k (success _ _) h n m = elim m [ ]
 above k (need◌else◌then◌ true r rest) h n m = let q = next k r.number rest h in let high = above (rank r.number) rest q.onward n m in omega arith
 above k (need◌else◌then◌ false r rest) h n (here e) = rw e (next k r.number rest h).low
 above k (need◌else◌then◌ false r rest) h n (there m) = let q = next k r.number rest h in let high = above (rank r.number) rest q.onward n m in omega arith
@@ -97,6 +98,7 @@ above k (need◌else◌then◌ false r rest) h n (there m) = let q = next k r.nu
 -- a number is the first of those whose places are not before its own
 first_is : (rs : List ℕ) (k : ℕ) (ns : List ℕ) → Mem k rs → ((n : ℕ) → Mem n ns → place rs k ≤ place rs n) → first_of rs (k ∷ ns) ≡ k
 unfolding first_of place
+first_is [] k ns m h = elim m [ ]
 first_is (r ∷ rs) k ns m h = by (member r (k ∷ ns)) refl (first_is rs k ns)
   where
     at_first : (b : Bool) → (if b then 0 else suc (place rs k)) ≤ 0 → b ≡ true
@@ -122,13 +124,13 @@ lowest_first : (σ : State) (k : ℕ) (x : Decision) → rises k x ≡ true → 
 unfolding rises failing carried_out status first_of member rank
 lowest_first σ k (need◌else◌then◌ true r rest) h = lowest_first σ (rank r.number) rest (next k r.number rest h).onward
 lowest_first σ k (need◌else◌then◌ false r rest) h =
-    let q = next k r.number rest h in sym (first_is ranks r.number (failing rest) (member_mem r.number ranks q.isRanked) (above (rank r.number) rest q.onward))
+    let q = next k r.number rest h in sym (first_is ranks r.number (failing rest) (member_mem r.number ranks q.is_ranked) (above (rank r.number) rest q.onward))
 lowest_first σ k (success after bytes) h = refl
 
 passes : (σ : State) (k : ℕ) (x : Decision) → rises k x ≡ true → status (carried_out σ x) ≡ 0 → failing x ≡ []
 unfolding rises failing carried_out status member
 passes σ k (need◌else◌then◌ true r rest) h e = passes σ (rank r.number) rest (next k r.number rest h).onward e
-passes σ k (need◌else◌then◌ false r rest) h e = absurd (not_both (next k r.number rest h).isRanked (ap (λ (n : ℕ). member n ranks) e))
+passes σ k (need◌else◌then◌ false r rest) h e = absurd (not_both (next k r.number rest h).is_ranked (ap (λ (n : ℕ). member n ranks) e))
 passes σ k (success after bytes) h e = refl
 
 unchanged : (σ : State) (x : Decision) → (status (carried_out σ x) ≡ 0 → ⊥) → (carried_out σ x).state ≡ σ

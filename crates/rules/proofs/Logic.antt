@@ -68,6 +68,7 @@ either false = inr refl
 module _ {A : Type 0} where
   pub all_mem : (f : A → Bool) (xs : List A) → all f xs ≡ true → {a : A} → Mem a xs → f a ≡ true
   unfolding all
+  all_mem f [] h {a = a} x'' = elim x'' [ ]
   all_mem f (x ∷ xs) h (here e) = ap f e ∙ and_l (f x) (all f xs) h
   all_mem f (x ∷ xs) h (there m) = all_mem f xs (and_r (f x) (all f xs) h) m
 
@@ -116,6 +117,7 @@ module _ {A : Type 0} where
 
   pub change_at_mem : (xs : List A) (i : ℕ) (f : A → A) (b : A) {a : A} → Mem a xs → (a ≡ get_or xs i b) ⊎ Mem a (change_at i f xs)
   unfolding change_at
+  change_at_mem [] i f b {a = a} x' = elim x' [ ]
   change_at_mem (x ∷ xs) zero f b (here e) = inl e
   change_at_mem (x ∷ xs) zero f b (there m) = inr (there m)
   change_at_mem (x ∷ xs) (suc i) f b (here e) = inr (here e)
@@ -126,15 +128,16 @@ module _ {A : Type 0} where
   get_or_mem (x ∷ xs) zero b h = here refl
   get_or_mem (x ∷ xs) (suc i) b h = there (get_or_mem xs i b (omega arith))
 
-pub map_mem : {A B : Type 0} (g : A → B) {xs : List A} {a : A} → Mem a xs → Mem (g a) (map g xs)
+pub map_mem : {A B : Type 0} (g : A → B) {a : A} {xs : List A} → Mem a xs → Mem (g a) (map g xs)
 map_mem g (here e) = here (ap g e)
 map_mem g (there m) = there (map_mem g m)
 
-pub mem_by : {A B : Type 0} (g : A → B) {xs : List A} {a : A} {b : B} → b ≡ g a → Mem a xs → Mem b (map g xs)
+pub mem_by : {A B : Type 0} (g : A → B) {a : A} {xs : List A} {b : B} → b ≡ g a → Mem a xs → Mem b (map g xs)
 mem_by g q (here e) = here (q ∙ ap g e)
 mem_by g q (there m) = there (mem_by g q m)
 
 pub mem_map : {A B : Type 0} (g : A → B) (xs : List A) {b : B} → Mem b (map g xs) → (a : A) × Mem a xs × (b ≡ g a)
+mem_map {A = A} {B = B} g [] {b = b} x' = elim x' [ ]
 mem_map g (x ∷ xs) (here e) = (x, here refl, e)
 mem_map g (x ∷ xs) (there m) = let r = mem_map g xs m in (r.0, there r.1, r.2)
 
@@ -177,6 +180,7 @@ all_append f (x ∷ xs) ys h k = and_i (and_l (f x) (all f xs) h) (all_append f 
 
 pub mem_filter : {A : Type 0} (f : A → Bool) (xs : List A) {a : A} → Mem a (filter f xs) → Mem a xs × (f a ≡ true)
 unfolding filter
+mem_filter {A = A} f [] {a = a} m = elim m [ ]
 mem_filter f (x ∷ xs) {a} m = go (f x) refl m (λ k. mem_filter f xs k)
   where
     go : (b : Bool) → f x ≡ b → Mem a (if b then x ∷ filter f xs else filter f xs) → (Mem a (filter f xs) → Mem a xs × (f a ≡ true)) → Mem a (x ∷ xs) × (f a ≡ true)
@@ -186,6 +190,7 @@ mem_filter f (x ∷ xs) {a} m = go (f x) refl m (λ k. mem_filter f xs k)
 
 pub filter_mem : {A : Type 0} (f : A → Bool) (xs : List A) {a : A} → Mem a xs → f a ≡ true → Mem a (filter f xs)
 unfolding filter
+filter_mem {A = A} f [] {a = a} x'' h = elim x'' [ ]
 filter_mem f (x ∷ xs) (here e) h = rw (ap f (sym e) ∙ h) (here e)
 filter_mem f (x ∷ xs) {a} (there m) h = go (f x) (filter_mem f xs m h)
   where

@@ -62,6 +62,7 @@ released_one e n l h = released_apart e n l.tokens.apart h
 -- no token has the number of the one that was freed
 freed_gone : {A : Type 0} (number : A → ℕ) (n : ℕ) (ps : List (Slot A)) → distinct (numbers number ps) ≡ true → {a : A} → Mem a (lives (exchanged (λ c. eqb (number c) n) free ps)) → number a ≡ n → ⊥
 unfolding exchanged lives
+freed_gone {A = A} number n [] d {a = a} m q = elim m [ ]
 freed_gone number n (free ∷ ps) d m q = freed_gone number n ps d m q
 freed_gone number n (live c ∷ ps) d {a} m q = go (eqb (number c) n) refl m (λ k. freed_gone number n ps (distinct_tail (number c) (numbers number ps) d) k q)
   where
@@ -105,6 +106,7 @@ module _ {A : Type 0} (f : A → Bool) where
 
   others : (p : Slot A) (ps : List (Slot A)) {a b : A} → found f ps ≡ live a → Mem b (lives ps) → (b ≡ a) ⊎ Mem b (lives (exchanged f p ps))
   unfolding found exchanged lives
+  others p [] {a = a} {b = b} e m = elim m [ ]
   others p (free ∷ ps) e m = others p ps e m
   others p (live c ∷ ps) {a} {b} e m = go (f c) e m (λ q k. others p ps q k)
     where

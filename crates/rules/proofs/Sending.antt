@@ -36,6 +36,7 @@ read_entries (e ∷ es) h =
 
 small_pairs : (es : List Entry) → Small es → (n : ℕ) → Mem n (pairs es) → n < 2 ^ 32
 unfolding pairs
+small_pairs [] h n x'' = elim x'' [ ]
 small_pairs (e ∷ es) h n (here q) = let k = (h e (here refl)).0 in omega arith
 small_pairs (e ∷ es) h n (there (here q)) = let k = (h e (here refl)).1 in omega arith
 small_pairs (e ∷ es) h n (there (there m)) = small_pairs es (λ f i. h f (there i)) n m

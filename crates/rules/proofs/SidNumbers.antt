@@ -370,6 +370,7 @@ stays_in xs s ss h = (entered_all_kept xs s ss h).1
 -- each packed one has a number then
 pub all_entered_in : (xs : List Given) (s : Sid) (ss : List Sid) → Mem (by_sid s) xs → is_in s (entered_all xs ss) ≡ true
 unfolding entered_all entered_by
+all_entered_in [] s ss x' = elim x' [ ]
 all_entered_in (x ∷ xs) s ss (here e) = stays_in xs s (entered_by x ss) (ap (λ (y : Given). is_in s (entered_by y ss)) (sym e) ∙ entered_in s ss)
 all_entered_in (x ∷ xs) s ss (there m) = all_entered_in xs s (entered_by x ss) m
 

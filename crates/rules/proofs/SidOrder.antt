@@ -103,6 +103,7 @@ module _ (row : ℕ → List ℕ) where
 
   -- two places with the same row are one
   pub rising_apart : (is : List ℕ) → rising row is ≡ true → (i j : ℕ) → Mem i is → Mem j is → row i ≡ row j → i ≡ j
+  rising_apart [] h i j x4 _ q = elim x4 [ ]
   rising_apart (k ∷ ks) h i j (here e) (here f) q = e ∙ sym f
   rising_apart (k ∷ ks) h i j (here e) (there m) q = absurd (not_both (rising_first k ks h j m) (ap (λ (r : List ℕ). less r (row j)) (ap row (sym e) ∙ q) ∙ less_self (row j)))
   rising_apart (k ∷ ks) h i j (there m) (here f) q = absurd (not_both (rising_first k ks h i m) (ap (λ (r : List ℕ). less r (row i)) (ap row (sym f) ∙ sym q) ∙ less_self (row i)))
@@ -248,6 +249,7 @@ module _ (row : ℕ → List ℕ) (x : List ℕ) where
   -- exact: a place whose row is x stands at rank
   pub rank_found : (is : List ℕ) → rising row is ≡ true → (i : ℕ) → Mem i is → row i ≡ x → get_or is (rank row x is) 0 ≡ i
   unfolding rank
+  rank_found [] h i x4 q = elim x4 [ ]
   rank_found (k ∷ ks) h i (here e) q = rw (ap (less (row k)) (sym q) ∙ ap (λ (j : ℕ). less (row k) (row j)) e ∙ less_self (row k)) (sym e)
   rank_found (k ∷ ks) h i (there m) q = rw (ap (less (row k)) (sym q) ∙ rising_first row k ks h i m) (rank_found ks (rising_tail row k ks h) i m q)
 
@@ -264,6 +266,7 @@ insert_at row k (i ∷ is) = by (less (row i) (row k)) (insert_at row k is)
 
 pub mem_rank : (row : ℕ → List ℕ) (x : List ℕ) (is : List ℕ) → rising row is ≡ true → (i : ℕ) → Mem i is → row i ≡ x → rank row x is < length is
 unfolding rank
+mem_rank row x [] h i x4 q = elim x4 [ ]
 mem_rank row x (k ∷ ks) h i (here e) q = rw (ap (less (row k)) (sym q) ∙ ap (λ (j : ℕ). less (row k) (row j)) e ∙ less_self (row k)) (omega arith)
 mem_rank row x (k ∷ ks) h i (there m) q = rw (ap (less (row k)) (sym q) ∙ rising_first row k ks h i m) (omega (arith, mem_rank row x ks (rising_tail row k ks h) i m q))
 

@@ -23,6 +23,7 @@ module _ {A : Type 0} where
 
   pub in_placed : (a : A) (ps : List (Slot A)) {b : A} → Mem b (lives (placed a ps)) → (b ≡ a) ⊎ Mem b (lives ps)
   unfolding placed lives
+  in_placed a [] {b = b} x' = elim x' [ ]
   in_placed a (free ∷ ps) (here e) = inl e
   in_placed a (free ∷ ps) (there m) = inr m
   in_placed a (live c ∷ ps) (here e) = inr (here e)
@@ -36,6 +37,7 @@ module _ {A : Type 0} where
 
   pub placed_old : (a : A) (ps : List (Slot A)) {b : A} → Mem b (lives ps) → Mem b (lives (placed a ps))
   unfolding placed lives
+  placed_old a [] {b = b} m = elim m [ ]
   placed_old a (free ∷ ps) m = there m
   placed_old a (live c ∷ ps) (here e) = here e
   placed_old a (live c ∷ ps) (there m) = there (placed_old a ps m)
@@ -84,6 +86,7 @@ module _ {A : Type 0} where
 
     pub in_exchanged : (p : Slot A) (ps : List (Slot A)) {b : A} → Mem b (lives (exchanged f p ps)) → (p ≡ live b) ⊎ Mem b (lives ps)
     unfolding exchanged lives
+    in_exchanged p [] {b = b} m = elim m [ ]
     in_exchanged p (free ∷ ps) m = in_exchanged p ps m
     in_exchanged p (live c ∷ ps) {b} m = go (f c) m (λ k. in_exchanged p ps k)
       where
@@ -94,6 +97,7 @@ module _ {A : Type 0} where
 
     pub exchanged_new : (a : A) (ps : List (Slot A)) {b : A} → Mem b (lives ps) → f b ≡ true → Mem a (lives (exchanged f (live a) ps))
     unfolding exchanged lives
+    exchanged_new a [] {b = b} m h = elim m [ ]
     exchanged_new a (free ∷ ps) m h = exchanged_new a ps m h
     exchanged_new a (live c ∷ ps) (here e) h = rw (sym (ap f e) ∙ h) (here refl)
     exchanged_new a (live c ∷ ps) (there m) h =
@@ -115,6 +119,7 @@ module _ {A : Type 0} where
 
     pub in_retained : (ps : List (Slot A)) {b : A} → Mem b (lives (retained f ps)) → Mem b (lives ps) × (f b ≡ true)
     unfolding retained lives
+    in_retained [] {b = b} m = elim m [ ]
     in_retained (free ∷ ps) m = in_retained ps m
     in_retained (live c ∷ ps) {b} m = go (f c) refl m (λ k. in_retained ps k)
       where
@@ -125,6 +130,7 @@ module _ {A : Type 0} where
 
     pub retained_in : (ps : List (Slot A)) {b : A} → Mem b (lives ps) → f b ≡ true → Mem b (lives (retained f ps))
     unfolding retained lives
+    retained_in [] {b = b} m h = elim m [ ]
     retained_in (free ∷ ps) m h = retained_in ps m h
     retained_in (live c ∷ ps) {b} (here e) h = rw (sym (ap f e) ∙ h) (here e)
     retained_in (live c ∷ ps) {b} (there m) h =
@@ -199,6 +205,7 @@ module _ {A : Type 0} (number : A → ℕ) where
   -- a number is found where it stands; where numbers are distinct, at the one record that has it
   pub found_some : (n : ℕ) (ps : List (Slot A)) → Mem n (numbers ps) → (a : A) × (found (λ c. eqb (number c) n) ps ≡ live a)
   unfolding found lives
+  found_some n [] m = elim m [ ]
   found_some n (free ∷ ps) m = found_some n ps m
   found_some n (live c ∷ ps) (here e) = (c, rw (eq-eqb (number c) n (sym e)))
   found_some n (live c ∷ ps) (there m) =
@@ -206,6 +213,7 @@ module _ {A : Type 0} (number : A → ℕ) where
 
   pub only_one : (ps : List (Slot A)) → distinct (numbers ps) ≡ true → {a b : A} → Mem a (lives ps) → Mem b (lives ps) → number a ≡ number b → a ≡ b
   unfolding lives
+  only_one [] d {a = a} {b = b} m k q = elim m [ ]
   only_one (free ∷ ps) d m k q = only_one ps d m k q
   only_one (live c ∷ ps) d (here e) (here f) q = e ∙ sym f
   only_one (live c ∷ ps) d (here e) (there k) q = absurd (distinct_head (number c) (numbers ps) d (mem_by number (ap number (sym e) ∙ q) k))

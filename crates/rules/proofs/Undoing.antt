@@ -75,6 +75,7 @@ unnamed k (e ∷ es) p h out =
 -- one that is named is as its entry asks
 as_asked : (e : Entry) (es : List Entry) (p : Privileges) → all switches es ≡ true → distinct (map key_of es) ≡ true → Mem e es → has e.key (apply_all applied es p).enabled ≡ eqb e.value 2
 unfolding apply_all all enable disable key_of
+as_asked e [] p h d x3 = elim x3 [ ]
 as_asked e (f ∷ es) p h d (there m) = as_asked e es (applied f p) (and_r (switches f) (all switches es) h) (distinct_tail f.key (map key_of es) d) m
 as_asked e (f ∷ es) p h d (here q) = subst (λ (g : Entry). has g.key (apply_all applied es (applied f p)).enabled ≡ eqb g.value 2) (sym q) first
   where

@@ -14,7 +14,7 @@ use handle::HANDLE_WORDS;
 use state::handles::Change;
 
 // How many bytes the answer has, and the one handle that changes: a slot past the last is none.
-#[derive(Drop)]
+#[derive(Clone, Copy)]
 pub struct Reply {
     pub written: usize,
     pub change: Change,

@@ -12,7 +12,7 @@ const MAX_CHUNK: u64 = 4096;
 const NUMBER_BYTES: usize = 5;
 
 // What the bytes so far come to: a chunk of a station that is there whole, more to be read first, or the end.
-#[derive(Drop)]
+#[derive(Clone, Copy)]
 pub enum Next {
     Chunk {
         station: u32,

@@ -7,7 +7,7 @@ use calls::Fed;
 use handle::{HANDLE_WORDS, Handles, SLOTS};
 
 // What a feed returns, and the handles after it.
-#[derive(Drop)]
+#[derive(Clone, Copy)]
 pub struct Turned {
     pub fed: Fed,
     pub handles: Handles,

@@ -9,7 +9,7 @@ use crate::layout::ROW_WORDS;
 use crate::row::less;
 
 // What is left of a search: the first place, and how many.
-#[derive(Drop)]
+#[derive(Clone, Copy)]
 pub struct Range {
     pub low: usize,
     pub count: usize,

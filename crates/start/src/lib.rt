@@ -15,7 +15,7 @@ pub const NO_STATION: u32 = 11;
 pub const INVALID_MEMORY: u32 = 13;
 
 // The refusal, and how many handles become free slots: 32, or none.
-#[derive(Drop)]
+#[derive(Clone, Copy)]
 pub struct Started {
     pub refusal: u32,
     pub freed: usize,

@@ -11,7 +11,7 @@ use control::layout::{MAX_HANDLE, NEXT_HANDLE};
 use handle::{HANDLE_WORDS, Handle, SLOTS};
 
 // What a request leaves in one slot. A slot past the last: nothing is changed.
-#[derive(Drop)]
+#[derive(Clone, Copy)]
 pub struct Change {
     pub slot: usize,
     pub handle: Handle,

@@ -10,7 +10,7 @@ use crate::Framed;
 pub const MAX_BODY: usize = 2048;
 
 // What the first bytes say of the body's length: nothing yet, that no length is valid, or the length, and where the body begins.
-#[derive(Drop)]
+#[derive(Clone, Copy)]
 enum Length {
     Unread,
     Invalid,

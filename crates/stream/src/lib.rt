@@ -12,7 +12,7 @@ use table::slices;
 pub const PENDING_BYTES: usize = MAX_BODY + 2;
 
 // What the first bytes of a stream come to: a part of a frame, a break, or a whole frame, whose body begins at start.
-#[derive(Drop)]
+#[derive(Clone, Copy)]
 pub enum Framed {
     Part,
     Broken,
@@ -20,7 +20,7 @@ pub enum Framed {
 }
 
 // Where a chunk stopped: how many of its bytes were used, how many are now pending, and what these come to.
-#[derive(Drop)]
+#[derive(Clone, Copy)]
 pub struct Stopped {
     pub used: usize,
     pub count: usize,

@@ -8,14 +8,14 @@ pub mod row;
 pub mod slots;
 pub mod words;
 
-#[derive(Drop)]
+#[derive(Clone, Copy)]
 pub struct Group {
     pub sid: u32,
     pub attributes: u32,
 }
 
 // What a token keeps as long as it lives; `kind` is its type.
-#[derive(Drop)]
+#[derive(Clone, Copy)]
 pub struct Identity {
     pub user: u32,
     pub session: u64,
