@@ -1,4 +1,6 @@
 // Request 6: a token's groups are changed in its row.
+#![tactic(auto)]
+
 ghost use Rattle.std.specs.Prelude.{◌≡◌, length, drop};
 ghost use Rattle.rules.specs.Memory.{token_words};
 ghost use Rattle.rules.specs.AdjustGroups.{adjust};

@@ -1,4 +1,6 @@
 // What a request answers, and the frame that it is written as.
+#![tactic(auto)]
+
 ghost use Rattle.std.specs.Prelude.{◌≡◌, true, [], ◌∷◌, ◌*◌, ◌-◌, ◌≤◌, ◌<◌, length, take, replicate};
 ghost use Rattle.rules.specs.Number.{encode_all};
 ghost use Rattle.rules.specs.Frame.{max_answer};

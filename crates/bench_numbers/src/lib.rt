@@ -1,4 +1,6 @@
 // Numbers read as requests read them, for the benchmark of the reader (tests/numbers): the results are mixtures of what was read.
+#![tactic(auto)]
+
 use number::{Cursor, Number, Skipped, U32, U64};
 
 // What stands for a body that is not so many numbers.

@@ -1,4 +1,6 @@
 // A request's body: its layout, its fields, and the entries that stand in it.
+#![tactic(auto)]
+
 pub mod entry;
 pub mod fields;
 pub mod layout;

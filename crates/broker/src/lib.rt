@@ -1,4 +1,6 @@
 // The broker: start, feed and reconnect over the memory that a host lends. No call asks anything of its input.
+#![tactic(auto)]
+
 ghost use Rattle.std.specs.Prelude.{◌≡◌};
 ghost use Rattle.rules.specs.Index.{found_index};
 ghost use Rattle.rules.specs.Handle.{is_handle};

@@ -1,4 +1,6 @@
 // Feed with the handle list by value: what the call over the lent list wraps, and what the program uses.
+#![tactic(auto)]
+
 ghost use Rattle.handle.specs.Words.{records_in};
 ghost use Rattle.calls.specs.Promise.{FeedsWith};
 

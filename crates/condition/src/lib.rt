@@ -1,4 +1,6 @@
 // Conditions on a token (request 18): two functions that call each other read one and evaluate it, in one pass over its bytes.
+#![tactic(auto)]
+
 ghost use Rattle.std.specs.Prelude.{◌≡◌, map, drop};
 ghost use Rattle.rules.specs.Condition.{has_group};
 ghost use Rattle.rules.specs.Memory.{unpack};

@@ -1,4 +1,6 @@
 // Requests 9 and 10: a duplicate of a token, and a restricted copy. What request 15 shares with 10 is public.
+#![tactic(auto)]
+
 pub mod asked;
 mod denied_groups;
 pub mod duplicate;

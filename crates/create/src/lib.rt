@@ -1,4 +1,6 @@
 // Requests 3 and 14: create. A new token and a handle on it.
+#![tactic(auto)]
+
 ghost use Rattle.std.specs.Prelude.{◌≡◌, true, ◌≤◌, ◌<◌, length, drop, replicate};
 ghost use Rattle.rules.specs.Sid.{is_packed};
 ghost use Rattle.rules.specs.SidTable.{max_sids};

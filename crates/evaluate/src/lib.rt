@@ -1,4 +1,6 @@
 // Request 18: a condition of a token. Nothing changes.
+#![tactic(auto)]
+
 ghost use Rattle.std.specs.Prelude.{◌≡◌, length, drop};
 ghost use Rattle.rules.specs.Memory.{token_words};
 ghost use Rattle.rules.specs.Serve.{decided};

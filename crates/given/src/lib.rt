@@ -1,4 +1,6 @@
 // A packed SID of a request enters a copy of the SID table: requests 14 and 15.
+#![tactic(auto)]
+
 ghost use Rattle.std.specs.Prelude.{◌≡◌, true};
 ghost use Rattle.rules.specs.SidRows.{row_sid, sid_words_valid};
 ghost use Rattle.sid.specs.Finding.{Rowed};

@@ -1,4 +1,6 @@
 // Handles: the list of 32 slots as words, which a call passes on; `list` has it as it is lent.
+#![tactic(auto)]
+
 ghost use Rattle.std.specs.Prelude.{◌≡◌, map, ◌*◌, ◌/◌, ◌%◌, ◌≤◌, ◌<◌, length, get_or, set};
 ghost use Rattle.rules.specs.Basic.{member, word32};
 ghost use Rattle.rules.specs.Table.{lives};

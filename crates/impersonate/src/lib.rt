@@ -1,4 +1,6 @@
 // Requests 12 and 13: a station acts for another token, and for none. The server is the caller's primary token, the client the handle's.
+#![tactic(auto)]
+
 ghost use Rattle.std.specs.Prelude.{◌≡◌, ◌*◌, ◌<◌, length};
 ghost use Rattle.rules.specs.Impersonate as rules;
 ghost use Rattle.rules.specs.State.{token_slots, station_count};

@@ -1,4 +1,6 @@
 // Request 11: a token becomes the caller's primary one.
+#![tactic(auto)]
+
 ghost use Rattle.std.specs.Prelude.{◌≡◌, ◌*◌, ◌<◌, length};
 ghost use Rattle.rules.specs.Install as rules;
 ghost use Rattle.rules.specs.State.{token_slots, station_count};

@@ -1,4 +1,6 @@
 // The SIDs that tokens keep are in the SID table (document 02, W5: every number that a token keeps is in the table).
+#![tactic(auto)]
+
 ghost use Rattle.std.specs.Prelude.{◌≡◌, [], ◌*◌, ◌^◌, ◌≤◌, ◌<◌, length};
 ghost use Rattle.rules.specs.Basic.{all};
 ghost use Rattle.rules.specs.State.{token_slots};

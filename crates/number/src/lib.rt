@@ -1,4 +1,6 @@
 // Numbers on the line: seven bits a byte, low bits first, the top bit set where more follow; the shortest form only.
+#![tactic(auto)]
+
 ghost use Rattle.std.specs.Prelude.{◌≡◌, true, ℕ, ◌+◌, ◌/◌, ◌≤◌, ◌<◌, min, max, length, get_or};
 ghost use Rattle.rules.specs.Number.{max64, encode};
 ghost use Rattle.number.specs.Over.{over};

@@ -1,4 +1,6 @@
 // The program (document 01: 'a thin program'): chunks from standard input, each a station, a length and so many bytes; answers to standard output.
+#![tactic(auto)]
+
 ghost use Rattle.std.specs.Prelude.{◌≡◌, ◌≤◌, length};
 ghost use Rattle.handle.specs.Words.{records_in};
 ghost use Rattle.valid.specs.Meaning.{memory_of};

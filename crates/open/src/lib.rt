@@ -1,4 +1,6 @@
 // Requests 1 and 2: a handle on the caller's own token is opened, a handle is closed. Neither asks for a right.
+#![tactic(auto)]
+
 ghost use Rattle.std.specs.Prelude.{◌<◌};
 ghost use Rattle.rules.specs.State.{station_count};
 ghost use Rattle.rules.specs.OpenClose.{open_own, close};

@@ -1,4 +1,6 @@
 // Request 4: query. Nothing changes.
+#![tactic(auto)]
+
 ghost use Rattle.std.specs.Prelude.{◌≡◌, ◌*◌, length};
 ghost use Rattle.rules.specs.State.{token_slots};
 ghost use Rattle.rules.specs.Memory.{token_words};

@@ -1,4 +1,6 @@
 // Part of the test of refusal 13: the handles' fields, all numbers given, what handles, stations and linked pairs refer to, and the pairs.
+#![tactic(auto)]
+
 ghost use Rattle.std.specs.Prelude.{◌≡◌, map, ◌+◌, ◌*◌, ◌≤◌, length, take, drop};
 ghost use Rattle.rules.specs.State.{token_slots, handle_slots, station_count};
 ghost use Rattle.rules.specs.Memory.{token_words, control_words};

@@ -1,5 +1,7 @@
 // A function for each request number: the rest of the body in the request's layout (of 18, what stands before its condition), or refusal 1;
 // then the request.
+#![tactic(auto)]
+
 ghost use Rattle.std.specs.Prelude.{◌≤◌, ◌<◌, length};
 ghost use Rattle.rules.specs.State.{station_count};
 ghost use Rattle.rules.specs.Request as rules;

@@ -1,4 +1,6 @@
 // Request 15: restrict, with packed SIDs. They enter a copy of the SID table, which is kept only if a token is issued.
+#![tactic(auto)]
+
 ghost use Rattle.std.specs.Prelude.{◌≡◌, ◌*◌, ◌≤◌, ◌<◌, length};
 ghost use Rattle.rules.specs.Token.{max_restricting};
 ghost use Rattle.rules.specs.State.{token_slots, station_count};

@@ -1,4 +1,6 @@
 // A body is served: its request decided and carried out, its answer written.
+#![tactic(auto)]
+
 ghost use Rattle.std.specs.Prelude.{◌≤◌, ◌<◌, length};
 ghost use Rattle.rules.specs.State.{station_count};
 ghost use Rattle.rules.specs.Frame.{max_answer};

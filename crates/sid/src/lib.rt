@@ -1,4 +1,6 @@
 // SIDs and the SID table in lent memory: packed SIDs read and written, the test of the table's words, a SID looked up and entered.
+#![tactic(auto)]
+
 pub mod enter;
 pub mod find;
 pub mod layout;

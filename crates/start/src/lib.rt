@@ -1,4 +1,6 @@
 // Start and reconnect with the handle list by value: they serve nothing.
+#![tactic(auto)]
+
 ghost use Rattle.handle.specs.Words.{records_in};
 ghost use Rattle.start.specs.Promise.{StartsWith, ReconnectsWith};
 

@@ -1,4 +1,6 @@
 // The state in lent memory: each function is a definition of the rules' State, over the parts that hold it.
+#![tactic(auto)]
+
 pub mod handles;
 pub mod release;
 pub mod tokens;

@@ -1,4 +1,6 @@
 // A station's stream: its pending bytes in their row, and what a chunk does to them. It knows nothing of requests.
+#![tactic(auto)]
+
 ghost use Rattle.std.specs.Prelude.{◌≡◌, ◌++◌, ◌≤◌, ◌<◌, length, drop, replicate};
 ghost use Rattle.rules.specs.Memory.{pending_bytes};
 ghost use Rattle.stream.specs.Meaning.{JoinedAtOnce, Joined};

@@ -1,4 +1,6 @@
 // Tokens in lent memory: a token's row, which requests read and change in place, and the slots of all tokens.
+#![tactic(auto)]
+
 ghost use Rattle.std.specs.Prelude.{◌≡◌};
 ghost use Rattle.rules.specs.Create.{valid_integrity};
 

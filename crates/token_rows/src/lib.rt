@@ -1,5 +1,7 @@
 // The tokens' rows (document 01: 'Memory is in order when ..' free places are zero, lists are within their limits and zero past their
 // counts, and every field is within its range).
+#![tactic(auto)]
+
 ghost use Rattle.std.specs.Prelude.{◌≡◌, ◌*◌, map, length};
 ghost use Rattle.table.specs.Rows.{test_rows};
 ghost use Rattle.rules.specs.Basic.{all};

@@ -1,4 +1,6 @@
 // The test of refusal 13: lent memory, of any sizes and contents, is valid (document 01: 'Memory is in order when ..').
+#![tactic(auto)]
+
 ghost use Rattle.std.specs.Prelude.{◌≡◌};
 ghost use Rattle.handle.specs.Words.{records_in};
 ghost use Rattle.valid.specs.Tests.{parts_test};

@@ -1,0 +1,6 @@
+-- The row is cleared, the words are set, and the refusal is written as every answer is. Assumes nothing.
+use Rattle.calls.proofs.Accepting.{broken_off_lem}
+use Rattle.calls.proofs.accept.break_off.Goals as goal
+
+pub returns : goal.returns
+returns c = broken_off_lem _ _ _ _ c.clear.ensures c.set_stream.ensures c.write-written.ensures

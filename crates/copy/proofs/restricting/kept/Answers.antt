@@ -1,0 +1,20 @@
+-- One by one. Assumes nothing.
+use Prim.Native.Nat.{◌-◌}
+use mathlib.Core.Path.{refl}
+use mathlib.Core.Logic.{⊎_elim}
+use borrow.Author.Rules.{rules}
+use Rattle.copy.proofs.RestrictingSids.{keep_begin, keep_end, keep_one, keep_none, judged_by}
+use Rattle.copy.proofs.restricting.kept.Goals as goal
+
+pub loop-i-init : goal.loop-i-init
+loop-i-init c = search (rules, keep_begin)
+
+pub loop-i-preserved : goal.loop-i-preserved
+loop-i-preserved c =
+    let few = c.requires.1 in
+    let more = c.loop-i-test.true in
+    let stays = judged_by c.stays.ensures in
+    ⊎_elim (λ w. keep_one _ c.loop-i.invariant few more _ refl stays w.0.taken w.1.ensures w.2) (λ w. keep_none _ c.loop-i.invariant few more _ refl stays w.0.left w.1) c.if-stays.branch
+
+pub returns : goal.returns
+returns c = search (rules, keep_end)

@@ -1,0 +1,14 @@
+-- references::clients::all_fit meets its contract: its loop tests each row. Assumes nothing.
+use Prim.Native.Nat.{◌-◌}
+use borrow.Author.Rules.{rules}
+use Rattle.table.specs.Rows.{rows_none, rows_more, rows_done}
+use Rattle.references.proofs.clients.all_fit.Goals as goal
+
+pub loop-i-init : goal.loop-i-init
+loop-i-init c = rows_none _ _ _ _ _ _
+
+pub loop-i-preserved : goal.loop-i-preserved
+loop-i-preserved c = search (rules, rows_more)
+
+pub returns : goal.returns
+returns c = search (rules, rows_done)

@@ -1,0 +1,15 @@
+-- references::columns::add_primaries meets its contract: its loop writes a token more. Assumes nothing.
+use Prim.Native.Nat.{◌-◌}
+use borrow.Author.Rules.{rules}
+use Rattle.references.specs.Tests.{token_in}
+use Rattle.references.proofs.Lists.{adding_none, adding_more, adding_done}
+use Rattle.references.proofs.columns.add_primaries.Goals as goal
+
+pub loop-i-init : goal.loop-i-init
+loop-i-init c = search (rules, adding_none token_in)
+
+pub loop-i-preserved : goal.loop-i-preserved
+loop-i-preserved c = search (rules, adding_more token_in)
+
+pub returns : goal.returns
+returns c = search (rules, adding_done token_in)

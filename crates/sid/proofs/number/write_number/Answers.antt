@@ -1,0 +1,19 @@
+-- sid::number::write_number meets its contract: by what the words lack, else by what is written of the row. Assumes nothing.
+use borrow.Author.Rules.{rules}
+use Rattle.sid.proofs.Numbers.{number_size, number_many, number_none, number_behind, number_wrote}
+use Rattle.sid.proofs.number.write_number.Goals as goal
+
+pub returns-then-sids-ne-SIDS : goal.returns-then-sids-ne-SIDS
+returns-then-sids-ne-SIDS c = search (rules, number_size)
+
+pub returns-then-count : goal.returns-then-count
+returns-then-count c = search (rules, number_many)
+
+pub returns-then-not-is_number : goal.returns-then-not-is_number
+returns-then-not-is_number c = search (rules, number_none)
+
+pub returns-then-count-place : goal.returns-then-count-place
+returns-then-count-place c = search (rules, number_behind)
+
+pub returns : goal.returns
+returns c = search (rules, number_wrote)

@@ -1,0 +1,13 @@
+-- The bit of the rule. Assumes nothing.
+use Rattle.std.proofs.Common.{rules}
+use Rattle.rules.specs.Group.{is_enabled}
+use Rattle.rules.specs.Memory.{unpack}
+use Rattle.token.proofs.words.is_enabled.Goals as goal
+
+pub has-requires : goal.has-requires
+unfolding is_enabled unpack
+has-requires c = search rules
+
+pub returns : goal.returns
+unfolding is_enabled unpack
+returns c = search rules
