@@ -49,6 +49,7 @@ once (y ∷ s) h =
 
 is_once_lem : (s : List ℕ) → distinct s ≡ true → {x : ℕ} → Mem x s → count x s ≡ 1
 unfolding count
+is_once_lem [] h {x = x} x4 = elim x4 [ ]
 is_once_lem (y ∷ s) h {x} (here e) =
     omega (arith, one_same x y e, absent x s (λ m. distinct_head y s h (rw (← e) m)))
 is_once_lem (y ∷ s) h {x} (there m) =
