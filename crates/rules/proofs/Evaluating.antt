@@ -15,7 +15,6 @@ use Rattle.rules.specs.Mask.{permits}
 use Rattle.rules.specs.Number.{encode, Read}
 use Rattle.rules.specs.Privileges.{is_enabled}
 use Rattle.rules.specs.Refusal.{refusal, not_aLive_handle, right_missing, bad_field}
-use Rattle.rules.specs.Request as Request
 use Rattle.rules.specs.Request.{Request}
 use Rattle.rules.specs.Run.{Serving, served_by}
 use Rattle.rules.specs.Serve.{rule, decided, decision, serve}
