@@ -7,12 +7,8 @@ use lib.Bits.{bit_or, or_add_and, and_le_l, and_le_r}
 use lib.ListN.{length, get_or}
 use borrow.Author.Count.{below_more}
 use borrow.Author.Rules.{rules}
+use Rattle.number.proofs.bits.Invariants.{Gathered}
 use Rattle.number.proofs.bits.Goals as goal
-
-pub record Gathered (s : List ℕ) (from end all i : ℕ) : Type 0 where
-  pub begun : from ≤ i
-  pub inside : end ≤ max from (length s)
-  pub above : (k : ℕ) → k < i → from ≤ k → get_or s k 0 ≤ all
 
 none : (s : List ℕ) (from end : ℕ) → end ≤ max from (length s) → Gathered s from end 0 from
 none s from end h = record { begun = omega arith; inside = h; above = λ k l f. absurd (omega arith) }

@@ -33,10 +33,10 @@ module _ (s : List ℕ) (from count limit left : ℕ) (e : left ≡ length s - f
   }
 
 pub returns-then-limit-lt127 : goal.returns-then-limit-lt127
-returns-then-limit-lt127 c = absurd (not_both h refl)
+returns-then-limit-lt127 c = λ h. absurd (not_both h refl)
 
 pub returns-then-left-count : goal.returns-then-left-count
-returns-then-left-count c = absurd (not_both h refl)
+returns-then-left-count c = λ h. absurd (not_both h refl)
 
 pub overflow_add-from : goal.overflow_add-from
 overflow_add-from c = search (rules, fits)
