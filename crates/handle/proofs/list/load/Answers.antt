@@ -1,5 +1,5 @@
 -- list::load copies one record more at each turn, until the list ends or the slots are full. Assumes nothing.
-use Rattle.std.proofs.Common.{rules, arith, ap, ◌∙◌, ◌*◌}
+use Rattle.std.proofs.Common.{arith, rules, ap, ◌∙◌, ◌*◌}
 use Rattle.rules.specs.State.{handle_slots}
 use Rattle.handle.specs.Words.{slot_words, records_in}
 use Rattle.handle.proofs.Words.{zeros_free}
