@@ -1,5 +1,5 @@
 -- list::clear_first frees one slot more at each turn. Assumes nothing.
-use Rattle.std.proofs.Common.{arith, length, ◌<◌}
+use Rattle.std.proofs.Common.{arith}
 use Rattle.handle.proofs.Lent.{clears_more}
 use Rattle.handle.proofs.list.clear_first.Goals as goal
 
