@@ -19,7 +19,9 @@ loop-i-preserved c = sorting_more _ _ _ _ _ _ c.loop-i.invariant (search rules) 
 pub returns : goal.returns
 returns c =
     let sorted = c.loop-i.invariant in
-    let past = c.loop-i-test.false in (
-      sorting_tested _ _ _ _ _ _ sorted past,
-      (sorting_first _ _ _ _ _ _ sorted past, at_referred _ _ _ _ _ _ _ sorted past c.add_pairs-k.ensures c.add_pairs-m.ensures c.add_primaries.ensures c.add_clients.ensures),
-    )
+    let past = c.loop-i-test.false in
+    record {
+      fields = sorting_tested _ _ _ _ _ _ sorted past;
+      called = sorting_first _ _ _ _ _ _ sorted past;
+      refers = at_referred _ _ _ _ _ _ _ sorted past c.add_pairs-k.ensures c.add_pairs-m.ensures c.add_primaries.ensures c.add_clients.ensures;
+    }
