@@ -12,7 +12,8 @@ use lib.Seq.{take_all}
 use Rattle.table.specs.Lists.{named_take}
 use Rattle.table.specs.Table.{flat, record_at_lem, part_at}
 use Rattle.table.specs.Rows.{read_rows, test_rows, length_rows, rows_at}
-use Rattle.rules.specs.Basic.{if◌then◌else◌, all, distinct, same}
+use Rattle.std.specs.Prelude.{if◌then◌else◌}
+use Rattle.rules.specs.Basic.{all, distinct, same}
 use Rattle.rules.specs.Token.{Token, max_dacl, full, limited, new_token}
 use Rattle.rules.specs.Table.{Slot, free, live, is_live, or_else, lives, found}
 use Rattle.rules.specs.Pair.{Pair}

@@ -12,7 +12,8 @@ use Rattle.rules.specs.AdjustDefaults as AdjustDefaults
 use Rattle.rules.specs.AdjustGroups as AdjustGroups
 use Rattle.rules.specs.AdjustPrivileges as AdjustPrivileges
 use Rattle.rules.specs.AdjustScope as AdjustScope
-use Rattle.rules.specs.Basic.{if◌then◌else◌, all}
+use Rattle.std.specs.Prelude.{if◌then◌else◌}
+use Rattle.rules.specs.Basic.{all}
 use Rattle.rules.specs.Create as Create
 use Rattle.rules.specs.Decision.{with_handle}
 use Rattle.rules.specs.Duplicate as Duplicate
