@@ -11,7 +11,6 @@ use Rattle.std.specs.Prelude.{if◌then◌else◌}
 use Rattle.rules.specs.Basic.{all, member, filter, non_zero, implies}
 use Rattle.rules.specs.Token.{Token, max_dacl, impersonation}
 use Rattle.rules.specs.Table.{Slot, free, live, lives}
-use Rattle.rules.specs.Station.{Station}
 use Rattle.rules.specs.State.{token_slots, client_token}
 use Rattle.rules.specs.Valid.{client_fits}
 use Rattle.rules.specs.Head as Head

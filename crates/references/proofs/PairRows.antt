@@ -31,7 +31,7 @@ use Rattle.token.specs.Meaning.{slots_of}
 use Rattle.token_rows.specs.Tests.{slot_test}
 use Rattle.token_rows.proofs.Same.{same_append}
 use Rattle.lists.proofs.Truth.{and_swap, all_cong, eqb_flip}
-use Rattle.references.specs.Tests.{kept, rows_in, pair_column, Joined, token_named, fits_in, pair_test, places_test, pairs_test}
+use Rattle.references.specs.Tests.{kept, rows_in, pair_column, Joined, token_named, fits_in, pair_test, pairs_test}
 use Rattle.references.proofs.Lists.{all_lives}
 
 -- ---- a token by its number

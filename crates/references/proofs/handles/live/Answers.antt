@@ -1,11 +1,9 @@
 -- references::handles::live meets its contract: its loop tests each handle, and keeps numbers of the live ones; the pairs' and the stations' tokens come behind. Assumes nothing.
-use Prim.Native.Nat.{◌-◌}
 use mathlib.Core.Path.{refl}
 use native.Mathlib.Omega.{arith}
 use borrow.Author.Rules.{rules}
 use Rattle.rules.specs.State.{handle_slots}
 use Rattle.handle.proofs.Words.{records_long}
-use Rattle.references.specs.Meaning.{token_of}
 use Rattle.references.proofs.Loops.{sorting_none, sorting_more, sorting_tested, sorting_first}
 use Rattle.references.proofs.Lists.{at_referred}
 use Rattle.references.proofs.handles.live.Goals as goal
