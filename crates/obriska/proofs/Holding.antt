@@ -27,10 +27,6 @@ use Rattle.obriska.specs.Serving.{buffer_bytes, Ready, held, Room, Refilled, Ser
 
 -- ---- refill
 
--- nothing was read, whatever the buffer has become
-pub unfilled : (from end : ℕ) (b b' : List ℕ) → Refilled from end b b' 0
-unfilled from end b b' = record { kept = λ h. absurd (omega arith); more = λ h. absurd (omega arith); inside = omega arith }
-
 -- b is the buffer, b₁ with the bytes held at its front, ys what then stands after these
 module _ (from end : ℕ) (b b₁ ys : List ℕ) (n : ℕ) (k : Kept from end b b₁ n) (fits : Room from end b) (long : length b₁ ≡ length b) where
   abbrev filled : List ℕ
