@@ -4,4 +4,4 @@ use Rattle.copy.proofs.RestrictedRow.{limits}
 use Rattle.copy.proofs.restricted_row.limit.Goals as goal
 
 pub returns : goal.returns
-returns c = search (rules, limits, c.set_privileges.auto.0)
+returns c = search (rules, limits, c.set_privileges.auto.words)
