@@ -1,11 +1,11 @@
 -- One by one. Assumes nothing.
 use Prim.Native.Nat.{◌-◌}
 use mathlib.Core.Path.{refl}
-use mathlib.Core.Logic.{⊎_elim}
 use borrow.Author.Rules.{rules}
 use Rattle.copy.proofs.RestrictingSids.{keep_begin, keep_one, keep_none}
 use Rattle.restrict_packed.proofs.Keeping.{stays_as, keep_end}
 use Rattle.restrict_packed.proofs.kept.kept.Goals as goal
+use Rattle.restrict_packed.proofs.kept.kept.Goals.{then-stays, else-stays}
 
 pub loop-i-init : goal.loop-i-init
 loop-i-init c = search (rules, keep_begin)
@@ -15,7 +15,10 @@ loop-i-preserved c =
     let few = c.requires.1 in
     let more = c.loop-i-test.true in
     let stays = stays_as _ _ _ c.stays.ensures in
-    ⊎_elim (λ w. keep_one _ c.loop-i.invariant few more _ refl stays w.0.taken w.1.ensures w.2) (λ w. keep_none _ c.loop-i.invariant few more _ refl stays w.0.left w.1) c.if-stays.branch
+    elim c.if-stays.branch [
+      then-stays w ↦ keep_one _ c.loop-i.invariant few more _ refl stays w.if-stays.true w.with_sid-list.ensures w.list-is
+    | else-stays w ↦ keep_none _ c.loop-i.invariant few more _ refl stays w.if-stays.false w.list-is
+    ]
 
 pub returns : goal.returns
 returns c = search (rules, keep_end)
