@@ -1,6 +1,5 @@
 -- What request 8's fields do to a token in its rows. Assumes nothing.
-use Rattle.std.specs.Prelude.{ℕ, ◌≤◌, ◌≡◌, Bool, true, List, [], length}
-use Rattle.rules.specs.Basic.{if◌then◌else◌}
+use Rattle.std.specs.Prelude.{ℕ, ◌≤◌, ◌≡◌, Bool, true, List, [], length, if◌then◌else◌}
 use Rattle.rules.specs.Token.{Token, max_dacl, with_defaults}
 use Rattle.rules.specs.Valid.{token_valid}
 use Rattle.rules.specs.Memory.{token_row, dacl_row}

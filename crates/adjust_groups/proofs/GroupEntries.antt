@@ -12,7 +12,8 @@ use lib.ListN.{length, drop, get_or, set, length-map, get_or-map}
 use lib.Seq.{take-length, drop-length}
 use borrow.Author.Tests.{ltb-true, not-true, not-false}
 use Rattle.table.specs.Updating.{Updating, updating_more, updating_done}
-use Rattle.rules.specs.Basic.{if◌then◌else◌, all, change_at, word32}
+use Rattle.std.specs.Prelude.{if◌then◌else◌}
+use Rattle.rules.specs.Basic.{all, change_at, word32}
 use Rattle.rules.specs.Bits.{has}
 use Rattle.rules.specs.Number.{got, max32}
 use Rattle.rules.specs.Entry.{Entry, valid_entries, apply_all}

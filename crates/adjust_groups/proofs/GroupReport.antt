@@ -7,7 +7,7 @@ use mathlib.Core.List.{List, [], ◌∷◌, map}
 use lib.Pow.{pow_mono}
 use lib.ListN.{length, drop, get_or, replicate, length-map, length-drop, drop_of_length-le}
 use lib.Seq.{drop-cons, take_all}
-use Rattle.rules.specs.Basic.{if◌then◌else◌}
+use Rattle.std.specs.Prelude.{if◌then◌else◌}
 use Rattle.rules.specs.Group.{Group, is_enabled}
 use Rattle.rules.specs.Token.{max_groups}
 use Rattle.rules.specs.Memory.{unpack}

@@ -1,6 +1,6 @@
 -- What request 6's entries do to the words of a token's groups. Assumes nothing.
-use Rattle.std.specs.Prelude.{ℕ, ◌≡◌, Bool, not, ◌&&◌, ◌||◌, List, map, get_or}
-use Rattle.rules.specs.Basic.{if◌then◌else◌, all}
+use Rattle.std.specs.Prelude.{ℕ, ◌≡◌, Bool, not, ◌&&◌, ◌||◌, List, map, get_or, if◌then◌else◌}
+use Rattle.rules.specs.Basic.{all}
 use Rattle.rules.specs.Number.{got, encode_all}
 use Rattle.rules.specs.Entry.{Entry, valid_entries, apply_all}
 use Rattle.rules.specs.Request.{times, entry}

@@ -1,7 +1,7 @@
 // A token's groups: which of them are protected, and, in the words of the token's row, ENABLED of one set, all reset, and the report of
 // the enabled ones.
-ghost use Rattle.std.specs.Prelude.{◌≡◌, map, ◌≤◌, length};
-ghost use Rattle.rules.specs.Basic.{if◌then◌else◌, change_at};
+ghost use Rattle.std.specs.Prelude.{◌≡◌, map, ◌≤◌, length, if◌then◌else◌};
+ghost use Rattle.rules.specs.Basic.{change_at};
 ghost use Rattle.rules.specs.Group.{is_enabled, with_enabled};
 ghost use Rattle.rules.specs.Token.{max_groups};
 ghost use Rattle.rules.specs.Memory.{unpack};

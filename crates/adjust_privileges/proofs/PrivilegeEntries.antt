@@ -7,7 +7,7 @@ use mathlib.Core.List.{List}
 use lib.Bits.{bit_and}
 use lib.Dec.{eqb, leb}
 use borrow.Author.Tests.{leb-true}
-use Rattle.rules.specs.Basic.{if◌then◌else◌}
+use Rattle.std.specs.Prelude.{if◌then◌else◌}
 use Rattle.rules.specs.Number.{Read, got, bad}
 use Rattle.rules.specs.Entry.{Entry, valid_entries, apply_all}
 use Rattle.rules.specs.Privileges.{Privileges, exists, reset}

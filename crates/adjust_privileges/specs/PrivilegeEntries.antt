@@ -1,6 +1,5 @@
 -- What request 5's entries do to a token's privileges. Assumes nothing.
-use Rattle.std.specs.Prelude.{ℕ, ◌||◌, List, [], ◌∷◌}
-use Rattle.rules.specs.Basic.{if◌then◌else◌}
+use Rattle.std.specs.Prelude.{ℕ, ◌||◌, List, [], ◌∷◌, if◌then◌else◌}
 use Rattle.rules.specs.Number.{Read, got, bad, encode_all}
 use Rattle.rules.specs.Entry.{Entry, valid_entries}
 use Rattle.rules.specs.Privileges.{Privileges}

@@ -5,7 +5,8 @@ use mathlib.Core.Path.{◌≡◌, refl, sym, ap, ◌∙◌}
 use mathlib.Core.Bool.{Bool, true, false}
 use mathlib.Core.List.{List, [], ◌∷◌}
 use lib.ListN.{length, drop}
-use Rattle.rules.specs.Basic.{if◌then◌else◌, is_empty}
+use Rattle.std.specs.Prelude.{if◌then◌else◌}
+use Rattle.rules.specs.Basic.{is_empty}
 use Rattle.rules.specs.Number.{Read, got, bad, read_number, max32}
 use Rattle.rules.specs.Request.{Request, Reader, ◌>>=◌, follow, give, end, times, u32}
 use Rattle.number.specs.Rest.{Rest, rest, lost, read_from, after, is_end}

@@ -9,7 +9,8 @@ use lib.Dec.{eqb}
 use lib.Bits.{bit_or, or_disjoint}
 use borrow.Author.Tests.{not-true, eqb-true, eqb-false, eq-eqb, ne_eqb}
 use mathlib.Core.Logic.{⊎_elim}
-use Rattle.rules.specs.Basic.{if◌then◌else◌, all, member, distinct, is_empty}
+use Rattle.std.specs.Prelude.{if◌then◌else◌}
+use Rattle.rules.specs.Basic.{all, member, distinct, is_empty}
 use Rattle.rules.specs.Bits.{has}
 use Rattle.rules.specs.Number.{Read, got, bad}
 use Rattle.rules.specs.Entry.{Entry, key_of, valid_entries, apply_all}

@@ -1,6 +1,5 @@
 -- What the fields that were read from a body say. Assumes nothing.
-use Rattle.std.specs.Prelude.{ℕ, ◌≤◌, max, ◌≡◌, Bool, true, List, [], length, drop, get_or}
-use Rattle.rules.specs.Basic.{if◌then◌else◌}
+use Rattle.std.specs.Prelude.{ℕ, ◌≤◌, max, ◌≡◌, Bool, true, List, [], length, drop, get_or, if◌then◌else◌}
 use Rattle.rules.specs.Number.{Read, got, bad}
 use Rattle.rules.specs.Entry.{Entry}
 use Rattle.rules.specs.Sid.{is_packed, sid_in}

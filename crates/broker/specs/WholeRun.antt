@@ -1,7 +1,7 @@
 -- Demand 3 of the calls themselves: calls that meet their contracts (`Promise`), one after the other, each with the memory as the last one
 -- left it, from the memory of any valid state and so from what start leaves. Assumes nothing.
-use Rattle.std.specs.Prelude.{ℕ, ◌≡◌, true, List, [], ◌∷◌, ◌++◌, map, length, take, drop, eqb}
-use Rattle.rules.specs.Basic.{if◌then◌else◌, all}
+use Rattle.std.specs.Prelude.{ℕ, ◌≡◌, true, List, [], ◌∷◌, ◌++◌, map, length, take, drop, eqb, if◌then◌else◌}
+use Rattle.rules.specs.Basic.{all}
 use Rattle.rules.specs.Refusal.{invalid_memory}
 use Rattle.rules.specs.State.{State, start}
 use Rattle.rules.specs.Memory.{Memory, sized, encode}

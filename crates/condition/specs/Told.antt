@@ -1,6 +1,5 @@
 -- What is told of the condition, or of the conditions, that the layout reads at a place. Assumes nothing.
-use Rattle.std.specs.Prelude.{ℕ, ◌≡◌, Bool, true, false, not, ◌&&◌, ◌||◌, List, map, eqb, drop}
-use Rattle.rules.specs.Basic.{if◌then◌else◌}
+use Rattle.std.specs.Prelude.{ℕ, ◌≡◌, Bool, true, false, not, ◌&&◌, ◌||◌, List, map, eqb, drop, if◌then◌else◌}
 use Rattle.rules.specs.Number.{Read, got, bad}
 use Rattle.rules.specs.Privileges.{granted}
 use Rattle.rules.specs.Group.{is_enabled}

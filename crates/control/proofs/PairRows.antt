@@ -11,7 +11,7 @@ use borrow.Author.Tests.{eq-eqb, ne_eqb, lt-ltb, le-ltb}
 use Rattle.table.specs.Table.{flat, record_at_lem, record_element, length_flat, record_flat, put_flat}
 use Rattle.table.specs.Rows.{rows_at, length_rows}
 use Rattle.table.specs.Sections.{place_of, section_long, section_word}
-use Rattle.rules.specs.Basic.{if◌then◌else◌}
+use Rattle.std.specs.Prelude.{if◌then◌else◌}
 use Rattle.rules.specs.Table.{Slot, free, live, or_else}
 use Rattle.rules.specs.Pair as rules
 use Rattle.rules.specs.Pair.{is_of}

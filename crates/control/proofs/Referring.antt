@@ -8,7 +8,8 @@ use lib.Dec.{eqb, ltb, leb-suc-suc}
 use lib.ListN.{length, get_or, length-map}
 use borrow.Author.Tests.{eqb-true, eqb-false, eq-eqb, ne_eqb, lt-ltb}
 use Rattle.table.specs.Rows.{length_rows}
-use Rattle.rules.specs.Basic.{if◌then◌else◌, member, non_zero}
+use Rattle.std.specs.Prelude.{if◌then◌else◌}
+use Rattle.rules.specs.Basic.{member, non_zero}
 use Rattle.rules.specs.Table.{Slot, free, live, lives}
 use Rattle.rules.specs.Pair.{Pair, has}
 use Rattle.rules.specs.Index.{found_index}

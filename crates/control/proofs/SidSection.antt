@@ -1,5 +1,5 @@
 -- The SID table's section: its first word, a copy of it, another table in its place, and a SID of it written. Assumes nothing.
-use Prim.Native.Nat.{ℕ, zero, suc, ◌+◌, ◌-◌, ◌≤◌, ◌<◌}
+use Prim.Native.Nat.{ℕ, zero, suc, ◌-◌, ◌≤◌, ◌<◌}
 use native.Mathlib.Omega.{arith}
 use mathlib.Core.Path.{◌≡◌, refl, sym, ap, ap₂, ◌∙◌, subst}
 use mathlib.Core.Bool.{Bool, true, false, ◌&&◌, and-false}
@@ -10,7 +10,7 @@ use borrow.Author.Tests.{eq-eqb, ne_eqb}
 use lib.Seq.{drop_at, take-append-add, drop-append-add}
 use Rattle.table.specs.Table.{flat}
 use Rattle.table.specs.Sections.{place_of, joined, section_part, section_word, sections_long}
-use Rattle.rules.specs.Basic.{if◌then◌else◌}
+use Rattle.std.specs.Prelude.{if◌then◌else◌}
 use Rattle.rules.specs.Number.{got}
 use Rattle.rules.specs.Sid.{Sid, packed}
 use Rattle.rules.specs.SidTable.{max_sids, is_number, place_of_number, sid_of, sids_valid}

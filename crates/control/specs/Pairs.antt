@@ -1,8 +1,8 @@
 -- What the functions over the linked pairs' rows give: of the pairs that are read from the words, and, where they are stored, of every state
 -- that the words hold. Assumes nothing.
-use Rattle.std.specs.Prelude.{ℕ, ◌≤◌, ◌≡◌, Bool, List, [], ◌++◌, map, ltb, get_or, set}
+use Rattle.std.specs.Prelude.{ℕ, ◌≤◌, ◌≡◌, Bool, List, [], ◌++◌, map, ltb, get_or, set, if◌then◌else◌}
 use Rattle.table.specs.Rows.{read_rows}
-use Rattle.rules.specs.Basic.{if◌then◌else◌, member}
+use Rattle.rules.specs.Basic.{member}
 use Rattle.rules.specs.Table.{Slot, free, live, lives}
 use Rattle.rules.specs.Pair as rules
 use Rattle.rules.specs.Pair.{is_of}

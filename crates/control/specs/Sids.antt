@@ -1,6 +1,5 @@
 -- What the functions over the SID table's section give, for every state that the words hold. Assumes nothing.
-use Rattle.std.specs.Prelude.{ℕ, ◌≤◌, ◌≡◌, Bool, true, false, ◌&&◌, List, ◌++◌, eqb, length, drop}
-use Rattle.rules.specs.Basic.{if◌then◌else◌}
+use Rattle.std.specs.Prelude.{ℕ, ◌≤◌, ◌≡◌, Bool, true, false, ◌&&◌, List, ◌++◌, eqb, length, drop, if◌then◌else◌}
 use Rattle.rules.specs.Number.{got}
 use Rattle.rules.specs.Sid.{Sid, packed, read_sid}
 use Rattle.rules.specs.SidTable.{is_number, sid_of}

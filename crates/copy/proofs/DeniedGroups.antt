@@ -9,7 +9,8 @@ use lib.Bits.{bit_or}
 use lib.Dec.{ltb}
 use lib.ListN.{length, drop}
 use borrow.Author.Tests.{ltb-true}
-use Rattle.rules.specs.Basic.{if◌then◌else◌, all, distinct, change_at, is_below}
+use Rattle.std.specs.Prelude.{if◌then◌else◌}
+use Rattle.rules.specs.Basic.{all, distinct, change_at, is_below}
 use Rattle.rules.specs.Bits.{has}
 use Rattle.rules.specs.Number.{max32}
 use Rattle.rules.specs.Entry.{Entry, key_of, apply_all}

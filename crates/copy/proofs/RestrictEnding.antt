@@ -10,7 +10,8 @@ use lib.Seq.{drop_at}
 use borrow.Author.Tests.{not-true, not-false, le-leb, lt-leb, leb-true, ltb-true}
 use Rattle.table.specs.Lists.{pad, length_pad, take_pad}
 use Rattle.table.specs.Table.{record_at_lem, part_at, record_element}
-use Rattle.rules.specs.Basic.{if◌then◌else◌, implies, all, distinct, is_below}
+use Rattle.std.specs.Prelude.{if◌then◌else◌}
+use Rattle.rules.specs.Basic.{implies, all, distinct, is_below}
 use Rattle.rules.specs.Bits.{within}
 use Rattle.rules.specs.Mask as Mask
 use Rattle.rules.specs.Number.{got}

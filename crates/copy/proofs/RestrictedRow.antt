@@ -10,7 +10,8 @@ use lib.Dec.{eqb}
 use lib.ListN.{length, take, get_or, set, replicate, length-map, length-set, get_or-append}
 use lib.Seq.{get_or-append-add, get_or-take, set-append_left, take-set-lt}
 use Rattle.table.specs.Lists.{pad, length_pad, set_append_add}
-use Rattle.rules.specs.Basic.{if◌then◌else◌, change_at, word32}
+use Rattle.std.specs.Prelude.{if◌then◌else◌}
+use Rattle.rules.specs.Basic.{change_at, word32}
 use Rattle.rules.specs.Growth.{Mem, here, there}
 use Rattle.rules.specs.Group.{Group, denied}
 use Rattle.rules.specs.Privileges as rules

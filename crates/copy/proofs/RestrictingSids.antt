@@ -12,7 +12,8 @@ use borrow.Author.Tests.{eq-eqb, ne_eqb}
 use borrow.Rule.Slice.PartMut.{put_mid, Post-is}
 use Rattle.table.specs.Lists.{pad, length_pad, pad_fits}
 use Rattle.table.specs.Table.{part_at}
-use Rattle.rules.specs.Basic.{if◌then◌else◌, filter, member, is_empty}
+use Rattle.std.specs.Prelude.{if◌then◌else◌}
+use Rattle.rules.specs.Basic.{filter, member, is_empty}
 use Rattle.rules.specs.Number.{got, max32}
 use Rattle.rules.specs.Token.{Token, max_groups, max_restricting}
 use Rattle.rules.specs.Head as Head

@@ -1,6 +1,6 @@
 -- What request 10's indexes do: they are judged, and the groups denied in a row. Assumes nothing.
-use Rattle.std.specs.Prelude.{ℕ, ◌<◌, ◌≡◌, Bool, ◌&&◌, List, length, drop}
-use Rattle.rules.specs.Basic.{if◌then◌else◌, all, distinct, change_at, is_below, word32}
+use Rattle.std.specs.Prelude.{ℕ, ◌<◌, ◌≡◌, Bool, ◌&&◌, List, length, drop, if◌then◌else◌}
+use Rattle.rules.specs.Basic.{all, distinct, change_at, is_below, word32}
 use Rattle.rules.specs.Number.{got}
 use Rattle.rules.specs.Entry.{Entry}
 use Rattle.rules.specs.Growth.{Mem}

@@ -1,7 +1,7 @@
 -- What requests 10 and 15 make and do, where the indexes and the SIDs are all there. Assumes nothing.
-use Rattle.std.specs.Prelude.{ℕ, ◌≤◌, ◌<◌, ◌≡◌, Bool, true, ◌&&◌, ◌||◌, List, eqb, leb, length, drop}
+use Rattle.std.specs.Prelude.{ℕ, ◌≤◌, ◌<◌, ◌≡◌, Bool, true, ◌&&◌, ◌||◌, List, eqb, leb, length, drop, if◌then◌else◌}
 use Rattle.table.specs.Table.{record_at_lem}
-use Rattle.rules.specs.Basic.{if◌then◌else◌, all}
+use Rattle.rules.specs.Basic.{all}
 use Rattle.rules.specs.Number.{got}
 use Rattle.rules.specs.Privileges.{remove}
 use Rattle.rules.specs.Token.{Token, max_groups, max_restricting}

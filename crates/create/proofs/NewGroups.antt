@@ -9,7 +9,8 @@ use lib.Dec.{leb, ltb}
 use lib.ListN.{length, drop, set, replicate, length-set, length-append, length-map}
 use lib.Seq.{append_snoc}
 use borrow.Author.Tests.{le-leb, lt-leb, ltb-true, ltb-false, not-false, not-true}
-use Rattle.rules.specs.Basic.{if◌then◌else◌, all, implies, both_or_neither}
+use Rattle.std.specs.Prelude.{if◌then◌else◌}
+use Rattle.rules.specs.Basic.{all, implies, both_or_neither}
 use Rattle.rules.specs.Bits.{has, within}
 use Rattle.rules.specs.Number.{Read, got, bad}
 use Rattle.rules.specs.Entry.{Entry}

@@ -8,7 +8,8 @@ use lib.Dec.{leb, eqb}
 use lib.ListN.{length, take, drop, length-take, length-map}
 use lib.Seq.{take_all}
 use borrow.Author.Tests.{not-false, eq-eqb, ne_eqb, leb-true}
-use Rattle.rules.specs.Basic.{if◌then◌else◌, all, is_below, same, implies, both_or_neither}
+use Rattle.std.specs.Prelude.{if◌then◌else◌}
+use Rattle.rules.specs.Basic.{all, is_below, same, implies, both_or_neither}
 use Rattle.rules.specs.Bits.{has, within}
 use Rattle.rules.specs.Mask.{all_rights}
 use Rattle.rules.specs.Number.{Read, got, bad, read_number, max32}

@@ -9,7 +9,8 @@ use lib.Dec.{ltb, eqb}
 use lib.ListN.{length, take, drop, get_or, set, replicate, length-set, length-append}
 use lib.Seq.{take_all}
 use borrow.Author.Tests.{ne_eqb, lt-ltb}
-use Rattle.rules.specs.Basic.{if◌then◌else◌, all, is_below, same}
+use Rattle.std.specs.Prelude.{if◌then◌else◌}
+use Rattle.rules.specs.Basic.{all, is_below, same}
 use Rattle.rules.specs.Number.{max32}
 use Rattle.rules.specs.Growth.{Mem, here, there}
 use Rattle.rules.specs.Group as rules

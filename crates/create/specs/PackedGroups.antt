@@ -1,6 +1,6 @@
 -- Request 14's groups: their packed SIDs enter a copy of the SID table, which holds the first 256 of the rule's. Assumes nothing.
-use Rattle.std.specs.Prelude.{ℕ, ◌≤◌, ◌≡◌, Bool, true, false, ◌&&◌, List, map, leb, length, drop}
-use Rattle.rules.specs.Basic.{if◌then◌else◌, all, is_below, same}
+use Rattle.std.specs.Prelude.{ℕ, ◌≤◌, ◌≡◌, Bool, true, false, ◌&&◌, List, map, leb, length, drop, if◌then◌else◌}
+use Rattle.rules.specs.Basic.{all, is_below, same}
 use Rattle.rules.specs.Number.{got, bad, max32}
 use Rattle.rules.specs.Token.{max_groups}
 use Rattle.rules.specs.Memory.{token_words}

@@ -1,6 +1,5 @@
 -- What a handle that was looked up is refused for. Assumes nothing.
-use Rattle.std.specs.Prelude.{ℕ, Bool, not, eqb}
-use Rattle.rules.specs.Basic.{if◌then◌else◌}
+use Rattle.std.specs.Prelude.{ℕ, Bool, not, eqb, if◌then◌else◌}
 use Rattle.handle.specs.declared.Handle.{Handle}
 
 -- the refusal's number, 0 for none

@@ -8,7 +8,7 @@ use mathlib.Core.List.{List, [], ◌∷◌, map}
 use lib.Dec.{eqb}
 use lib.ListN.{take, drop, get_or}
 use borrow.Author.Tests.{ne_eqb, eqb-true, eqb-false}
-use Rattle.rules.specs.Basic.{if◌then◌else◌}
+use Rattle.std.specs.Prelude.{if◌then◌else◌}
 use Rattle.rules.specs.Number.{Read, got, bad, encode}
 use Rattle.rules.specs.Mask as mask
 use Rattle.rules.specs.Refusal.{refusal, bad_field}

@@ -1,6 +1,5 @@
 -- What request 18 asks from a place of a body on, and what its code answers. Assumes nothing.
-use Rattle.std.specs.Prelude.{ℕ, min, List, eqb, get_or, take, drop}
-use Rattle.rules.specs.Basic.{if◌then◌else◌}
+use Rattle.std.specs.Prelude.{ℕ, min, List, eqb, get_or, take, drop, if◌then◌else◌}
 use Rattle.rules.specs.Number.{Read}
 use Rattle.rules.specs.Token.{Token, max_groups}
 use Rattle.rules.specs.Condition.{max_depth}

@@ -4,10 +4,11 @@ use mathlib.Core.List.{List, [], ◌∷◌, ◌++◌}
 use Prim.Native.Nat.{ℕ, zero, suc, ◌+◌, ◌≤◌, ◌<◌}
 use native.Mathlib.Numerals.{add-one}
 use native.Mathlib.Omega.{arith}
-use lib.Dec.{T as Holds, ltb, nltb→le}
-use mathlib.Core.Bool.{not, ◌&&◌}
+use lib.Dec.{ltb}
+use mathlib.Core.Bool.{false, ◌&&◌}
 use mathlib.Core.Logic.{◌⊎◌, inl, inr}
-use mir.Facts.{and_no}
+use borrow.Author.Tests.{ltb-false}
+use Rattle.std.proofs.lemmas.Bool.{and_cases}
 use lib.ListN.{length, get_or, take, drop, set, replicate, length-replicate}
 use lib.Seq.{take_all, take-suc, drop-cons, set_at, length-take-le}
 use Rattle.rules.specs.State.{handle_slots}
@@ -55,12 +56,12 @@ module _ (ys : List Handle) where
       ∙ ap (λ (j : ℕ). loaded (take j ys)) (sym (add-one i))
 
   -- the loop is left at the list's end, or once the slots are full
-  pub loads_all : {i : ℕ} {items : List Handle} → Loads i items → i ≤ length ys → Holds (not (ltb i handle_slots && ltb i (length ys))) → items ≡ loaded ys
-  loads_all {i} p l out = p ∙ all_loaded i l (and_no (ltb i handle_slots) (ltb i (length ys)) out)
+  pub loads_all : {i : ℕ} {items : List Handle} → Loads i items → i ≤ length ys → (ltb i handle_slots && ltb i (length ys)) ≡ false → items ≡ loaded ys
+  loads_all {i} p l out = p ∙ all_loaded (and_cases (ltb i handle_slots) (ltb i (length ys)) out)
     where
-      all_loaded : (i : ℕ) → i ≤ length ys → Holds (not (ltb i handle_slots)) ⊎ Holds (not (ltb i (length ys))) → loaded (take i ys) ≡ loaded ys
-      all_loaded i l (inl out) = cut_late (replicate handle_slots none) handle_slots i ys (nltb→le i handle_slots out) l
-      all_loaded i l (inr out) = ap loaded (take_all i ys (nltb→le i (length ys) out))
+      all_loaded : (ltb i handle_slots ≡ false) ⊎ (ltb i (length ys) ≡ false) → loaded (take i ys) ≡ loaded ys
+      all_loaded (inl out) = cut_late (replicate handle_slots none) handle_slots i ys (omega (arith, ltb-false)) l
+      all_loaded (inr out) = ap loaded (take_all i ys (omega (arith, ltb-false)))
 
 -- ---- clear_first: the first i slots are free
 

@@ -2,5 +2,3 @@ pub mod Rest
 pub mod Slots
 pub mod Words
 pub mod Lent
-pub mod Records
-pub mod Walk

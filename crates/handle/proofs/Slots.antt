@@ -8,7 +8,8 @@ use lib.Dec.{eqb}
 use lib.ListN.{length, get_or, set, get_or-map}
 use lib.Seq.{set_out, get_or-set_other}
 use borrow.Author.Tests.{eqb-true, eqb-false}
-use Rattle.rules.specs.Basic.{if◌then◌else◌, member}
+use Rattle.std.specs.Prelude.{if◌then◌else◌}
+use Rattle.rules.specs.Basic.{member}
 use Rattle.rules.specs.Table.{free, live, lives, found}
 use Rattle.rules.specs.Index.{free_index, found_index}
 use Rattle.rules.specs.Handle as rules

@@ -69,7 +69,7 @@ module _ (h : Handle) (s : h.station < word16) (m : h.mask < word16) where
   put_from (suc n) (suc i) (suc (suc k)) (a ∷ []) e l f = absurd (omega arith)
   put_from (suc n) (suc i) (suc (suc k)) (a ∷ b ∷ ws) e l f = ap (λ (hs : List Handle). record_in (a ∷ b ∷ []) ∷ hs) (put_from n i k ws (omega arith) (omega arith) (omega arith))
 
-  pub slot_put : (ws : List ℕ) (i : ℕ) → i < handle_slots → length ws ≡ handle_slots * slot_words → records_in (set (set ws (i * slot_words) (first_word h)) (i * slot_words + 1) h.token) ≡ set (records_in ws) i h
+  slot_put : (ws : List ℕ) (i : ℕ) → i < handle_slots → length ws ≡ handle_slots * slot_words → records_in (set (set ws (i * slot_words) (first_word h)) (i * slot_words + 1) h.token) ≡ set (records_in ws) i h
   slot_put ws i l f =
       let one : i * slot_words + 1 ≡ suc (i * slot_words) = omega arith in
       ap (λ (j : ℕ). records_in (set (set ws (i * slot_words) (first_word h)) j h.token)) one ∙ put_from handle_slots i (i * slot_words) ws refl l (omega arith)

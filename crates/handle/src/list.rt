@@ -7,7 +7,7 @@ ghost use Rattle.handle.specs.Meaning.{slots_of, none};
 ghost use Rattle.handle.specs.Words.{slot_words, records_in};
 ghost use Rattle.handle.specs.Loaded.{loaded};
 
-use crate::{HANDLE_WORDS, Handle, Handles, NONE, SLOT_WORDS, SLOTS};
+use crate::{HANDLE_WORDS, Handle, Handles, NONE, SLOTS};
 
 fn no_words() -> [u64; HANDLE_WORDS]
     ensures { result ≡ replicate (handle_slots * slot_words) 0 }
@@ -28,12 +28,7 @@ pub fn load(list: &[Handle]) -> Handles
     let mut words = no_words();
     let mut slot: usize = 0;
     while (slot < SLOTS) & (slot < list.len()) {
-        let h = list[slot];
-        let from = slot * SLOT_WORDS;
-        let first = crate::first_word(h);
-        words[from] = first;
-        let then = from + 1;
-        words[then] = h.token;
+        crate::put(&mut words, slot, list[slot]);
         slot = slot + 1;
     }
     of_words(words)

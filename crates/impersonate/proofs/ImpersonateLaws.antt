@@ -7,7 +7,8 @@ use mathlib.Core.Logic.{inl, inr}
 use mathlib.Core.List.{List, [], ◌∷◌}
 use lib.Dec.{eqb, leb, ltb}
 use borrow.Author.Tests.{eqb-true, eq-eqb, ne_eqb, leb-true, leb-false, lt-ltb, le-ltb}
-use Rattle.rules.specs.Basic.{if◌then◌else◌, implies, both_or_neither}
+use Rattle.std.specs.Prelude.{if◌then◌else◌}
+use Rattle.rules.specs.Basic.{implies, both_or_neither}
 use Rattle.rules.specs.Number.{encode, encode_all}
 use Rattle.rules.specs.Mask as Mask
 use Rattle.rules.specs.Privileges as Privileges

@@ -1,6 +1,6 @@
 -- What the parts of requests 12 and 13 give, for every valid state that the parts hold. Assumes nothing.
-use Rattle.std.specs.Prelude.{ℕ, ◌≤◌, min, ◌≡◌, Bool, true, not, ◌&&◌, ◌||◌, List, eqb, leb}
-use Rattle.rules.specs.Basic.{if◌then◌else◌, implies}
+use Rattle.std.specs.Prelude.{ℕ, ◌≤◌, min, ◌≡◌, Bool, true, not, ◌&&◌, ◌||◌, List, eqb, leb, if◌then◌else◌}
+use Rattle.rules.specs.Basic.{implies}
 use Rattle.rules.specs.Privileges as Privileges
 use Rattle.rules.specs.Token.{Token, impersonation, identification, is_restricted}
 use Rattle.rules.specs.State.{State, token_of, caller, held, set_client, released}

@@ -1,6 +1,5 @@
 -- What the parts of request 11 give, for every valid state that the parts hold. Assumes nothing.
-use Rattle.std.specs.Prelude.{ℕ, ◌<◌, ◌≡◌, Bool, true, ◌||◌, List, eqb}
-use Rattle.rules.specs.Basic.{if◌then◌else◌}
+use Rattle.std.specs.Prelude.{ℕ, ◌<◌, ◌≡◌, Bool, true, ◌||◌, List, eqb, if◌then◌else◌}
 use Rattle.rules.specs.Privileges.{assign_primary_token, tcb}
 use Rattle.rules.specs.Token.{Token, primary}
 use Rattle.rules.specs.State.{State, token_of, caller, held, set_token, released}

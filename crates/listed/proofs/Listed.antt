@@ -11,7 +11,8 @@ use lib.Dec.{eqb, leb, ltb}
 use lib.ListN.{length, take, drop, get_or, length-take, length-drop}
 use lib.Seq.{take_all, take-take}
 use Rattle.table.specs.Rows.{read_rows, test_rows, RowsTested, rows_more, rows_done}
-use Rattle.rules.specs.Basic.{if◌then◌else◌, all, word32}
+use Rattle.std.specs.Prelude.{if◌then◌else◌}
+use Rattle.rules.specs.Basic.{all, word32}
 use Rattle.rules.specs.Token.{Token, max_groups, max_restricting, max_dacl}
 use Rattle.rules.specs.Group.{sid_of}
 use Rattle.rules.specs.Table.{Slot, free, live, lives}

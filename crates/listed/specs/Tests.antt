@@ -1,8 +1,8 @@
 -- The SIDs that tokens keep are in the table: as the rules say it of a row, and as the code tests it by the table's count. Assumes nothing.
-use Rattle.std.specs.Prelude.{ℕ, ◌+◌, ◌-◌, ◌≡◌, Bool, true, ◌&&◌, ◌||◌, List, [], eqb, leb, length, get_or}
+use Rattle.std.specs.Prelude.{ℕ, ◌+◌, ◌-◌, ◌≡◌, Bool, true, ◌&&◌, ◌||◌, List, [], eqb, leb, length, get_or, if◌then◌else◌}
 use Rattle.std.specs.Int.Bits.{bit_or}
 use Rattle.table.specs.Rows.{test_rows}
-use Rattle.rules.specs.Basic.{if◌then◌else◌, all, word32}
+use Rattle.rules.specs.Basic.{all, word32}
 use Rattle.rules.specs.Token.{anonymous, system}
 use Rattle.rules.specs.State.{token_slots}
 use Rattle.rules.specs.Sid.{Sid}

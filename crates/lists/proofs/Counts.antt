@@ -7,7 +7,8 @@ use native.Mathlib.Omega.{arith}
 use borrow.Author.Tests.{eq-eqb, ne_eqb, eqb-true, eqb-false, le-leb, lt-leb}
 use lib.Dec.{eqb, leb}
 use lib.ListN.{length}
-use Rattle.rules.specs.Basic.{if◌then◌else◌, all, member, distinct}
+use Rattle.std.specs.Prelude.{if◌then◌else◌}
+use Rattle.rules.specs.Basic.{all, member, distinct}
 use Rattle.rules.specs.Growth.{Mem, here, there}
 use Rattle.rules.proofs.Logic.{and_l, and_r, not_i, all_mem, mem_all, member_mem, distinct_head, distinct_tail, distinct_cons}
 use Rattle.lists.specs.Tests.{one, count, is_once, tally}

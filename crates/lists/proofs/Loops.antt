@@ -10,7 +10,8 @@ use lib.Bits.{bit_or, or_add_and, and_le_l, and_le_r}
 use lib.Dec.{eqb, leb}
 use lib.ListN.{length, drop, get_or, drop_of_length-le}
 use lib.Seq.{drop-cons}
-use Rattle.rules.specs.Basic.{all, if◌then◌else◌}
+use Rattle.std.specs.Prelude.{if◌then◌else◌}
+use Rattle.rules.specs.Basic.{all}
 use Rattle.lists.specs.Tests.{one, count, tally, is_referred, refs_test, reference_slots}
 
 -- ---- every element passes

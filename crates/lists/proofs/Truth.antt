@@ -8,7 +8,8 @@ use native.Mathlib.Omega.{arith}
 use borrow.Author.Tests.{eq-eqb, ne_eqb, lt-ltb, eqb-true, ltb-true, ltb-false}
 use lib.Dec.{eqb, ltb}
 use lib.ListN.{take, get_or}
-use Rattle.rules.specs.Basic.{if◌then◌else◌, all, member, implies, word32}
+use Rattle.std.specs.Prelude.{if◌then◌else◌}
+use Rattle.rules.specs.Basic.{all, member, implies, word32}
 use Rattle.rules.proofs.Logic.{all_mem, mem_all, member_mem}
 
 -- two tests that pass together are one

@@ -1,6 +1,6 @@
 -- What the code tests of every number of a list. Assumes nothing.
-use Rattle.std.specs.Prelude.{ℕ, ◌+◌, Bool, ◌&&◌, List, [], ◌∷◌, eqb, leb, ltb, length}
-use Rattle.rules.specs.Basic.{if◌then◌else◌, all, word32}
+use Rattle.std.specs.Prelude.{ℕ, ◌+◌, Bool, ◌&&◌, List, [], ◌∷◌, eqb, leb, ltb, length, if◌then◌else◌}
+use Rattle.rules.specs.Basic.{all, word32}
 use Rattle.rules.specs.State.{handle_slots, station_count, pair_slots}
 
 abbrev pub is_narrow : ℕ → Bool

@@ -1,12 +1,11 @@
 -- Numbers one after the other, as a loop passes over them. Assumes nothing.
-use Prim.Native.Nat.{ℕ, zero, suc, ◌+◌, ◌-◌, ◌^◌, ◌≤◌, ◌<◌, min}
+use Prim.Native.Nat.{ℕ, zero, suc, ◌+◌, ◌-◌, ◌≤◌, ◌<◌, min}
 use native.Mathlib.Nat.{le_of_suc-le-suc, not-suc-le-zero}
 use native.Mathlib.Numerals.{add-one}
 use native.Mathlib.Omega.{arith}
 use mathlib.Core.Path.{◌≡◌, sym, ap, ◌∙◌}
 use mathlib.Core.List.{List, [], ◌∷◌, ◌++◌, append-nil, append_assoc}
 use lib.ListN.{length, take, drop, get_or, length-append}
-use lib.Seq.{take_all}
 use borrow.Rule.Slice.PartMut.{put_mid}
 use Rattle.rules.specs.Number.{encode, encode_all}
 use Rattle.number.specs.Over.{over}
@@ -33,13 +32,6 @@ length_part [] (suc i) = omega arith
 length_part (f ∷ fs) zero = omega arith
 length_part (f ∷ fs) (suc i) = omega (arith, length-append (encode f) (encode_all (take i fs)), length-append (encode f) (encode_all fs), length_part fs i)
 
--- all fields are passed
-pub all_length : (fs : List ℕ) (a i : ℕ) → a ≡ length (encode_all (take i fs)) → length fs ≤ i → a ≡ length (encode_all fs)
-all_length fs a i e h = e ∙ ap (λ (l : List ℕ). length (encode_all l)) (take_all i fs h)
-
-pub all_over : (fs o o₀ : List ℕ) (i : ℕ) → o ≡ over (encode_all (take i fs)) o₀ → length fs ≤ i → o ≡ over (encode_all fs) o₀
-all_over fs o o₀ i e h = e ∙ ap (λ (l : List ℕ). over (encode_all l) o₀) (take_all i fs h)
-
 -- a loop that writes field after field: o holds the first i fields over o₀, up to a, and all have room
 module _ (fs o₀ o : List ℕ) (a i : ℕ) (more : i < length fs) (e : a ≡ length (encode_all (take i fs))) (f : o ≡ over (encode_all (take i fs)) o₀) (fit : length (encode_all fs) ≤ length o₀) where
   room : a + length (encode (get_or fs i 0)) ≤ length o
@@ -49,12 +41,8 @@ module _ (fs o₀ o : List ℕ) (a i : ℕ) (more : i < length fs) (e : a ≡ le
   room_start = omega (arith, room)
 
   -- the next one is written whole, r bytes
-  module _ (r : ℕ) (w : r ≡ min (length (encode (get_or fs i 0))) (length (take (length o - a) (drop a o)))) where
-    pub next_place : a + r ≡ length (encode_all (take (i + 1) fs))
-    next_place = omega (arith, room, lent_length o a, length_next fs i more)
-
-    pub next_fits : length o₀ < 2 ^ 64 → a + r < 2 ^ 64
-    next_fits k = omega (arith, next_place, length_part fs (i + 1))
+  pub next_place : (r : ℕ) → r ≡ min (length (encode (get_or fs i 0))) (length (take (length o - a) (drop a o))) → a + r ≡ length (encode_all (take (i + 1) fs))
+  next_place r w = omega (arith, room, lent_length o a, length_next fs i more)
 
   pub filled : (ys : List ℕ) → ys ≡ over (encode (get_or fs i 0)) (take (length o - a) (drop a o)) → put_mid a (length o - a) o ys ≡ over (encode_all (take (i + 1) fs)) o₀
   filled ys w = onto (encode_all (take i fs)) (encode (get_or fs i 0)) o₀ o ys a e f w ∙ ap (λ (l : List ℕ). over l o₀) (sym (encoded_next fs i more))

@@ -2,4 +2,3 @@ pub mod Over
 pub mod Reading
 pub mod Cursors
 pub mod Fields
-pub mod Plain

@@ -1,5 +1,5 @@
 -- Writing over the start of a list, and over a part of it that a function lends. Assumes nothing.
-use Prim.Native.Nat.{ℕ, zero, suc, ◌+◌, ◌-◌, ◌^◌, ◌≤◌, ◌<◌}
+use Prim.Native.Nat.{ℕ, zero, suc, ◌+◌, ◌-◌, ◌≤◌, ◌<◌}
 use native.Mathlib.Nat.{le_of_suc-le-suc, not-suc-le-zero}
 use native.Mathlib.Numerals.{add-one}
 use native.Mathlib.Omega.{arith}
@@ -86,12 +86,5 @@ module _ (ws zs o₀ : List ℕ) (fit : length (ws ++ zs) ≤ length o₀) where
     pub both : a + length zs ≡ length (ws ++ zs)
     both = omega (arith, length-append ws zs)
 
-    pub both_fit : length o₀ < 2 ^ 64 → a + length zs < 2 ^ 64
-    both_fit k = omega (arith, both)
-
-    module _ (o : List ℕ) (f : o ≡ over ws o₀) where
-      pub starts : a ≤ length o
-      starts = omega (arith, first_fits, over_same ws o o₀ f)
-
-      pub second_fits : length zs ≤ length (take (length o - a) (drop a o))
-      second_fits = omega (arith, both, lent_length o a, over_same ws o o₀ f)
+    pub second_fits : (o : List ℕ) → o ≡ over ws o₀ → length zs ≤ length (take (length o - a) (drop a o))
+    second_fits o f = omega (arith, both, lent_length o a, over_same ws o o₀ f)

@@ -1,6 +1,5 @@
 -- What the crate's answers and cursors say in the terms of the rules, and the bounds of their places. Assumes nothing.
-use Rattle.std.specs.Prelude.{ℕ, ◌/◌, ◌≤◌, ◌<◌, max, ◌≡◌, List, length, drop}
-use Rattle.rules.specs.Basic.{if◌then◌else◌}
+use Rattle.std.specs.Prelude.{ℕ, ◌/◌, ◌≤◌, ◌<◌, max, ◌≡◌, List, length, drop, if◌then◌else◌}
 use Rattle.rules.specs.Number.{Read, got, bad, longer, read_number}
 use Rattle.rules.specs.Request.{Reader, times}
 use Rattle.number.specs.Rest.{Rest, rest, lost, read_from, after}

@@ -7,10 +7,10 @@ use borrow.Author.Tests.{eq-eqb, ne_eqb, eqb-true}
 use lib.Dec.{eqb, leb}
 use lib.ListN.{take, drop, get_or}
 use Rattle.table.specs.Rows.{read_rows, test_rows}
-use Rattle.rules.specs.Basic.{if◌then◌else◌, all, member, filter, non_zero, implies}
+use Rattle.std.specs.Prelude.{if◌then◌else◌}
+use Rattle.rules.specs.Basic.{all, member, filter, non_zero, implies}
 use Rattle.rules.specs.Token.{Token, max_dacl, impersonation}
 use Rattle.rules.specs.Table.{Slot, free, live, lives}
-use Rattle.rules.specs.Station.{Station}
 use Rattle.rules.specs.State.{token_slots, client_token}
 use Rattle.rules.specs.Valid.{client_fits}
 use Rattle.rules.specs.Head as Head

@@ -13,7 +13,8 @@ use lib.ListN.{length, take, drop, get_or, set, length-set, length-drop}
 use lib.Seq.{drop-drop, length-take-le, take_all, take-add, take-suc, take-set-le, take-suc-set, drop-set-add}
 use Rattle.table.specs.Table.{record_element}
 use Rattle.table.specs.Rows.{read_rows, length_rows, rows_at}
-use Rattle.rules.specs.Basic.{if◌then◌else◌, all, member, distinct, implies}
+use Rattle.std.specs.Prelude.{if◌then◌else◌}
+use Rattle.rules.specs.Basic.{all, member, distinct, implies}
 use Rattle.rules.specs.Token.{Token, max_dacl, primary}
 use Rattle.rules.specs.Table.{Slot, free, live, lives}
 use Rattle.rules.specs.Handle.{Handle, no_handle}

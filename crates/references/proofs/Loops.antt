@@ -8,7 +8,8 @@ use native.Mathlib.Omega.{arith}
 use lib.Dec.{eqb}
 use lib.ListN.{length, take, drop, get_or, set, length-set, drop_of_length-le}
 use lib.Seq.{drop-cons, take-set-le, take-suc-set}
-use Rattle.rules.specs.Basic.{if◌then◌else◌, all}
+use Rattle.std.specs.Prelude.{if◌then◌else◌}
+use Rattle.rules.specs.Basic.{all}
 use Rattle.lists.proofs.Loops.{TestedArray, array_none, array_more, array_done}
 use Rattle.references.specs.Tests.{kept, is_kept, Front}
 

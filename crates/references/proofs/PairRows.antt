@@ -12,7 +12,8 @@ use lib.Seq.{take_all}
 use Rattle.table.specs.Lists.{named_take}
 use Rattle.table.specs.Table.{flat, record_at_lem, part_at}
 use Rattle.table.specs.Rows.{read_rows, test_rows, length_rows, rows_at}
-use Rattle.rules.specs.Basic.{if◌then◌else◌, all, distinct, same}
+use Rattle.std.specs.Prelude.{if◌then◌else◌}
+use Rattle.rules.specs.Basic.{all, distinct, same}
 use Rattle.rules.specs.Token.{Token, max_dacl, full, limited, new_token}
 use Rattle.rules.specs.Table.{Slot, free, live, is_live, or_else, lives, found}
 use Rattle.rules.specs.Pair.{Pair}
@@ -30,7 +31,7 @@ use Rattle.token.specs.Meaning.{slots_of}
 use Rattle.token_rows.specs.Tests.{slot_test}
 use Rattle.token_rows.proofs.Same.{same_append}
 use Rattle.lists.proofs.Truth.{and_swap, all_cong, eqb_flip}
-use Rattle.references.specs.Tests.{kept, rows_in, pair_column, Joined, token_named, fits_in, pair_test, places_test, pairs_test}
+use Rattle.references.specs.Tests.{kept, rows_in, pair_column, Joined, token_named, fits_in, pair_test, pairs_test}
 use Rattle.references.proofs.Lists.{all_lives}
 
 -- ---- a token by its number

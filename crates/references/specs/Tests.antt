@@ -1,7 +1,7 @@
 -- The numbers of what is live, what refers to it, the tokens that stations act for and the linked pairs, as the code tests them. Assumes nothing.
-use Rattle.std.specs.Prelude.{ℕ, zero, suc, ◌+◌, ◌%◌, ◌≤◌, ◌≡◌, Bool, not, ◌&&◌, ◌||◌, List, [], ◌∷◌, ◌++◌, eqb, leb, length, take, drop, get_or}
+use Rattle.std.specs.Prelude.{ℕ, zero, suc, ◌+◌, ◌%◌, ◌≤◌, ◌≡◌, Bool, not, ◌&&◌, ◌||◌, List, [], ◌∷◌, ◌++◌, eqb, leb, length, take, drop, get_or, if◌then◌else◌}
 use Rattle.table.specs.Rows.{read_rows, test_rows}
-use Rattle.rules.specs.Basic.{if◌then◌else◌, all, distinct, same}
+use Rattle.rules.specs.Basic.{all, distinct, same}
 use Rattle.rules.specs.Number.{max32}
 use Rattle.rules.specs.Token.{Token, primary, impersonation}
 use Rattle.rules.specs.Table.{or_else, found}

@@ -8,7 +8,8 @@ use lib.Dec.{eqb}
 use lib.ListN.{length, take, drop, get_or, set, replicate, length-append, length-set, length-replicate, get_or-replicate}
 use lib.Seq.{take_all, get_or-set_same, get_or-set_other}
 use borrow.Author.Tests.{eqb-true, eq-eqb, ne_eqb, lt-ltb, le-ltb, not-true, not-false}
-use Rattle.rules.specs.Basic.{if◌then◌else◌, all, is_below, member}
+use Rattle.std.specs.Prelude.{if◌then◌else◌}
+use Rattle.rules.specs.Basic.{all, is_below, member}
 use Rattle.rules.specs.Number.{got}
 use Rattle.rules.specs.Token.{max_restricting}
 use Rattle.rules.specs.Sid.{Sid, valid_sid, is_packed, sid_size, sid_in, read_sid}

@@ -9,7 +9,8 @@ use lib.Dec.{eqb}
 use lib.ListN.{length, drop, get_or, length-map}
 use lib.Seq.{take_all}
 use borrow.Author.Tests.{leb-true}
-use Rattle.rules.specs.Basic.{if◌then◌else◌, all, filter}
+use Rattle.std.specs.Prelude.{if◌then◌else◌}
+use Rattle.rules.specs.Basic.{all, filter}
 use Rattle.rules.specs.Growth.{Mem, here, there}
 use Rattle.rules.specs.Number.{got}
 use Rattle.rules.specs.Group.{sid_of}

@@ -1,6 +1,6 @@
 -- What the packed SIDs of request 15 come to: the table that they lead to, and their numbers in it. Assumes nothing.
-use Rattle.std.specs.Prelude.{ℕ, ◌≤◌, ◌<◌, ◌≡◌, Bool, true, false, ◌&&◌, ◌||◌, List, [], ◌∷◌, ◌++◌, map, eqb, ltb, length, drop, get_or}
-use Rattle.rules.specs.Basic.{if◌then◌else◌, all, member}
+use Rattle.std.specs.Prelude.{ℕ, ◌≤◌, ◌<◌, ◌≡◌, Bool, true, false, ◌&&◌, ◌||◌, List, [], ◌∷◌, ◌++◌, map, eqb, ltb, length, drop, get_or, if◌then◌else◌}
+use Rattle.rules.specs.Basic.{all, member}
 use Rattle.rules.specs.Number.{got}
 use Rattle.rules.specs.Token.{max_restricting}
 use Rattle.rules.specs.Sid.{Sid, valid_sid, sid_in}

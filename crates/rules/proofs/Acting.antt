@@ -27,7 +27,6 @@ use Rattle.rules.specs.Number.{Read, got, bad}
 use Rattle.rules.specs.OpenClose as OpenClose
 use Rattle.rules.specs.Privileges.{tcb}
 use Rattle.rules.specs.Query as Query
-use Rattle.rules.specs.Request as Request
 use Rattle.rules.specs.Request.{parse, Request}
 use Rattle.rules.specs.Restrict as Restrict
 use Rattle.rules.specs.Run.{Serving, served_by}

@@ -8,7 +8,8 @@ use mathlib.Core.List.{List, [], ◌∷◌, ◌++◌, map}
 use lib.Dec.{eqb, leb, ltb}
 use lib.ListN.{length, take}
 use borrow.Author.Tests.{leb-false}
-use Rattle.rules.specs.Basic.{if◌then◌else◌, implies, all, is_empty}
+use Rattle.std.specs.Prelude.{if◌then◌else◌}
+use Rattle.rules.specs.Basic.{implies, all, is_empty}
 use Rattle.rules.specs.Bits.{within}
 use Rattle.rules.specs.Frame.{max_body, max_answer, second_of, length_of, framed_by, framed, Length, Framed, unread, invalid, size, part, broken, whole}
 use Rattle.rules.specs.Growth.{Live, LiveHandle, Mem, Follows, here, there}

@@ -39,7 +39,6 @@ use Rattle.rules.specs.OpenClose as OpenClose
 use Rattle.rules.specs.Privileges.{existing, tcb}
 use Rattle.rules.specs.Query as Query
 use Rattle.rules.specs.Refusal.{refusal, capacity_below, stream_broken}
-use Rattle.rules.specs.Request as Request
 use Rattle.rules.specs.Request.{group, parse, Request}
 use Rattle.rules.specs.Restrict as Restrict
 use Rattle.rules.specs.Run.{after}

@@ -11,7 +11,7 @@ use lib.Arith.{digits_div, digits_mod, lt-one, bin_ind}
 use lib.Pow.{pow-add, pow-lt, pow_mono}
 use lib.Bits.{bit_and, bit_or, and_step, or_step, and_le_l, and_le_r}
 use borrow.Author.Tests.{eqb-true, eq-eqb}
-use Rattle.rules.specs.Basic.{if◌then◌else◌}
+use Rattle.std.specs.Prelude.{if◌then◌else◌}
 use Rattle.rules.specs.Bits.{has, without, within}
 use Rattle.rules.proofs.Logic.{and_l, and_r, and_i, or_e, or_l, not_both, either}
 

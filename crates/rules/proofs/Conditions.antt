@@ -11,7 +11,6 @@ use Rattle.rules.specs.Basic.{all}
 use Rattle.rules.specs.Condition.{Condition, all_of, any_of, negated, privilege_enabled, group_enabled, Conditions, none, more, depth, deepest, max_depth}
 use Rattle.rules.specs.Evaluating.{count, written, written_all, fits, all_fit, InForm, ReadExactly}
 use Rattle.rules.specs.Number.{Read, got, bad, encode, read_number, max32}
-use Rattle.rules.specs.Request as Request
 use Rattle.rules.specs.Request.{Reader, follow, ◌>>=◌, give, end, u32, unknown, conditions, list_layout, negated_layout, named_layout, kinds, condition, evaluate_layout, layouts, parse, Request}
 use Rattle.rules.specs.Valid.{is_byte}
 use Rattle.rules.proofs.Logic.{and_l, and_r}

@@ -9,7 +9,7 @@ use lib.ListN.{length, get_or, set}
 use Rattle.table.specs.Table.{flat, put_record, length_flat, put_flat}
 use Rattle.table.specs.Sections.{Sectioned, sections_long, section_part}
 use Rattle.rules.specs.SidRows.{write_sids}
-use Rattle.rules.specs.Basic.{if◌then◌else◌}
+use Rattle.std.specs.Prelude.{if◌then◌else◌}
 use Rattle.rules.specs.Table.{live, some_free, placed, exchanged}
 use Rattle.rules.specs.Station.{Station, start_station}
 use Rattle.rules.specs.Pair.{Pair, is_of}

@@ -4,7 +4,7 @@ use native.Mathlib.Omega.{arith}
 use mathlib.Core.Path.{◌≡◌, refl, ap, ap₂, ◌∙◌}
 use mathlib.Core.Bool.{Bool, true, false, not, ◌&&◌, ◌||◌}
 use mathlib.Core.List.{List, [], ◌∷◌}
-use Rattle.rules.specs.Basic.{if◌then◌else◌}
+use Rattle.std.specs.Prelude.{if◌then◌else◌}
 use Rattle.rules.specs.Bits.{has}
 use Rattle.rules.specs.Condition.{Condition, all_of, any_of, negated, privilege_enabled, group_enabled, Conditions, none, more, has_group, holds, all_hold, any_holds, known}
 use Rattle.rules.specs.Decision.{carried_out, with_handle, need◌else◌then◌, success, Served}
@@ -15,7 +15,6 @@ use Rattle.rules.specs.Mask.{permits}
 use Rattle.rules.specs.Number.{encode, Read}
 use Rattle.rules.specs.Privileges.{is_enabled}
 use Rattle.rules.specs.Refusal.{refusal, not_aLive_handle, right_missing, bad_field}
-use Rattle.rules.specs.Request as Request
 use Rattle.rules.specs.Request.{Request}
 use Rattle.rules.specs.Run.{Serving, served_by}
 use Rattle.rules.specs.Serve.{rule, decided, decision, serve}

@@ -8,7 +8,8 @@ use lib.Dec.{eqb, leb, ltb}
 use lib.ListN.{length, take, replicate, length-append, length-take, length-replicate}
 use lib.Seq.{take-append_seam, take-append-add}
 use borrow.Author.Tests.{eqb-false, leb-false, ltb-true, ltb-false}
-use Rattle.rules.specs.Basic.{if◌then◌else◌, all}
+use Rattle.std.specs.Prelude.{if◌then◌else◌}
+use Rattle.rules.specs.Basic.{all}
 use Rattle.rules.specs.Valid.{is_byte}
 use Rattle.rules.specs.Number.{encode}
 use Rattle.rules.specs.Frame.{max_body, frame, Length, unread, invalid, size, second_of, length_of, part, broken, whole, framed_by, framed}

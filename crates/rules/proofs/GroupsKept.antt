@@ -9,7 +9,8 @@ use lib.ListN.{length, get_or}
 use borrow.Author.Tests.{not-true}
 use Rattle.rules.specs.AdjustDefaults.{valid_owner, valid_group}
 use Rattle.rules.specs.AdjustGroups.{is_reset, is_protected, unprotected, applied, reset_group, adjusted}
-use Rattle.rules.specs.Basic.{if◌then◌else◌, implies, both_or_neither, all, change_at}
+use Rattle.std.specs.Prelude.{if◌then◌else◌}
+use Rattle.rules.specs.Basic.{implies, both_or_neither, all, change_at}
 use Rattle.rules.specs.Bits.{has, without, within}
 use Rattle.rules.specs.Create.{givable, valid_pair, entered}
 use Rattle.rules.specs.Entry.{apply_all, Entry}

@@ -36,7 +36,6 @@ use Rattle.rules.specs.OpenClose as OpenClose
 use Rattle.rules.specs.Pair.{Pair}
 use Rattle.rules.specs.Privileges.{create_token, assign_primary_token, tcb, impersonate, existing, granted}
 use Rattle.rules.specs.Query as Query
-use Rattle.rules.specs.Request as Request
 use Rattle.rules.specs.Request.{parse, Request}
 use Rattle.rules.specs.Restrict as Restrict
 use Rattle.rules.specs.Serve.{rule, decided, decision, serve}

@@ -8,7 +8,8 @@ use mathlib.Core.Logic.{◌⊎◌, inl, inr, ⊎_elim}
 use mathlib.Core.List.{List, [], ◌∷◌}
 use lib.Dec.{eqb, leb}
 use borrow.Author.Tests.{eqb-true, eq-eqb, leb-true}
-use Rattle.rules.specs.Basic.{if◌then◌else◌, filter, member}
+use Rattle.std.specs.Prelude.{if◌then◌else◌}
+use Rattle.rules.specs.Basic.{filter, member}
 use Rattle.rules.specs.Number.{Read, got, bad}
 use Rattle.rules.specs.Refusal.{Refusal, refusal, capacity_below, ranks}
 use Rattle.rules.specs.Privileges.{tcb}

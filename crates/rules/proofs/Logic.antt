@@ -8,7 +8,8 @@ use mathlib.Core.List.{List, [], ◌∷◌, ◌++◌, map}
 use lib.Dec.{eqb}
 use lib.ListN.{length, get_or, set}
 use borrow.Author.Tests.{eqb-true, eq-eqb}
-use Rattle.rules.specs.Basic.{if◌then◌else◌, all, filter, member, distinct, non_zero, implies, change_at}
+use Rattle.std.specs.Prelude.{if◌then◌else◌}
+use Rattle.rules.specs.Basic.{all, filter, member, distinct, non_zero, implies, change_at}
 use Rattle.rules.specs.Growth.{Mem, here, there}
 
 -- ---- tests

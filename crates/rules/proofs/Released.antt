@@ -6,7 +6,8 @@ use mathlib.Core.Logic.{◌⊎◌, inl, inr, ⊎_elim}
 use mathlib.Core.List.{List, [], ◌∷◌}
 use lib.Dec.{eqb}
 use borrow.Author.Tests.{eqb-true, eqb-false}
-use Rattle.rules.specs.Basic.{if◌then◌else◌, member, distinct}
+use Rattle.std.specs.Prelude.{if◌then◌else◌}
+use Rattle.rules.specs.Basic.{member, distinct}
 use Rattle.rules.specs.Index.{freed_one}
 use Rattle.rules.specs.Growth.{Mem, here, there}
 use Rattle.rules.specs.Pair.{no_pair, is_of, Pair}

@@ -23,7 +23,6 @@ use Rattle.rules.specs.Ladder.{status}
 use Rattle.rules.specs.Mask.{permits, adjust_privileges}
 use Rattle.rules.specs.Number.{got, encode, encode_all, read_number, max64}
 use Rattle.rules.specs.Privileges.{existing, mark_used}
-use Rattle.rules.specs.Request as Request
 use Rattle.rules.specs.Request.{follow, ◌>>=◌, end, u32, u64, parse, Request}
 use Rattle.rules.specs.Restore.{but_used, Asks, Adjusts, PrivilegesKept, report_layout, word_of, was_enabled, undoing, put_back, Reordered, Switches, Restores, PutsBack, CanPutBack}
 use Rattle.rules.specs.Run.{Serving, served_by, Outcome, serves, breaks, OneByOne}

@@ -8,7 +8,8 @@ use mathlib.Core.List.{List, [], ◌∷◌}
 use lib.Dec.{leb}
 use lib.ListN.{length}
 use borrow.Author.Tests.{le-leb, leb-true}
-use Rattle.rules.specs.Basic.{if◌then◌else◌, all, filter, is_empty}
+use Rattle.std.specs.Prelude.{if◌then◌else◌}
+use Rattle.rules.specs.Basic.{all, filter, is_empty}
 use Rattle.rules.specs.Growth.{Mem}
 use Rattle.rules.specs.Token.{Token, max_restricting, is_restricted}
 use Rattle.rules.specs.Valid.{is32, limits_valid}

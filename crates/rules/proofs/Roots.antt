@@ -12,13 +12,13 @@ use Rattle.rules.specs.AdjustDefaults as AdjustDefaults
 use Rattle.rules.specs.AdjustGroups as AdjustGroups
 use Rattle.rules.specs.AdjustPrivileges as AdjustPrivileges
 use Rattle.rules.specs.AdjustScope as AdjustScope
-use Rattle.rules.specs.Basic.{if◌then◌else◌, all}
+use Rattle.std.specs.Prelude.{if◌then◌else◌}
+use Rattle.rules.specs.Basic.{all}
 use Rattle.rules.specs.Create as Create
 use Rattle.rules.specs.Decision.{with_handle}
 use Rattle.rules.specs.Duplicate as Duplicate
 use Rattle.rules.specs.Duplicate.{is_anonymous}
 use Rattle.rules.specs.Evaluate as Evaluate
-use Rattle.rules.specs.Group.{Group}
 use Rattle.rules.specs.Growth.{Creating, Live, Mem, here, there, Source, source_at, partner_at, source_of, Copying, makes_root, Rooted, none, old, created}
 use Rattle.rules.specs.Handle.{no_handle, Handle}
 use Rattle.rules.specs.Impersonate as Impersonate
@@ -29,7 +29,6 @@ use Rattle.rules.specs.Number.{Read, got, bad}
 use Rattle.rules.specs.OpenClose as OpenClose
 use Rattle.rules.specs.Privileges.{create_token}
 use Rattle.rules.specs.Query as Query
-use Rattle.rules.specs.Request as Request
 use Rattle.rules.specs.Request.{parse, Request}
 use Rattle.rules.specs.Restrict as Restrict
 use Rattle.rules.specs.Run.{Call, Outcome, Serving, serves, breaks, served_by, after, of_bytes, events, outcomes, OneByOne}

@@ -12,7 +12,8 @@ use lib.ListN.{length, take, get_or, length-append, length-map}
 use lib.Seq.{take_at, drop_at}
 use borrow.Author.Tests.{ne_eqb, leb-true, ltb-true, ltb-false}
 use Rattle.table.specs.Lists.{All, map_undo, map_same, pad, length_pad, take_pad}
-use Rattle.rules.specs.Basic.{if◌then◌else◌, all, word32}
+use Rattle.std.specs.Prelude.{if◌then◌else◌}
+use Rattle.rules.specs.Basic.{all, word32}
 use Rattle.rules.specs.Growth.{Mem, here, there}
 use Rattle.rules.specs.Group.{Group, no_group, is_owner}
 use Rattle.rules.specs.Token.{Token, max_groups, max_restricting, max_dacl}

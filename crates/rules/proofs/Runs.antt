@@ -7,7 +7,7 @@ use mathlib.Core.List.{List, [], ◌∷◌, ◌++◌, map, append_assoc, map-app
 use lib.Dec.{leb, ltb}
 use lib.ListN.{length, length-append, length-map, take, drop, length-drop, take-append-drop}
 use borrow.Author.Tests.{lt-leb, le-ltb}
-use Rattle.rules.specs.Basic.{if◌then◌else◌}
+use Rattle.std.specs.Prelude.{if◌then◌else◌}
 use Rattle.rules.specs.Frame.{max_answer, frame, framed, Framed, part, broken, whole}
 use Rattle.rules.specs.Model.{joined, byte_at, step, refused, fed_on, fed_from, feed, reconnect, Step, Result, silent, answers}
 use Rattle.rules.specs.Refusal.{no_station, short_buffer}

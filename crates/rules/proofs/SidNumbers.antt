@@ -9,7 +9,8 @@ use lib.Dec.{eqb, leb, ltb}
 use lib.ListN.{length, take, get_or, length-append}
 use lib.Seq.{take_all, take_at, take-take}
 use borrow.Author.Tests.{ne_eqb, eqb-true, ltb-true, le-leb, lt-leb, leb-true, not-true, lt-ltb}
-use Rattle.rules.specs.Basic.{if◌then◌else◌, is_below, all, same}
+use Rattle.std.specs.Prelude.{if◌then◌else◌}
+use Rattle.rules.specs.Basic.{is_below, all, same}
 use Rattle.rules.specs.Sid.{Sid, no_sid, valid_sid, same_sid}
 use Rattle.rules.specs.SidTable.{max_sids, number_at, is_number, place_of_number, sid_of, is_in, place_of, number_of, entered, fits_table, nt_sid, start_sids, starts_right, different, sids_valid}
 use Rattle.rules.specs.Given.{Given, by_number, by_sid, entered_by, entered_all}

@@ -7,7 +7,8 @@ use mathlib.Core.Logic.{◌⊎◌, inl, inr, ⊎_elim}
 use mathlib.Core.List.{List, [], ◌∷◌, ◌++◌}
 use lib.ListN.{length, take, drop, get_or}
 use borrow.Author.Tests.{eq-eqb, ne_eqb, lt-ltb, le-ltb}
-use Rattle.rules.specs.Basic.{if◌then◌else◌, member, distinct}
+use Rattle.std.specs.Prelude.{if◌then◌else◌}
+use Rattle.rules.specs.Basic.{member, distinct}
 use Rattle.rules.specs.SidRows.{less, rising_from, rising, rank, insert, order}
 use Rattle.rules.specs.Growth.{Mem, here, there}
 use Rattle.rules.proofs.Logic.{and_l, and_r, and_i, not_both, either, mem_none, get_or_mem, member_mem, mem_member, distinct_cons, few}

@@ -8,7 +8,8 @@ use lib.Dec.{eqb, leb, ltb}
 use lib.ListN.{length, take, drop, get_or, length-drop, length-take, length-append, take-append-drop}
 use lib.Seq.{drop-drop, take_at, drop_at}
 use borrow.Author.Tests.{eq-eqb, eqb-true, ltb-true, le-leb, leb-true, lt-ltb}
-use Rattle.rules.specs.Basic.{if◌then◌else◌, word32, is_zero, is_below, all, same}
+use Rattle.std.specs.Prelude.{if◌then◌else◌}
+use Rattle.rules.specs.Basic.{word32, is_zero, is_below, all, same}
 use Rattle.rules.specs.Number.{got, bad}
 use Rattle.rules.specs.Sid.{Sid, max_subs, valid_sid, same_sid, to_bytes, from_bytes, sub_bytes, packed, sid_size, is_packed, subs_in, sid_in, read_sid}
 use Rattle.rules.specs.SidRows.{row_words, pairs, halves, sid_row, count_in, row_sid, zero_from, is_row}

@@ -17,7 +17,6 @@ use Rattle.rules.specs.Link.{partner_of, clone, get_linked}
 use Rattle.rules.specs.Mask as Mask
 use Rattle.rules.specs.Number.{Read, got, bad}
 use Rattle.rules.specs.Privileges.{tcb, remove, only_used}
-use Rattle.rules.specs.Request as Request
 use Rattle.rules.specs.Request.{parse, Request}
 use Rattle.rules.specs.Restrict as Restrict
 use Rattle.rules.specs.Restrict.{restricting_to}

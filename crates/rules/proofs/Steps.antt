@@ -10,7 +10,7 @@ use Rattle.rules.specs.Basic.{all}
 use Rattle.rules.specs.Given.{Given}
 use Rattle.rules.specs.SidTable.{fits_table}
 use Rattle.rules.specs.Decision.{carried_out, with_handle, can_issue, Decision, need◌else◌then◌, success}
-use Rattle.rules.specs.Growth.{Mem, Follows, Later, HandlesLater, SidsLater, here}
+use Rattle.rules.specs.Growth.{Mem, Follows, Later, HandlesLater, SidsLater}
 use Rattle.rules.specs.Handle.{no_handle, is_handle, Handle}
 use Rattle.rules.specs.Impersonate as Impersonate
 use Rattle.rules.specs.Install as Install

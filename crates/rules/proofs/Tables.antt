@@ -8,7 +8,8 @@ use mathlib.Core.List.{List, [], ◌∷◌, map}
 use lib.Dec.{eqb}
 use lib.ListN.{length}
 use borrow.Author.Tests.{eqb-true, eq-eqb}
-use Rattle.rules.specs.Basic.{if◌then◌else◌, distinct}
+use Rattle.std.specs.Prelude.{if◌then◌else◌}
+use Rattle.rules.specs.Basic.{distinct}
 use Rattle.rules.specs.Growth.{Mem, here, there}
 use Rattle.rules.specs.Table.{is_live, or_else, lives, some_free, found, placed, exchanged, retained, Slot, free, live}
 use Rattle.rules.proofs.Logic.{not_both, mem_none, mem_by, mem_map, distinct_head, distinct_tail, distinct_cons}

@@ -6,7 +6,6 @@ use mathlib.Core.Bool.{true}
 use mathlib.Core.List.{List, [], ◌∷◌, ◌++◌}
 use lib.ListN.{length}
 use Rattle.rules.specs.Basic.{all}
-use Rattle.rules.specs.Model.{answers}
 use Rattle.rules.specs.Run.{returned, after, of_bytes, events, outcomes, OneByOne, Call}
 use Rattle.rules.specs.State.{State}
 use Rattle.rules.specs.Valid.{valid}

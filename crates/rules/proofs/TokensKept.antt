@@ -14,7 +14,8 @@ use Rattle.rules.specs.AdjustDefaults.{no_change, valid_owner, valid_group, vali
 use Rattle.rules.specs.AdjustGroups as AdjustGroups
 use Rattle.rules.specs.AdjustPrivileges as AdjustPrivileges
 use Rattle.rules.specs.AdjustScope.{scoped_token}
-use Rattle.rules.specs.Basic.{if◌then◌else◌, implies, all, member, is_empty}
+use Rattle.std.specs.Prelude.{if◌then◌else◌}
+use Rattle.rules.specs.Basic.{implies, all, member, is_empty}
 use Rattle.rules.specs.Bits.{has, within}
 use Rattle.rules.specs.Create.{valid_integrity}
 use Rattle.rules.specs.Duplicate.{retyped, copied, nobody, anonymous_copy, duplicated}

@@ -13,7 +13,6 @@ use Rattle.rules.specs.Given.{Given, GivenGroup, group_sid}
 use Rattle.rules.specs.Sid.{packed, read_sid, valid_sid, Sid}
 use Rattle.rules.specs.Growth.{Mem}
 use Rattle.rules.specs.Number.{max16, max32, max64, read_number, Read, got, bad}
-use Rattle.rules.specs.Request as Request
 use Rattle.rules.specs.Request.{Reader, follow, ◌>>=◌, give, end, byte, times, u16, u32, u64, sid_number, packed_sid, group, entry, unknown, conditions, list_layout, negated_layout, named_layout, kinds, condition, number_layout, entries_layout, create_layout, query_layout, scope_layout, defaults_layout, duplicate_layout, restrict_layout, link_layout, evaluate_layout, layouts, parse, Request}
 use Rattle.rules.specs.Valid.{is_byte, is32, is64}
 use Rattle.rules.proofs.Logic.{and_l, and_r, and_i, all_mem, mem_all, mem_right}

@@ -1,6 +1,6 @@
 -- Request 8: default owner, primary group and DACL. Assumes nothing.
-use Rattle.std.specs.Prelude.{ℕ, zero, suc, Bool, true, ◌&&◌, ◌||◌, List, [], length, get_or, eqb, leb, ltb}
-use Rattle.rules.specs.Basic.{if◌then◌else◌, is_empty}
+use Rattle.std.specs.Prelude.{ℕ, zero, suc, Bool, true, ◌&&◌, ◌||◌, List, [], length, get_or, eqb, leb, ltb, if◌then◌else◌}
+use Rattle.rules.specs.Basic.{is_empty}
 use Rattle.rules.specs.Mask.{adjust_default}
 use Rattle.rules.specs.Refusal.{bad_field}
 use Rattle.rules.specs.Group.{Group, no_group, is_owner}

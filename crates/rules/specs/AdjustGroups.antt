@@ -1,6 +1,6 @@
 -- Request 6: groups. Assumes nothing.
-use Rattle.std.specs.Prelude.{ℕ, zero, suc, ◌+◌, ◌*◌, Bool, not, ◌&&◌, ◌||◌, List, [], ◌∷◌, map, length, get_or, take, drop, eqb, leb, ltb}
-use Rattle.rules.specs.Basic.{if◌then◌else◌, all, change_at}
+use Rattle.std.specs.Prelude.{ℕ, zero, suc, ◌+◌, ◌*◌, Bool, not, ◌&&◌, ◌||◌, List, [], ◌∷◌, map, length, get_or, take, drop, eqb, leb, ltb, if◌then◌else◌}
+use Rattle.rules.specs.Basic.{all, change_at}
 use Rattle.rules.specs.Number.{encode_all, max32}
 use Rattle.rules.specs.Mask.{adjust_groups}
 use Rattle.rules.specs.Refusal.{bad_field, protected_group}

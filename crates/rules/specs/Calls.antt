@@ -1,6 +1,5 @@
 -- What the three calls do to lent memory: the promises of `start`, `feed` and `reconnect` are equations with these. Assumes nothing.
-use Rattle.std.specs.Prelude.{ℕ, List, [], ◌++◌, length, drop, leb, ltb}
-use Rattle.rules.specs.Basic.{if◌then◌else◌}
+use Rattle.std.specs.Prelude.{ℕ, List, [], ◌++◌, length, drop, leb, ltb, if◌then◌else◌}
 use Rattle.rules.specs.Refusal.{no_station, short_buffer, invalid_memory}
 use Rattle.rules.specs.State.{start, station_count}
 use Rattle.rules.specs.Frame.{max_answer}

@@ -1,6 +1,6 @@
 -- Requests 3 and 14: create, with SIDs by their numbers or packed. Assumes nothing.
-use Rattle.std.specs.Prelude.{ℕ, Bool, true, not, ◌&&◌, List, [], ◌∷◌, map, length, leb}
-use Rattle.rules.specs.Basic.{if◌then◌else◌, all, member, implies, both_or_neither}
+use Rattle.std.specs.Prelude.{ℕ, Bool, true, not, ◌&&◌, List, [], ◌∷◌, map, length, leb, if◌then◌else◌}
+use Rattle.rules.specs.Basic.{all, member, implies, both_or_neither}
 use Rattle.rules.specs.Bits.{has, within}
 use Rattle.rules.specs.Mask.{all_rights}
 use Rattle.rules.specs.Refusal.{privilege_not_held, bad_field, table_full}

@@ -1,6 +1,5 @@
 -- Request 18: evaluate a condition. Nothing changes. Assumes nothing.
-use Rattle.std.specs.Prelude.{ℕ}
-use Rattle.rules.specs.Basic.{if◌then◌else◌}
+use Rattle.std.specs.Prelude.{ℕ, if◌then◌else◌}
 use Rattle.rules.specs.Number.{encode}
 use Rattle.rules.specs.Mask as Mask
 use Rattle.rules.specs.Refusal.{bad_field}

@@ -1,6 +1,5 @@
 -- What request 18 reads and answers (document 02, W11): a condition has one form on the line, and the answer is exactly its meaning. Assumes nothing.
-use Rattle.std.specs.Prelude.{ℕ, suc, ◌≤◌, ◌≡◌, Bool, true, not, ◌&&◌, List, [], ◌∷◌, ◌++◌, leb}
-use Rattle.rules.specs.Basic.{if◌then◌else◌}
+use Rattle.std.specs.Prelude.{ℕ, suc, ◌≤◌, ◌≡◌, Bool, true, not, ◌&&◌, List, [], ◌∷◌, ◌++◌, leb, if◌then◌else◌}
 use Rattle.rules.specs.Number.{got, encode, max32}
 use Rattle.rules.specs.Condition.{Condition, all_of, any_of, negated, privilege_enabled, group_enabled, Conditions, none, more, holds, known, depth, max_depth}
 use Rattle.rules.specs.Mask as Mask

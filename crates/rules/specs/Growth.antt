@@ -1,6 +1,5 @@
 -- What lasts while a token or a handle lives, between an earlier and a later state: demand 3's 'all along'. Assumes nothing.
-use Rattle.std.specs.Prelude.{ℕ, ◌≤◌, ◌<◌, ◌≡◌, Bool, true, false, ◌⊎◌, List, ◌∷◌, ◌++◌, map, get_or}
-use Rattle.rules.specs.Basic.{if◌then◌else◌}
+use Rattle.std.specs.Prelude.{ℕ, ◌≤◌, ◌<◌, ◌≡◌, Bool, true, false, ◌⊎◌, List, ◌∷◌, ◌++◌, map, get_or, if◌then◌else◌}
 use Rattle.rules.specs.Number.{Read, got, bad}
 use Rattle.rules.specs.Bits.{within}
 use Rattle.rules.specs.Group.{no_group, sid_of, is_deny_only}

@@ -1,6 +1,6 @@
 -- Requests 12 and 13: impersonate, revert. The server is the station's primary token, the client the handle's. Assumes nothing.
-use Rattle.std.specs.Prelude.{ℕ, min, Bool, not, ◌&&◌, ◌||◌, [], ◌∷◌, eqb, leb}
-use Rattle.rules.specs.Basic.{if◌then◌else◌, implies, both_or_neither}
+use Rattle.std.specs.Prelude.{ℕ, min, Bool, not, ◌&&◌, ◌||◌, [], ◌∷◌, eqb, leb, if◌then◌else◌}
+use Rattle.rules.specs.Basic.{implies, both_or_neither}
 use Rattle.rules.specs.Number.{encode, encode_all}
 use Rattle.rules.specs.Mask as Mask
 use Rattle.rules.specs.Refusal.{bad_field, restricted_server}

@@ -1,7 +1,7 @@
 -- What code does in place of a search or a sweep: slots by their index (`found`, `placed` and `exchanged` of Table are `get_or` and `set`
 -- at these), and freeing the one token that lost a reference. Assumes nothing.
-use Rattle.std.specs.Prelude.{ℕ, zero, suc, Bool, List, [], ◌∷◌}
-use Rattle.rules.specs.Basic.{if◌then◌else◌, member}
+use Rattle.std.specs.Prelude.{ℕ, zero, suc, Bool, List, [], ◌∷◌, if◌then◌else◌}
+use Rattle.rules.specs.Basic.{member}
 use Rattle.rules.specs.Table.{Slot, free, live, exchanged, with_slots}
 use Rattle.rules.specs.State.{State, is_numbered, references, with_tokens}
 

@@ -1,6 +1,5 @@
 -- Request 11: install. Assumes nothing.
-use Rattle.std.specs.Prelude.{ℕ, Bool, ◌&&◌, ◌||◌, [], eqb}
-use Rattle.rules.specs.Basic.{if◌then◌else◌}
+use Rattle.std.specs.Prelude.{ℕ, Bool, ◌&&◌, ◌||◌, [], eqb, if◌then◌else◌}
 use Rattle.rules.specs.Mask.{assign_primary}
 use Rattle.rules.specs.Refusal.{privilege_not_held, bad_field, install_mismatch}
 use Rattle.rules.specs.Privileges.{assign_primary_token, tcb}

@@ -1,6 +1,6 @@
 -- The ladder: a status is 0 exactly when all checks pass, and else the refusal of the lowest rank whose check fails. Assumes nothing.
-use Rattle.std.specs.Prelude.{ℕ, ◌≡◌, true, false, List, [], ◌∷◌, get_or}
-use Rattle.rules.specs.Basic.{if◌then◌else◌, member}
+use Rattle.std.specs.Prelude.{ℕ, ◌≡◌, true, false, List, [], ◌∷◌, get_or, if◌then◌else◌}
+use Rattle.rules.specs.Basic.{member}
 use Rattle.rules.specs.Refusal.{ranks}
 use Rattle.rules.specs.State.{State}
 use Rattle.rules.specs.Decision.{Decision, need◌else◌then◌, success, Served}

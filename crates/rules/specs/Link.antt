@@ -1,6 +1,5 @@
 -- Requests 16 and 17: link, get linked. Assumes nothing.
-use Rattle.std.specs.Prelude.{ℕ, Bool, not, ◌&&◌, [], eqb}
-use Rattle.rules.specs.Basic.{if◌then◌else◌}
+use Rattle.std.specs.Prelude.{ℕ, Bool, not, ◌&&◌, [], eqb, if◌then◌else◌}
 use Rattle.rules.specs.Number.{encode}
 use Rattle.rules.specs.Mask as Mask
 use Rattle.rules.specs.Mask.{permits, all_rights}

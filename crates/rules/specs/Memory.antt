@@ -1,11 +1,11 @@
 -- The lent memory: how a state is written in it, what it stands for, and when it is valid (document 01: 'memory is in order').
 -- A state is written in one way only. Assumes nothing.
-use Rattle.std.specs.Prelude.{ℕ, ◌+◌, ◌*◌, ◌/◌, ◌%◌, Bool, true, false, ◌&&◌, List, [], ◌∷◌, ◌++◌, map, length, take, drop, get_or, replicate, eqb}
+use Rattle.std.specs.Prelude.{ℕ, ◌+◌, ◌*◌, ◌/◌, ◌%◌, Bool, true, false, ◌&&◌, List, [], ◌∷◌, ◌++◌, map, length, take, drop, get_or, replicate, eqb, if◌then◌else◌}
 use Rattle.table.specs.Lists.{pad}
 use Rattle.table.specs.Table.{flat}
 use Rattle.table.specs.Rows.{read_rows}
 use Rattle.table.specs.Sections.{total, place_of, joined, section}
-use Rattle.rules.specs.Basic.{if◌then◌else◌, same, word32}
+use Rattle.rules.specs.Basic.{same, word32}
 use Rattle.rules.specs.Privileges.{Privileges}
 use Rattle.rules.specs.Group.{Group}
 use Rattle.rules.specs.Token.{Token, Identity, Limits, Defaults, max_groups, max_restricting, max_dacl}

@@ -1,6 +1,5 @@
 -- The model of the broker (document 01: 'the plain desk'): what a byte, a feed and a reconnect do. Assumes nothing.
-use Rattle.std.specs.Prelude.{ℕ, ◌+◌, List, [], ◌∷◌, ◌++◌, ltb, leb}
-use Rattle.rules.specs.Basic.{if◌then◌else◌}
+use Rattle.std.specs.Prelude.{ℕ, ◌+◌, List, [], ◌∷◌, ◌++◌, ltb, leb, if◌then◌else◌}
 use Rattle.rules.specs.Refusal.{stream_broken, no_station, short_buffer}
 use Rattle.rules.specs.Station.{Station, with_pending, cleared, broken_off}
 use Rattle.rules.specs.State.{State, station_count, station_at, change_station}

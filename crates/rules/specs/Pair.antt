@@ -1,6 +1,5 @@
 -- A linked pair: a session, and the numbers of its elevated token and of its filtered one. Assumes nothing.
-use Rattle.std.specs.Prelude.{ℕ, Bool, ◌||◌, eqb}
-use Rattle.rules.specs.Basic.{if◌then◌else◌}
+use Rattle.std.specs.Prelude.{ℕ, Bool, ◌||◌, eqb, if◌then◌else◌}
 
 pub record Pair : Type 0 where
   pub session : ℕ

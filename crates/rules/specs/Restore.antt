@@ -1,7 +1,7 @@
 -- Putting privileges back by the report of request 5 (document 02, W13): in any list of calls, the entries made from a report undo the enabling
 -- and disabling that it reports, as long as no other success of 5 was on that token. Assumes nothing.
-use Rattle.std.specs.Prelude.{ℕ, ◌≤◌, ◌≡◌, Bool, true, ◌||◌, ◌⊎◌, List, [], ◌∷◌, ◌++◌, map, eqb, length}
-use Rattle.rules.specs.Basic.{if◌then◌else◌, all, distinct}
+use Rattle.std.specs.Prelude.{ℕ, ◌≤◌, ◌≡◌, Bool, true, ◌||◌, ◌⊎◌, List, [], ◌∷◌, ◌++◌, map, eqb, length, if◌then◌else◌}
+use Rattle.rules.specs.Basic.{all, distinct}
 use Rattle.rules.specs.Number.{Read, got, bad, encode_all, max32}
 use Rattle.rules.specs.Bits.{has}
 use Rattle.rules.specs.Mask.{permits, adjust_privileges}

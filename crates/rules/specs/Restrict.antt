@@ -1,6 +1,6 @@
 -- Requests 10 and 15: restrict, with SIDs by their numbers or packed. Assumes nothing.
-use Rattle.std.specs.Prelude.{ℕ, Bool, not, ◌&&◌, ◌||◌, List, [], ◌∷◌, map, length, eqb, leb}
-use Rattle.rules.specs.Basic.{if◌then◌else◌, implies, all, filter, member, distinct, is_empty, change_at, is_below}
+use Rattle.std.specs.Prelude.{ℕ, Bool, not, ◌&&◌, ◌||◌, List, [], ◌∷◌, map, length, eqb, leb, if◌then◌else◌}
+use Rattle.rules.specs.Basic.{implies, all, filter, member, distinct, is_empty, change_at, is_below}
 use Rattle.rules.specs.Bits.{within}
 use Rattle.rules.specs.Mask as Mask
 use Rattle.rules.specs.Refusal.{bad_field, table_full}

@@ -1,6 +1,6 @@
 -- Lists of calls, and what counts of them: the used bytes and the reconnects, with their stations. Assumes nothing.
-use Rattle.std.specs.Prelude.{ℕ, zero, suc, ◌+◌, ◌≡◌, Bool, true, List, [], ◌∷◌, ◌++◌, map, length, take, drop, leb}
-use Rattle.rules.specs.Basic.{if◌then◌else◌, all}
+use Rattle.std.specs.Prelude.{ℕ, zero, suc, ◌+◌, ◌≡◌, Bool, true, List, [], ◌∷◌, ◌++◌, map, length, take, drop, leb, if◌then◌else◌}
+use Rattle.rules.specs.Basic.{all}
 use Rattle.rules.specs.Frame.{Framed, part, broken, whole, framed, frame}
 use Rattle.rules.specs.Station.{cleared}
 use Rattle.rules.specs.State.{State, station_count, station_at, change_station, station_token, station_client}

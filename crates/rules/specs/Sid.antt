@@ -1,7 +1,7 @@
 -- SIDs, packed as MS-DTYP 2.4.2.2 lays them out: revision 1, the number of sub-authorities (at most 15), six authority bytes, then each
 -- sub-authority in four bytes, low byte first. Assumes nothing.
-use Rattle.std.specs.Prelude.{ℕ, zero, suc, ◌+◌, ◌*◌, ◌/◌, ◌%◌, ◌^◌, Bool, ◌&&◌, List, [], ◌∷◌, ◌++◌, length, take, drop, get_or, eqb, leb}
-use Rattle.rules.specs.Basic.{if◌then◌else◌, all, is_below, same}
+use Rattle.std.specs.Prelude.{ℕ, zero, suc, ◌+◌, ◌*◌, ◌/◌, ◌%◌, ◌^◌, Bool, ◌&&◌, List, [], ◌∷◌, ◌++◌, length, take, drop, get_or, eqb, leb, if◌then◌else◌}
+use Rattle.rules.specs.Basic.{all, is_below, same}
 use Rattle.rules.specs.Number.{Read, got, bad}
 
 pub record Sid : Type 0 where

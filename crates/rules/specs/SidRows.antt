@@ -1,9 +1,9 @@
 -- The SID table in words: the number of its SIDs, the places of their rows by rising rows, the rows in the order of the numbers, zeros behind.
 -- The order follows from the rows. Assumes nothing.
-use Rattle.std.specs.Prelude.{ℕ, zero, suc, ◌+◌, ◌*◌, ◌/◌, ◌%◌, Bool, true, false, ◌&&◌, List, [], ◌∷◌, ◌++◌, length, take, drop, get_or, eqb, leb, ltb}
+use Rattle.std.specs.Prelude.{ℕ, zero, suc, ◌+◌, ◌*◌, ◌/◌, ◌%◌, Bool, true, false, ◌&&◌, List, [], ◌∷◌, ◌++◌, length, take, drop, get_or, eqb, leb, ltb, if◌then◌else◌}
 use Rattle.table.specs.Lists.{pad}
 use Rattle.table.specs.Table.{flat}
-use Rattle.rules.specs.Basic.{if◌then◌else◌, all, is_zero, same, word32}
+use Rattle.rules.specs.Basic.{all, is_zero, same, word32}
 use Rattle.rules.specs.Sid.{Sid, max_subs, to_bytes, from_bytes}
 use Rattle.rules.specs.SidTable.{max_sids, sids_valid}
 

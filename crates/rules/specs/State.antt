@@ -1,6 +1,6 @@
 -- What the broker keeps (document 01: 'What the desk keeps'). Assumes nothing.
-use Rattle.std.specs.Prelude.{ℕ, ◌^◌, Bool, ◌||◌, List, [], ◌++◌, map, get_or, replicate, eqb}
-use Rattle.rules.specs.Basic.{if◌then◌else◌, member, non_zero, change_at}
+use Rattle.std.specs.Prelude.{ℕ, ◌^◌, Bool, ◌||◌, List, [], ◌++◌, map, get_or, replicate, eqb, if◌then◌else◌}
+use Rattle.rules.specs.Basic.{member, non_zero, change_at}
 use Rattle.rules.specs.Number.{max32, max64}
 use Rattle.rules.specs.Privileges.{is_enabled, mark_used, granted}
 use Rattle.rules.specs.Token.{Token, with_privileges, start_token, new_token, primary_of}

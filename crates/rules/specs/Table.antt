@@ -1,6 +1,5 @@
 -- Tables of numbered records, tokens and handles alike: a new one takes the lowest free slot ('place') and the next number. Assumes nothing.
-use Rattle.std.specs.Prelude.{ℕ, ◌+◌, Bool, true, false, ◌&&◌, List, [], ◌∷◌, ltb}
-use Rattle.rules.specs.Basic.{if◌then◌else◌}
+use Rattle.std.specs.Prelude.{ℕ, ◌+◌, Bool, true, false, ◌&&◌, List, [], ◌∷◌, ltb, if◌then◌else◌}
 
 pub data Slot (A : Type 0) : Type 0 where
   free : Slot A

@@ -10,7 +10,8 @@ use lib.ListN.{length, take, drop, length-append}
 use lib.Dec.{eqb, leb, ltb}
 use lib.Seq.{take-append-le, drop-append-le}
 use borrow.Author.Tests.{lt-ltb, le-ltb, le-leb, ltb-false}
-use Rattle.rules.specs.Basic.{if◌then◌else◌, all}
+use Rattle.std.specs.Prelude.{if◌then◌else◌}
+use Rattle.rules.specs.Basic.{all}
 use Rattle.rules.specs.Number.{Read, got, bad, longer, max32, read_number}
 use Rattle.rules.proofs.Numbers.{below_or, by_reading}
 use Rattle.number.proofs.Reading.{longer_narrow}

@@ -1,6 +1,5 @@
 -- The program as a list of calls: what demand 3 says of every list of calls it says of the program. Assumes nothing.
-use Rattle.std.specs.Prelude.{ℕ, zero, suc, List, [], ◌∷◌, ◌++◌, length, leb}
-use Rattle.rules.specs.Basic.{if◌then◌else◌}
+use Rattle.std.specs.Prelude.{ℕ, zero, suc, List, [], ◌∷◌, ◌++◌, length, leb, if◌then◌else◌}
 use Rattle.rules.specs.State.{State, station_count}
 use Rattle.rules.specs.Frame.{max_answer}
 use Rattle.rules.specs.Run.{Call, feeds, after, until_used}

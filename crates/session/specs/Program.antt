@@ -1,6 +1,6 @@
 -- The program on standard input (document 01: 'a thin program'): what it writes for all that it reads. Assumes nothing.
-use Rattle.std.specs.Prelude.{ℕ, zero, suc, Bool, ◌&&◌, List, [], ◌∷◌, ◌++◌, length, take, drop, eqb, leb, ltb}
-use Rattle.rules.specs.Basic.{if◌then◌else◌, all}
+use Rattle.std.specs.Prelude.{ℕ, zero, suc, Bool, ◌&&◌, List, [], ◌∷◌, ◌++◌, length, take, drop, eqb, leb, ltb, if◌then◌else◌}
+use Rattle.rules.specs.Basic.{all}
 use Rattle.rules.specs.Number.{Read, got, bad, max32, read_number}
 use Rattle.rules.specs.State.{State, start}
 use Rattle.rules.specs.Frame.{max_answer}

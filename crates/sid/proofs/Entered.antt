@@ -7,7 +7,8 @@ use mathlib.Core.Logic.{◌⊎◌, inl, inr, ⊎_elim}
 use mathlib.Core.List.{List, [], ◌∷◌, ◌++◌}
 use lib.ListN.{length, take, drop, get_or, length-drop, length-take, length-append}
 use lib.Seq.{take_all, take-take}
-use Rattle.rules.specs.Basic.{if◌then◌else◌, is_below}
+use Rattle.std.specs.Prelude.{if◌then◌else◌}
+use Rattle.rules.specs.Basic.{is_below}
 use Rattle.rules.specs.Sid.{Sid, no_sid, valid_sid}
 use Rattle.rules.specs.SidTable.{max_sids, is_in, place_of, entered, fits_table, sids_valid}
 use Rattle.rules.specs.SidRows.{row_words, sid_row, row_sid, rank, row_at, rows_at, sid_words, write_sids, sids_at, sid_words_valid}

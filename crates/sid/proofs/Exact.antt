@@ -11,7 +11,8 @@ use lib.Seq.{get_or-drop, get_or-take}
 use borrow.Author.Tests.{eq-eqb, ne_eqb, eqb-true, ltb-true, le-ltb, ltb-false}
 use Rattle.table.specs.Lists.{pad}
 use Rattle.table.specs.Table.{flat}
-use Rattle.rules.specs.Basic.{if◌then◌else◌, word32, is_zero, is_below, all, same}
+use Rattle.std.specs.Prelude.{if◌then◌else◌}
+use Rattle.rules.specs.Basic.{word32, is_zero, is_below, all, same}
 use Rattle.rules.specs.Sid.{Sid, no_sid, valid_sid, to_bytes, from_bytes}
 use Rattle.rules.specs.SidTable.{max_sids, nt_sid, starts_right, different, sids_valid}
 use Rattle.rules.specs.SidRows.{row_words, pairs, halves, sid_row, count_in, row_sid, is_row, rising, order, row_at, rows_at, sid_words, ordered, write_sids, read_sids, sids_at, sid_words_valid}

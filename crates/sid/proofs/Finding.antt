@@ -8,7 +8,7 @@ use mathlib.Core.Logic.{inl, inr, ⊎_elim}
 use mathlib.Core.List.{List, [], ◌∷◌, ◌++◌, append_assoc}
 use lib.ListN.{length, take, drop, get_or, set, length-set, length-take, drop_of_length-le, get_or-append, take-append-drop}
 use lib.Seq.{drop-cons, take-suc, set_at, get_or-take, length-take-le}
-use Rattle.rules.specs.Basic.{if◌then◌else◌}
+use Rattle.std.specs.Prelude.{if◌then◌else◌}
 use Rattle.rules.specs.SidTable.{max_sids}
 use Rattle.rules.specs.SidRows.{row_words, less, rank, row_at}
 use Rattle.rules.specs.Growth.{Mem}

@@ -9,7 +9,8 @@ use lib.Dec.{eqb, leb}
 use lib.ListN.{length, take, drop, get_or, set, length-set, length-drop, replicate, get_or-eq_default}
 use lib.Seq.{drop-cons, take_all, drop-drop, take-suc, take-suc-set, get_or-drop}
 use borrow.Author.Tests.{eq-eqb, ne_eqb, le-leb, lt-leb}
-use Rattle.rules.specs.Basic.{if◌then◌else◌, word32}
+use Rattle.std.specs.Prelude.{if◌then◌else◌}
+use Rattle.rules.specs.Basic.{word32}
 use Rattle.rules.specs.Sid.{max_subs, from_bytes, sid_size, is_packed, subs_in, sid_in}
 use Rattle.rules.specs.SidRows.{row_words, pairs, sid_row}
 use Rattle.rules.proofs.Sids.{length_subs_in, long_8, revision_1, count_15, whole, length_row}

@@ -1,7 +1,7 @@
 -- What a lookup gives, what a new place does to the order, and what entering a SID gives. Assumes nothing.
-use Rattle.std.specs.Prelude.{ℕ, ◌+◌, ◌*◌, ◌≤◌, ◌≡◌, true, ◌⊎◌, List, ◌∷◌, ◌++◌, length, take, drop}
+use Rattle.std.specs.Prelude.{ℕ, ◌+◌, ◌*◌, ◌≤◌, ◌≡◌, true, ◌⊎◌, List, ◌∷◌, ◌++◌, length, take, drop, if◌then◌else◌}
 use Rattle.table.specs.Table.{put_record}
-use Rattle.rules.specs.Basic.{if◌then◌else◌, all, is_below}
+use Rattle.rules.specs.Basic.{all, is_below}
 use Rattle.rules.specs.Growth.{Mem}
 use Rattle.rules.specs.Sid.{valid_sid}
 use Rattle.rules.specs.SidTable.{max_sids, place_of, entered, fits_table}

@@ -1,6 +1,5 @@
 -- What the functions over numbers give, and what the words say of a number, valid or not. Assumes nothing.
-use Rattle.std.specs.Prelude.{ℕ, ◌≡◌, Bool, ◌&&◌, List, ◌++◌, length, drop, get_or, eqb, leb, ltb}
-use Rattle.rules.specs.Basic.{if◌then◌else◌}
+use Rattle.std.specs.Prelude.{ℕ, ◌≡◌, Bool, ◌&&◌, List, ◌++◌, length, drop, get_or, eqb, leb, ltb, if◌then◌else◌}
 use Rattle.rules.specs.Sid.{Sid, packed}
 use Rattle.rules.specs.SidTable.{max_sids, is_number, place_of_number}
 use Rattle.rules.specs.SidRows.{row_sid, row_at, rows_at, sid_words, sids_at}

@@ -1,6 +1,5 @@
 -- What the reader and the writer of packed SIDs give. Assumes nothing.
-use Rattle.std.specs.Prelude.{ℕ, ◌≡◌, Bool, ◌&&◌, List, ◌++◌, length, drop, eqb, leb}
-use Rattle.rules.specs.Basic.{if◌then◌else◌}
+use Rattle.std.specs.Prelude.{ℕ, ◌≡◌, Bool, ◌&&◌, List, ◌++◌, length, drop, eqb, leb, if◌then◌else◌}
 use Rattle.rules.specs.Sid.{is_packed, sid_size, packed}
 use Rattle.rules.specs.SidRows.{is_row, row_sid, row_words}
 

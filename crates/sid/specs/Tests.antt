@@ -1,6 +1,6 @@
 -- The test of the SID table's words, as the code runs it: one pass over the rows, one over their order. Assumes nothing.
-use Rattle.std.specs.Prelude.{ℕ, zero, suc, ◌*◌, ◌/◌, ◌%◌, Bool, true, false, ◌&&◌, List, length, take, drop, get_or, eqb, ltb}
-use Rattle.rules.specs.Basic.{if◌then◌else◌, all, is_zero, is_below, word32}
+use Rattle.std.specs.Prelude.{ℕ, zero, suc, ◌*◌, ◌/◌, ◌%◌, Bool, true, false, ◌&&◌, List, length, take, drop, get_or, eqb, ltb, if◌then◌else◌}
+use Rattle.rules.specs.Basic.{all, is_zero, is_below, word32}
 use Rattle.rules.specs.SidTable.{max_sids}
 use Rattle.rules.specs.SidRows.{is_row, row_words, rising, row_at, rows_at, sid_words}
 

@@ -1,6 +1,5 @@
 // A SID's row looked up by halving, and a new one's place put in order.
-ghost use Rattle.std.specs.Prelude.{◌≡◌, true, ◌+◌, ◌-◌, ◌*◌, ◌/◌, ◌≤◌, ◌<◌, length};
-ghost use Rattle.rules.specs.Basic.{if◌then◌else◌};
+ghost use Rattle.std.specs.Prelude.{◌≡◌, true, ◌+◌, ◌-◌, ◌*◌, ◌/◌, ◌≤◌, ◌<◌, length, if◌then◌else◌};
 ghost use Rattle.rules.specs.SidTable.{max_sids};
 ghost use Rattle.rules.specs.SidRows.{row_words, less, rank, row_at};
 ghost use Rattle.sid.specs.Finding.{Sought, FoundAt, shifted};

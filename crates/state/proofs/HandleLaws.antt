@@ -7,7 +7,7 @@ use mathlib.Core.List.{List, [], ◌∷◌, map}
 use lib.Dec.{eqb, ltb, leb-suc-suc}
 use borrow.Author.Tests.{ltb-true, lt-ltb}
 use lib.ListN.{length, get_or, set, get_or-map}
-use Rattle.rules.specs.Basic.{if◌then◌else◌}
+use Rattle.std.specs.Prelude.{if◌then◌else◌}
 use Rattle.rules.specs.Number.{max32}
 use Rattle.rules.specs.Table.{Slot, free, live, is_live, or_else, some_free, found, can_add, added, with_slots}
 use Rattle.rules.specs.Index.{free_index, found_index}

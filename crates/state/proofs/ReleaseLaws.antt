@@ -10,7 +10,8 @@ use lib.ListN.{length, get_or, set, get_or-eq_default}
 use lib.Seq.{set_out}
 use borrow.Author.Tests.{ltb-false}
 use Rattle.table.specs.Table.{put_record}
-use Rattle.rules.specs.Basic.{if◌then◌else◌, member, non_zero}
+use Rattle.std.specs.Prelude.{if◌then◌else◌}
+use Rattle.rules.specs.Basic.{member, non_zero}
 use Rattle.rules.specs.Token.{max_dacl}
 use Rattle.rules.specs.Table.{Slot, free, live, or_else, lives, found, exchanged, with_slots}
 use Rattle.rules.specs.Station as Station

@@ -9,7 +9,6 @@ use lib.ListN.{length}
 use borrow.Author.Tests.{ltb-true}
 use Rattle.rules.specs.Number.{max64}
 use Rattle.rules.specs.Table.{can_add}
-use Rattle.rules.specs.State as State
 use Rattle.rules.specs.State.{State, token_slots, can_add_token}
 use Rattle.rules.specs.Index.{free_index}
 use Rattle.rules.specs.Valid.{valid}

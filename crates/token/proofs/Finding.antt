@@ -1,8 +1,7 @@
 -- The slots of a table of rows, found by the first word of each row, whatever the DACLs are. Assumes nothing.
-use Rattle.std.proofs.Common.{◌≡◌, ℕ, zero, suc, ◌<◌, ◌≤◌, Bool, true, false, not, ◌&&◌, eqb, List, ◌∷◌, get_or, take, drop, sym, refl, ap, ◌∙◌, ap₂, arith, get_or-take, ne_eqb, eqb-true}
+use Rattle.std.proofs.Common.{◌≡◌, ℕ, zero, suc, ◌<◌, ◌≤◌, Bool, true, false, not, ◌&&◌, eqb, List, ◌∷◌, get_or, take, drop, sym, refl, ap, ◌∙◌, ap₂, arith, get_or-take, ne_eqb, eqb-true, if◌then◌else◌}
 use Rattle.table.specs.Column.{column, or_next, index_of, index_within}
 use Rattle.table.specs.Rows.{read_rows}
-use Rattle.rules.specs.Basic.{if◌then◌else◌}
 use Rattle.rules.specs.Table.{Slot, free, live}
 use Rattle.rules.specs.Token.{Token, max_dacl}
 use Rattle.rules.specs.State.{token_slots, is_numbered}

@@ -5,7 +5,7 @@ use lib.Bits.{bit_and, bit_or, or_comm, or_shr, and_block, and_high, and_mask, a
 use lib.ListN.{length-map, get_or-map}
 use Rattle.rules.specs.Basic.{all, implies, both_or_neither, word32}
 use Rattle.rules.specs.Bits.{has, within}
-use Rattle.rules.specs.Group.{Group, no_group, is_enabled, is_owner, is_deny_only}
+use Rattle.rules.specs.Group.{no_group, is_enabled, is_owner, is_deny_only}
 use Rattle.rules.specs.AdjustDefaults.{valid_owner}
 use Rattle.rules.specs.Valid.{group_valid, is32}
 use Rattle.rules.specs.Memory.{unpack}

@@ -1,5 +1,4 @@
 -- After i turns the first i groups are stored. Assumes nothing.
-use Prim.Native.Nat.{◌-◌}
 use borrow.Author.Rules.{rules}
 use Rattle.answer.proofs.ClassLists.{no_pair_in, pair_in, pairs_in_lem}
 use Rattle.answer.proofs.Answers.{start_room, start_wrote}

@@ -1,8 +1,5 @@
 -- `bench_entries` is safe and ends: the entries left fall. Assumes nothing.
 use Rattle.bench_numbers.proofs.bench_entries.Given as goal
 
-abbrev pub invariant-loop-left : goal.invariant-loop-left
-invariant-loop-left l = Unit {0}
-
 abbrev pub decreases-loop-left : goal.decreases-loop-left
 decreases-loop-left l = l.left

@@ -1,4 +1,5 @@
 -- By the tests of 11, 12 and 13. At the last, the chunk's bytes are known to be bytes since the start. Assumes nothing.
+use Rattle.std.proofs.Common.{ap, not}
 use Rattle.start.proofs.Parts.{tested_valid, tested_lent}
 use Rattle.calls.proofs.Feeding.{feed_no_station, feed_short, feed_invalid, feeds_with}
 use Rattle.calls.proofs.feed.Goals as goal
@@ -10,10 +11,10 @@ pub returns-then-out-lt-MAX_ANSWER : goal.returns-then-out-lt-MAX_ANSWER
 returns-then-out-lt-MAX_ANSWER c = feed_short _ _ _ _ _ _ _ _ _ c.if-station-ge-STATIONS.false c.if-out-lt-MAX_ANSWER.true c.unanswered-then-out-lt-MAX_ANSWER.ensures
 
 pub returns-then-not-valid : goal.returns-then-not-valid
-returns-then-not-valid c = feed_invalid _ _ _ _ _ _ _ _ _ c.if-station-ge-STATIONS.false c.if-out-lt-MAX_ANSWER.false _ c.valid.ensures c.if-not-valid.true c.unanswered-then-not-valid.ensures
+returns-then-not-valid c = feed_invalid _ _ _ _ _ _ _ _ _ c.if-station-ge-STATIONS.false c.if-out-lt-MAX_ANSWER.false _ c.valid.ensures (ap not c.if-not-valid.true) c.unanswered-then-not-valid.ensures
 
 pub accept-requires : goal.accept-requires
-accept-requires c = let v = c.valid.ensures in (tested_lent v c.if-not-valid.false, tested_valid v c.if-not-valid.false, c.if-station-ge-STATIONS.false, c.if-out-lt-MAX_ANSWER.false)
+accept-requires c = let v = c.valid.ensures in (tested_lent v (ap not c.if-not-valid.false), tested_valid v (ap not c.if-not-valid.false), c.if-station-ge-STATIONS.false, c.if-out-lt-MAX_ANSWER.false)
 
 pub shape_of-out : goal.shape_of-out
 shape_of-out c = c.out-1.given
@@ -31,4 +32,4 @@ pub shape_of-pending : goal.shape_of-pending
 shape_of-pending c = c.pending-1.given
 
 pub returns : goal.returns
-returns c = feeds_with _ _ _ _ _ _ _ _ _ c.if-station-ge-STATIONS.false c.if-out-lt-MAX_ANSWER.false _ c.valid.ensures c.shared_slice_known-1.given c.if-not-valid.false c.accept.ensures
+returns c = feeds_with _ _ _ _ _ _ _ _ _ c.if-station-ge-STATIONS.false c.if-out-lt-MAX_ANSWER.false _ c.valid.ensures c.shared_slice_known-1.given (ap not c.if-not-valid.false) c.accept.ensures

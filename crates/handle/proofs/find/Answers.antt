@@ -1,5 +1,4 @@
 -- handle::find meets its contract: its loop seeks the first handle of that name. Assumes nothing.
-use Prim.Native.Nat.{◌-◌}
 use borrow.Author.Rules.{rules}
 use Rattle.handle.proofs.Rest.{seek_more, seek_here, seek_end}
 use Rattle.handle.proofs.Slots.{first_found}

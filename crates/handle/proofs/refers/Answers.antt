@@ -1,5 +1,4 @@
 -- handle::refers meets its contract: its loop gathers whether a slot refers to the token. Assumes nothing.
-use Prim.Native.Nat.{◌-◌}
 use borrow.Author.Rules.{rules}
 use Rattle.handle.proofs.Rest.{gather_more, gather_done}
 use Rattle.handle.proofs.Slots.{some_refers, refers_beside}

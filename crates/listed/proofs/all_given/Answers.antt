@@ -1,5 +1,4 @@
 -- listed::all_given meets its contract: its loop gathers what is stray. Assumes nothing.
-use Prim.Native.Nat.{◌-◌}
 use mathlib.Core.Path.{refl}
 use borrow.Author.Rules.{rules}
 use Rattle.lists.proofs.Loops.{gathered_none, gathered_done}

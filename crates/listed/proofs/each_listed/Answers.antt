@@ -1,5 +1,4 @@
 -- listed::each_listed meets its contract: its loop tests each word. Assumes nothing.
-use Prim.Native.Nat.{◌-◌}
 use borrow.Author.Rules.{rules}
 use Rattle.lists.proofs.Loops.{tested_none, tested_more, tested_done}
 use Rattle.listed.proofs.each_listed.Goals as goal

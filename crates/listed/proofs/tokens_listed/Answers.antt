@@ -1,5 +1,4 @@
 -- listed::tokens_listed meets its contract: its loop tests each row. Assumes nothing.
-use Prim.Native.Nat.{◌-◌}
 use borrow.Author.Rules.{rules}
 use Rattle.table.specs.Rows.{rows_none}
 use Rattle.listed.proofs.Listed.{at_row, at_end}

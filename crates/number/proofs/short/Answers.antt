@@ -1,7 +1,7 @@
 -- `short` meets its contract. Assumes nothing.
-use Prim.Native.Nat.{ℕ, ◌+◌, ◌-◌, ◌^◌, ◌≤◌, ◌<◌, max}
+use Prim.Native.Nat.{ℕ, ◌+◌, ◌-◌, ◌≤◌, ◌<◌, max}
 use native.Mathlib.Omega.{arith}
-use mathlib.Core.Path.{◌≡◌, refl, sym, ap, ◌∙◌}
+use mathlib.Core.Path.{◌≡◌, sym, ap, ◌∙◌}
 use mathlib.Core.Bool.{true}
 use mathlib.Core.List.{List}
 use lib.Dec.{ltb}
@@ -9,7 +9,6 @@ use lib.ListN.{length, drop, get_or, length-drop}
 use lib.Seq.{drop-drop, get_or-drop}
 use borrow.Author.Rules.{rules}
 use borrow.Author.Tests.{ltb-true}
-use Rattle.rules.proofs.Logic.{not_both}
 use Rattle.number.specs.declared.Skipped.TheVariants as skipped
 use Rattle.number.specs.Rest.{rest}
 use Rattle.number.specs.Meaning.{Passed}
@@ -17,9 +16,6 @@ use Rattle.number.proofs.Reading.{short_numbers}
 use Rattle.number.proofs.short.Goals as goal
 
 module _ (s : List ℕ) (from count limit left : ℕ) (e : left ≡ length s - from) (enough : count ≤ left) where
-  fits : from < 2 ^ 64 → length s < 2 ^ 64 → from + count < 2 ^ 64
-  fits h k = omega arith
-
   inside : from + count ≤ max from (length s)
   inside = omega arith
 
@@ -31,18 +27,6 @@ module _ (s : List ℕ) (from count limit left : ℕ) (e : left ≡ length s - f
         ∙ short_numbers limit count (drop from s) w (omega (arith, length-drop from s)) (λ k l. rw get_or-drop (omega (arith, above (from + k) (omega arith) (omega arith), ltb-true b 128 t)));
     bounds = (omega arith, inside);
   }
-
-pub returns-then-limit-lt127 : goal.returns-then-limit-lt127
-returns-then-limit-lt127 c = absurd (not_both h refl)
-
-pub returns-then-left-count : goal.returns-then-left-count
-returns-then-left-count c = absurd (not_both h refl)
-
-pub overflow_add-from : goal.overflow_add-from
-overflow_add-from c = search (rules, fits)
-
-pub bits-requires : goal.bits-requires
-bits-requires c = search (rules, inside)
 
 pub returns : goal.returns
 returns c = search (rules, all)

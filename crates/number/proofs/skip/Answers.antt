@@ -1,8 +1,7 @@
--- `skip` meets its contract. The loop's invariant: what is left after the numbers still to pass is what is left after all. Assumes nothing.
--- the three ways on: z is what is left after all numbers, r what was read at the place
+-- `skip` meets its contract. Assumes nothing.
 use Prim.Native.Nat.{ℕ, ◌-◌, ◌≤◌, ◌<◌, max}
 use native.Mathlib.Omega.{arith}
-use mathlib.Core.Path.{◌≡◌, refl, ◌∙◌}
+use mathlib.Core.Path.{◌≡◌, ◌∙◌}
 use mathlib.Core.List.{List}
 use lib.ListN.{length, drop}
 use borrow.Author.Rules.{rules}
@@ -33,15 +32,6 @@ module _ (s : List ℕ) (from at limit : ℕ) (r : Number) (f : NumberAt s at li
 
   inside : q ≤ max from (length s)
   inside = omega (arith, bounds s at limit r f v q g)
-
-pub overflow_add-result : goal.overflow_add-result
-overflow_add-result c = omega (arith, (c.short.ensures c.if-short.true).bounds)
-
-pub returns-then-short : goal.returns-then-short
-returns-then-short c = c.short.ensures c.if-short.true
-
-pub loop-left-init : goal.loop-left-init
-loop-left-init c = (refl, omega arith, omega arith)
 
 pub returns-in-Bad : goal.returns-in-Bad
 returns-in-Bad c = search (rules, ends_bad)

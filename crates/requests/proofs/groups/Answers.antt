@@ -1,4 +1,5 @@
 -- Request 6. Assumes nothing.
+use Rattle.std.proofs.Common.{ap, not}
 use borrow.Author.Rules.{rules}
 use Rattle.rules.specs.Request as requests
 use Rattle.rules.specs.Serve.{rule}
@@ -23,4 +24,4 @@ adjust_groups-requires c = search rules
 
 pub returns : goal.returns
 unfolding rule
-returns c = entries_served requests.groups _ _ _ _ _ c.entries-f.ensures _ c.if-not-f.false c.adjust_groups.ensures
+returns c = entries_served requests.groups _ _ _ _ _ c.entries-f.ensures _ (ap not c.if-not-f.false) c.adjust_groups.ensures

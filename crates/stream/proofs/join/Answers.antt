@@ -1,5 +1,4 @@
 -- `join` meets its contract. The loop's invariant: what is left of the chunk gives what the whole gives. Assumes nothing.
-use Prim.Native.Nat.{◌-◌}
 use native.Mathlib.Omega.{arith}
 use lib.ListN.{length-set}
 use borrow.Author.Rules.{rules}

@@ -1,5 +1,5 @@
 -- token_rows::groups_valid meets its contract: its loop gathers the words and what they carry to. Assumes nothing.
-use Rattle.std.proofs.Common.{◌-◌, refl, rules}
+use Rattle.std.proofs.Common.{refl, rules}
 use Rattle.token_rows.specs.Tests.{carried_to}
 use Rattle.lists.proofs.Loops.{gathered_none, gathered_more, gathered_given, gathered_done}
 use Rattle.token_rows.proofs.Groups.{lacks, attributes_test, or_attributes, or_lacks, half_test, both_test, groups_tested}

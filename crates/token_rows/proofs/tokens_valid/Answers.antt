@@ -1,5 +1,5 @@
 -- token_rows::tokens_valid meets its contract: its loop tests each row. Assumes nothing.
-use Rattle.std.proofs.Common.{◌-◌, rules}
+use Rattle.std.proofs.Common.{rules}
 use Rattle.table.specs.Rows.{rows_none, rows_more, rows_done}
 use Rattle.rules.specs.Token.{max_dacl}
 use Rattle.rules.specs.Memory.{token_words}

@@ -1,5 +1,4 @@
 -- After i turns the first i groups are counted. Assumes nothing.
-use Prim.Native.Nat.{◌-◌}
 use borrow.Author.Rules.{rules}
 use Rattle.answer.proofs.ClassLists.{no_pairs, more_pairs, pairs_counted}
 use Rattle.answer.proofs.class.groups_size.Goals as goal

@@ -1,5 +1,4 @@
 -- After i turns the first i SIDs are counted. Assumes nothing.
-use Prim.Native.Nat.{◌-◌}
 use borrow.Author.Rules.{rules}
 use Rattle.answer.proofs.ClassLists.{no_sids_lem, more_sids, sids_counted}
 use Rattle.answer.proofs.class.sids_size.Goals as goal

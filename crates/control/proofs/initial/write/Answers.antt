@@ -1,5 +1,4 @@
 -- The counters and the SID table over zeros; then its loop gives a station more its token. Assumes nothing.
-use Prim.Native.Nat.{◌-◌}
 use mathlib.Core.Path.{refl}
 use borrow.Author.Rules.{rules}
 use Rattle.control.proofs.Beginning.{words_in, sids_long, sids_zero, begun_none, begun_more, begun_all}

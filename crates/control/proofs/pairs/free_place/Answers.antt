@@ -1,5 +1,4 @@
 -- Its loop looks for a free place. Assumes nothing.
-use Prim.Native.Nat.{◌-◌}
 use borrow.Author.Rules.{rules}
 use Rattle.control.proofs.PairRows.{freeing_none, freeing_more, freeing_here, freeing_end}
 use Rattle.control.proofs.pairs.free_place.Goals as goal

@@ -1,5 +1,4 @@
 -- Its loop looks for the session's pair. Assumes nothing.
-use Prim.Native.Nat.{◌-◌}
 use borrow.Author.Rules.{rules}
 use Rattle.rules.specs.Pair.{is_of}
 use Rattle.control.proofs.PairRows.{finding_none, finding_more, finding_here, finding_end}

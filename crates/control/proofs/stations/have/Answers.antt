@@ -1,5 +1,4 @@
 -- Its loop gathers, of every state that the words hold, whether a station's row has the number. Assumes nothing.
-use Prim.Native.Nat.{◌-◌}
 use borrow.Author.Rules.{rules}
 use Rattle.control.proofs.Referring.{asking_none, asking_more, asking_done}
 use Rattle.control.proofs.stations.have.Goals as goal

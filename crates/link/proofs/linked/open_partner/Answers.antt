@@ -1,14 +1,15 @@
 -- By the room for a handle. Assumes nothing.
+use Rattle.std.proofs.Common.{ap, not}
 use borrow.Author.Rules.{rules}
 use borrow.Author.Tests.{not-false}
 use Rattle.link.proofs.LinkedEnding.{no_handle_left, opens}
 use Rattle.link.proofs.linked.open_partner.Goals as goal
 
 pub returns-then-not-can_add_handle : goal.returns-then-not-can_add_handle
-returns-then-not-can_add_handle c = no_handle_left c.can_add_handle.ensures c.if-not-can_add_handle.true c.refused.ensures
+returns-then-not-can_add_handle c = no_handle_left c.can_add_handle.ensures (ap not c.if-not-can_add_handle.true) c.refused.ensures
 
 pub add_handle-change-requires : goal.add_handle-change-requires
-add_handle-change-requires c = (search rules, c.can_add_handle.ensures.next (not-false _ c.if-not-can_add_handle.false), search rules)
+add_handle-change-requires c = (search rules, c.can_add_handle.ensures.next c.if-not-can_add_handle.false, search rules)
 
 pub returns : goal.returns
-returns c = opens c.can_add_handle.ensures (search rules) c.if-not-can_add_handle.false c.used.ensures _ c.add_handle-change.ensures
+returns c = opens c.can_add_handle.ensures (search rules) (ap not c.if-not-can_add_handle.false) c.used.ensures _ c.add_handle-change.ensures

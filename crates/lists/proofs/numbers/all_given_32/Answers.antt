@@ -1,5 +1,4 @@
 -- lists::numbers::all_given_32 meets its contract: its loop tests each number. Assumes nothing.
-use Prim.Native.Nat.{◌-◌}
 use borrow.Author.Rules.{rules}
 use Rattle.lists.proofs.Loops.{tested_none, tested_more, tested_done}
 use Rattle.lists.proofs.numbers.all_given_32.Goals as goal

@@ -1,5 +1,4 @@
 -- lists::numbers::all_once meets its contract: its loop tests each number. Assumes nothing.
-use Prim.Native.Nat.{◌-◌}
 use borrow.Author.Rules.{rules}
 use Rattle.lists.proofs.Loops.{tested_none, tested_more}
 use Rattle.lists.proofs.Counts.{distinct_done}

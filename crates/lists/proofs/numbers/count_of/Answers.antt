@@ -1,5 +1,4 @@
 -- lists::numbers::count_of meets its contract: its loop counts the number. Assumes nothing.
-use Prim.Native.Nat.{◌-◌}
 use borrow.Author.Rules.{rules}
 use Rattle.lists.proofs.Loops.{counting_none, counting_more, counting_done}
 use Rattle.lists.proofs.numbers.count_of.Goals as goal

@@ -1,5 +1,4 @@
 -- lists::numbers::refs_valid meets its contract: its loop counts each number. Assumes nothing.
-use Prim.Native.Nat.{◌-◌}
 use borrow.Author.Rules.{rules}
 use Rattle.lists.proofs.Loops.{tallying_none, tallying_more, tallying_done}
 use Rattle.lists.proofs.numbers.refs_valid.Goals as goal

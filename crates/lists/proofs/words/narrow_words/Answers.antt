@@ -1,5 +1,5 @@
 -- lists::words::narrow_words meets its contract: its loop gathers the words' upper halves. Assumes nothing.
-use Prim.Native.Nat.{◌-◌, ◌/◌}
+use Prim.Native.Nat.{◌/◌}
 use mathlib.Core.Path.{refl}
 use borrow.Author.Rules.{rules}
 use Rattle.rules.specs.Basic.{is_zero, word32}

@@ -1,5 +1,4 @@
 -- lists::words::zero_words meets its contract: its loop gathers the words. Assumes nothing.
-use Prim.Native.Nat.{◌-◌}
 use mathlib.Core.Path.{refl}
 use borrow.Author.Rules.{rules}
 use Rattle.rules.specs.Basic.{is_zero}

@@ -1,6 +1,5 @@
 -- `answer` meets its contract: the length, and the body after it. Assumes nothing.
--- the fields take m bytes; a is the place after the length
-use Prim.Native.Nat.{ℕ, ◌+◌, ◌-◌, ◌^◌, ◌≤◌, ◌<◌, min}
+use Prim.Native.Nat.{ℕ, ◌+◌, ◌-◌, ◌≤◌, min}
 use native.Mathlib.Omega.{arith}
 use mathlib.Core.Path.{◌≡◌, ap, ◌∙◌}
 use mathlib.Core.List.{List, ◌++◌}
@@ -23,13 +22,9 @@ module _ (fs plain o₀ : List ℕ) (m a : ℕ) (em : m ≡ length (encode_all f
   unfolding frame
   head = omega (arith, first_fits (encode (length (body fs plain))) (body fs plain) o₀ fit, ap (λ (k : ℕ). length (encode k)) counted)
 
-  module _ (r : ℕ) (e : r ≡ length (body fs plain)) where
-    sized : a + r ≡ length (answered fs plain)
-    unfolding frame
-    sized = omega (arith, both (encode (length (body fs plain))) (body fs plain) o₀ fit a head)
-
-    fits : length o₀ < 2 ^ 64 → a + r < 2 ^ 64
-    fits k = omega (arith, sized)
+  sized : (r : ℕ) → r ≡ length (body fs plain) → a + r ≡ length (answered fs plain)
+  unfolding frame
+  sized r e = omega (arith, both (encode (length (body fs plain))) (body fs plain) o₀ fit a head)
 
   -- o holds the length over o₀
   module _ (o : List ℕ) (eo : o ≡ over (encode (m + length plain)) o₀) where
@@ -46,9 +41,6 @@ module _ (fs plain o₀ : List ℕ) (m a : ℕ) (em : m ≡ length (encode_all f
 
 pub write_body-requires : goal.write_body-requires
 write_body-requires c = search (rules, room)
-
-pub overflow_add-result : goal.overflow_add-result
-overflow_add-result c = search (rules, fits)
 
 pub returns : goal.returns
 returns c = search (rules, sized, framed)

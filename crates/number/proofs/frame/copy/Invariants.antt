@@ -1,5 +1,4 @@
 -- `copy` meets its contract. The loop's invariant: the bytes passed are written over the buffer. Assumes nothing.
--- out holds the first i bytes over what it was
 use Prim.Native.Nat.{◌-◌, ◌≤◌}
 use mathlib.Core.Path.{◌≡◌}
 use lib.ListN.{length, take}

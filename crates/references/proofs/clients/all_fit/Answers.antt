@@ -1,5 +1,4 @@
 -- references::clients::all_fit meets its contract: its loop tests each row. Assumes nothing.
-use Prim.Native.Nat.{◌-◌}
 use borrow.Author.Rules.{rules}
 use Rattle.table.specs.Rows.{rows_none, rows_more, rows_done}
 use Rattle.references.proofs.clients.all_fit.Goals as goal

@@ -1,5 +1,4 @@
 -- references::columns::add_clients meets its contract: its loop writes a token more. Assumes nothing.
-use Prim.Native.Nat.{◌-◌}
 use borrow.Author.Rules.{rules}
 use Rattle.references.specs.Tests.{client_in}
 use Rattle.references.proofs.Lists.{adding_none, adding_more, adding_done}

@@ -1,5 +1,4 @@
 -- references::columns::add_pairs meets its contract: its loop keeps a word of the live pairs' rows. Assumes nothing.
-use Prim.Native.Nat.{◌-◌}
 use borrow.Author.Rules.{rules}
 use Rattle.references.proofs.Lists.{joining_none, joining_more, joining_done}
 use Rattle.references.proofs.columns.add_pairs.Goals as goal

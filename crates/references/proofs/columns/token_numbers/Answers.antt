@@ -1,5 +1,4 @@
 -- references::columns::token_numbers meets its contract: its loop keeps what is not 0 of a column. Assumes nothing.
-use Prim.Native.Nat.{◌-◌}
 use mathlib.Core.Path.{refl}
 use borrow.Author.Rules.{rules}
 use Rattle.rules.specs.Memory.{token_words}

@@ -1,11 +1,9 @@
 -- references::handles::live meets its contract: its loop tests each handle, and keeps numbers of the live ones; the pairs' and the stations' tokens come behind. Assumes nothing.
-use Prim.Native.Nat.{◌-◌}
 use mathlib.Core.Path.{refl}
 use native.Mathlib.Omega.{arith}
 use borrow.Author.Rules.{rules}
 use Rattle.rules.specs.State.{handle_slots}
 use Rattle.handle.proofs.Words.{records_long}
-use Rattle.references.specs.Meaning.{token_of}
 use Rattle.references.proofs.Loops.{sorting_none, sorting_more, sorting_tested, sorting_first}
 use Rattle.references.proofs.Lists.{at_referred}
 use Rattle.references.proofs.handles.live.Goals as goal
@@ -19,7 +17,9 @@ loop-i-preserved c = sorting_more _ _ _ _ _ _ c.loop-i.invariant (search rules) 
 pub returns : goal.returns
 returns c =
     let sorted = c.loop-i.invariant in
-    let past = c.loop-i-test.false in (
-      sorting_tested _ _ _ _ _ _ sorted past,
-      (sorting_first _ _ _ _ _ _ sorted past, at_referred _ _ _ _ _ _ _ sorted past c.add_pairs-k.ensures c.add_pairs-m.ensures c.add_primaries.ensures c.add_clients.ensures),
-    )
+    let past = c.loop-i-test.false in
+    record {
+      fields = sorting_tested _ _ _ _ _ _ sorted past;
+      called = sorting_first _ _ _ _ _ _ sorted past;
+      refers = at_referred _ _ _ _ _ _ _ sorted past c.add_pairs-k.ensures c.add_pairs-m.ensures c.add_primaries.ensures c.add_clients.ensures;
+    }

@@ -1,5 +1,4 @@
 -- sid::packed::load meets its contract: its loop fills the row. Assumes nothing.
-use Prim.Native.Nat.{◌-◌}
 use borrow.Author.Rules.{rules}
 use Rattle.sid.proofs.Reading.{load_low, load_high, load_one, load_place, load_next, loading_none, loading_more, loading_done}
 use Rattle.sid.proofs.packed.load.Goals as goal

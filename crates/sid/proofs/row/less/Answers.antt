@@ -1,5 +1,4 @@
 -- sid::row::less meets its contract: up to the first word that differs. Assumes nothing.
-use Prim.Native.Nat.{◌-◌}
 use borrow.Author.Rules.{rules}
 use Rattle.sid.proofs.Loops.{equal_none, equal_more, differs, equal_done}
 use Rattle.sid.proofs.row.less.Goals as goal

@@ -1,5 +1,4 @@
 -- sid::valid::all_below meets its contract: its loop tests each word. Assumes nothing.
-use Prim.Native.Nat.{◌-◌}
 use borrow.Author.Rules.{rules}
 use Rattle.lists.proofs.Loops.{tested_none, tested_done}
 use Rattle.sid.proofs.Loops.{below_more}

@@ -1,5 +1,4 @@
 -- sid::valid::rises meets its contract: its loop compares neighbours. Assumes nothing.
-use Prim.Native.Nat.{◌-◌}
 use borrow.Author.Rules.{rules}
 use Rattle.sid.proofs.Loops.{below_at, rises_none, rises_more, rises_done}
 use Rattle.sid.proofs.valid.rises.Goals as goal

@@ -1,5 +1,4 @@
 -- sid::valid::rows_valid meets its contract: its loop tests each row. Assumes nothing.
-use Prim.Native.Nat.{◌-◌}
 use borrow.Author.Rules.{rules}
 use Rattle.sid.proofs.Loops.{length_part, seen_none, seen_more, seen_done}
 use Rattle.sid.proofs.valid.rows_valid.Goals as goal

@@ -1,5 +1,4 @@
 -- sid::write::write meets its contract: its loop writes the halves of the words. Assumes nothing.
-use Prim.Native.Nat.{◌-◌}
 use borrow.Author.Rules.{rules}
 use Rattle.sid.proofs.Writing.{writing_none, writing_more, writing_done, no_row_size, no_row, no_room}
 use Rattle.sid.proofs.write.write.Goals as goal

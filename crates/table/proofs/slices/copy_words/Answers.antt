@@ -1,5 +1,4 @@
 -- After i turns the first i words are copied. Assumes nothing.
-use Prim.Native.Nat.{◌-◌}
 use borrow.Author.Rules.{rules}
 use Rattle.table.specs.Filling.{filling_none, copied_more, filling_done}
 use Rattle.table.proofs.slices.copy_words.Goals as goal

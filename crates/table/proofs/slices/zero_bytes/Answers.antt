@@ -1,5 +1,4 @@
 -- After i turns the first i bytes are 0. Assumes nothing.
-use Prim.Native.Nat.{◌-◌}
 use borrow.Author.Rules.{rules}
 use Rattle.table.specs.Filling.{zeros_none, zeros_more, filling_done}
 use Rattle.table.proofs.slices.zero_bytes.Goals as goal

@@ -1,5 +1,5 @@
 -- After i turns the first i words are copied. Assumes nothing.
-use Rattle.std.proofs.Common.{◌-◌, rules}
+use Rattle.std.proofs.Common.{rules}
 use Rattle.table.specs.Filling.{filling_none, copied_more, filling_done}
 use Rattle.token.proofs.row.copied.Goals as goal
 

@@ -1,5 +1,5 @@
 -- After i turns the first i bytes are copied. Assumes nothing.
-use Rattle.std.proofs.Common.{◌-◌, rules}
+use Rattle.std.proofs.Common.{rules}
 use Rattle.table.specs.Filling.{filling_none, copied_more, filling_done}
 use Rattle.token.proofs.row.copied_dacl.Goals as goal
 

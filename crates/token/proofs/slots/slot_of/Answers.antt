@@ -1,5 +1,5 @@
 -- After i turns the number is in none of the first i rows. Assumes nothing.
-use Rattle.std.proofs.Common.{◌-◌, rules}
+use Rattle.std.proofs.Common.{rules}
 use Rattle.table.specs.Column.{seeking_none, seeking_more, seeking_found, seeking_done}
 use Rattle.token.proofs.slots.slot_of.Goals as goal
 

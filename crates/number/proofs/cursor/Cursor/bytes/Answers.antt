@@ -1,5 +1,5 @@
 -- `Cursor::bytes` meets its contract. Assumes nothing.
-use Prim.Native.Nat.{ℕ, ◌+◌, ◌-◌, ◌^◌, ◌≤◌, ◌<◌}
+use Prim.Native.Nat.{ℕ, ◌+◌, ◌-◌, ◌≤◌, ◌<◌}
 use native.Mathlib.Omega.{arith}
 use mathlib.Core.Path.{◌≡◌, refl, sym, ap, ◌∙◌}
 use mathlib.Core.Bool.{Bool, true, false, ◌&&◌}
@@ -22,9 +22,6 @@ module _ (s : List ℕ) (c : Cursor) (count left : ℕ) (e : left ≡ length s -
     enough : count ≤ left
     enough = leb-true count left (and_r c.ok (leb count left) t)
 
-    fits : c.at < 2 ^ 64 → length s < 2 ^ 64 → c.at + count < 2 ^ 64
-    fits h k = omega (arith, enough)
-
     there : Onward s c (times count byte) (record { at = c.at + count; ok = true })
     there = record {
       means =
@@ -44,9 +41,6 @@ module _ (s : List ℕ) (c : Cursor) (count left : ℕ) (e : left ≡ length s -
       go true h =
           let few : left < count = leb-false count left (rw h at t) in
           bytes_missing count (drop c.at s) (omega (arith, length-drop c.at s)) ∙ ap after (reads (times count byte) s c h)
-
-pub overflow_add-result : goal.overflow_add-result
-overflow_add-result c = search (rules, fits)
 
 pub returns-then-self-count : goal.returns-then-self-count
 returns-then-self-count c = search (rules, there)

@@ -9,7 +9,8 @@ use lib.ListN.{length, drop, drop_of_length-le}
 use lib.Seq.{drop-cons}
 use borrow.Author.Rules.{rules}
 use borrow.Author.Tests.{le-leb, lt-leb}
-use Rattle.rules.specs.Basic.{if◌then◌else◌, is_empty}
+use Rattle.std.specs.Prelude.{if◌then◌else◌}
+use Rattle.rules.specs.Basic.{is_empty}
 use Rattle.rules.proofs.Numbers.{below_or}
 use Rattle.number.specs.Rest.{rest, lost, is_end}
 use Rattle.number.proofs.cursor.Cursor.ended.Goals as goal
