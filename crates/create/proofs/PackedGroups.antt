@@ -271,7 +271,7 @@ module _ (user s : List ℕ) (at count : ℕ) (before : List ℕ) where
               then_on = entered_by (by_sid sid) so_far
 
               fits_then : fits_table then_on ≡ (fits_table u && (room && r.room))
-              fits_then = its.fits so_far (i.taken u c).held ∙ ap (λ (b : Bool). b && r.room) (i.taken u c).ranges ∙ and_assoc (fits_table u) room r.room
+              fits_then = its.fits so_far (i.taken u c).held ∙ ap (λ (b : Bool). b && r.room) (i.taken u c).fits ∙ and_assoc (fits_table u) room r.room
 
               row_then : fits_table then_on ≡ true → set ws (head_words + n) w ≡ headless (map Create.entered (map (group_in then_on) (i.groups ++ (one ∷ []))))
               unfolding group_in number_in

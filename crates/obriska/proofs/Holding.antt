@@ -1,15 +1,16 @@
 -- The bytes of the input that are held: what `refill` and `advance` do to them. Assumes nothing.
-use Prim.Native.Nat.{ℕ, ◌+◌, ◌-◌, ◌*◌, ◌^◌, ◌≤◌, ◌<◌}
+use Prim.Native.Nat.{ℕ, ◌+◌, ◌-◌, ◌*◌, ◌≤◌, ◌<◌}
 use native.Mathlib.Omega.{arith}
 use mathlib.Core.Path.{◌≡◌, refl, sym, ap, subst, ◌∙◌}
 use mathlib.Core.Logic.{⊎_elim}
 use mathlib.Core.Bool.{true, false, not}
-use mathlib.Core.List.{List}
-use lib.ListN.{length, take, drop, length-take, length-drop}
+use mathlib.Core.List.{List, ◌++◌}
+use lib.ListN.{length, take, drop, length-drop}
 use lib.Dec.{ltb}
 use lib.Seq.{take-take, take_at, length-take-le}
 use borrow.Author.Tests.{ltb-true, not-true, not-false}
-use borrow.Rule.Slice.PartMut.{put_mid, take_put}
+use borrow.Rule.Slice.PartMut.{post_of, put_mid, take_put}
+use Rattle.std.proofs.lemmas.List.{length-append}
 use Rattle.rules.specs.Frame.{max_answer}
 use Rattle.rules.specs.Memory.{Memory, valid}
 use Rattle.rules.proofs.Numbers.{below_or}
@@ -26,10 +27,6 @@ use Rattle.obriska.specs.Serving.{buffer_bytes, Ready, held, Room, Refilled, Ser
 
 -- ---- refill
 
--- nothing was read, whatever the buffer has become
-pub unfilled : (from end : ℕ) (b b' : List ℕ) → Refilled from end b b' 0
-unfilled from end b b' = record { kept = λ h. absurd (omega arith); more = λ h. absurd (omega arith); inside = omega arith }
-
 -- b is the buffer, b₁ with the bytes held at its front, ys what then stands after these
 module _ (from end : ℕ) (b b₁ ys : List ℕ) (n : ℕ) (k : Kept from end b b₁ n) (fits : Room from end b) (long : length b₁ ≡ length b) where
   abbrev filled : List ℕ
@@ -43,7 +40,7 @@ module _ (from end : ℕ) (b b₁ ys : List ℕ) (n : ℕ) (k : Kept from end b 
       ∙ sym (drop_take from end b)
 
   -- j bytes were read
-  module _ (j : ℕ) (some : j ≡ 0 → ⊥) (c : j ≤ length (take (length filled - n) (drop n filled))) where
+  module _ (j : ℕ) (some : j ≡ 0 → ⊥) (c : j ≤ length ys) where
     pub refilled : length filled ≡ length b₁ → Refilled from end b filled (n + j)
     refilled e = record {
       kept = λ h.
@@ -52,7 +49,7 @@ module _ (from end : ℕ) (b b₁ ys : List ℕ) (n : ℕ) (k : Kept from end b 
           ∙ take_put n (length b₁ - n) b₁ ys (omega (arith, k.count))
           ∙ moved;
       more = λ h. omega (arith, k.count, some);
-      inside = omega (arith, k.count, length-take (length filled - n) (drop n filled), length-drop n filled);
+      inside = omega (arith, k.count, length-take-le n b₁ (omega (arith, k.count)), length-append (take n b₁) (ys ++ post_of n (length b₁ - n) b₁), length-append ys (post_of n (length b₁ - n) b₁));
     }
 
 -- ---- advance
@@ -107,12 +104,6 @@ module _ (from end : ℕ) (b : List ℕ) (x : Next) (f : Says (take end b) from 
   module _ (station at n : ℕ) (g : x ≡ next.Chunk station at n) where
     inside : (from ≤ at) × (at + n ≤ length (take end b)) × (n ≤ max_chunk)
     inside = bounds (next.Chunk station at n) g
-
-    pub chunk_fits : at + n < 2 ^ 64
-    chunk_fits = omega (arith, inside, upto)
-
-    pub chunk_inside : at + n ≤ length b
-    chunk_inside = omega (arith, inside, upto)
 
     -- the part of the buffer that is lent is the chunk
     chunk_is : take (at + n - at) (drop at b) ≡ take n (drop at (take end b))

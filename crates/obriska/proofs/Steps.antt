@@ -1,11 +1,11 @@
 -- What `feed_once` and `serve` give, in the terms of the program's states. Assumes nothing.
-use Prim.Native.Nat.{ℕ, ◌+◌, ◌-◌, ◌^◌, ◌≤◌, ◌<◌}
+use Prim.Native.Nat.{ℕ, ◌+◌, ◌-◌, ◌≤◌, ◌<◌}
 use native.Mathlib.Omega.{arith}
-use mathlib.Core.Path.{◌≡◌, refl, sym, ap, ◌∙◌}
+use mathlib.Core.Path.{◌≡◌, sym, ap, ◌∙◌}
 use mathlib.Core.Bool.{Bool, true, false, not}
 use mathlib.Core.List.{List}
 use lib.ListN.{length, take, drop, length-drop, drop_of_length-le}
-use lib.Seq.{take_all, drop-drop, length-take-le}
+use lib.Seq.{take_all, drop-drop}
 use borrow.Author.Tests.{not-false}
 use Rattle.rules.specs.State.{State}
 use Rattle.rules.specs.Memory.{Memory, decode}
@@ -14,10 +14,6 @@ use Rattle.session.specs.Turns.{Turns}
 use Rattle.session.specs.declared.turn.Turned.{Turned}
 use Rattle.obriska.specs.declared.Step.{Step}
 use Rattle.obriska.specs.Serving.{Onward, Steps, Serves}
-
--- a part of a slice is as long as it says
-pub prefix : (n : ℕ) (xs : List ℕ) → n ≤ length xs → n ≡ length (take n xs)
-prefix n xs h = sym (length-take-le n xs h)
 
 -- nothing is left of a chunk
 fed_none : (σ : State) (s : ℕ) (bytes : List ℕ) (k : ℕ) → length bytes ≤ k → (fed σ s (drop k bytes)).after ≡ σ
@@ -47,9 +43,6 @@ module _ (s : ℕ) (bytes : List ℕ) (m m' : Memory) (out out' : List ℕ) (t :
 
 -- ---- the loop of `serve`
 
-pub begins : (s : ℕ) (bytes : List ℕ) (m : Memory) (buffer_length : ℕ) → Onward s bytes bytes m m buffer_length true
-begins s bytes m buffer_length = record { stays = λ v. v; same = λ v h e. refl }
-
 -- after used bytes, one feed of the rest
 module _ (s : ℕ) (bytes : List ℕ) (used : ℕ) (m₀ m m' : Memory) (buffer_length₀ buffer_length : ℕ) (t : Step)
     (b : Onward s bytes (drop used bytes) m₀ m buffer_length₀ true) (f : Steps s (take (length bytes - used) (drop used bytes)) m m' buffer_length t) (here : used < length bytes) where
@@ -61,9 +54,6 @@ module _ (s : ℕ) (bytes : List ℕ) (used : ℕ) (m₀ m m' : Memory) (buffer_
 
   pub reaches : used + t.used ≤ length bytes
   reaches = omega (arith, f.inside, size)
-
-  pub sum_fits : length bytes < 2 ^ 64 → used + t.used < 2 ^ 64
-  sum_fits h = omega (arith, reaches)
 
   pub less_left : length bytes - (used + t.used) < length bytes - used
   less_left = omega (arith, reaches, f.some (omega (arith, size)))

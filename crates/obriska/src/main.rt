@@ -1,7 +1,8 @@
 // The program (document 01: 'a thin program'): chunks from standard input, each a station, a length and so many bytes; answers to standard output.
 #![tactic(auto)]
 
-ghost use Rattle.std.specs.Prelude.{◌≡◌, ◌≤◌, length};
+ghost use Rattle.std.specs.Prelude.{◌≡◌, ◌≤◌, true, length};
+ghost use Rattle.std.specs.Io.KnownBytes.{Appends};
 ghost use Rattle.handle.specs.Words.{records_in};
 ghost use Rattle.valid.specs.Meaning.{memory_of};
 ghost use Rattle.obriska.specs.Serving.{buffer_bytes, Ready, Steps, Serves, Room, Refilled, Advances, Ends};
@@ -9,9 +10,9 @@ ghost use Rattle.obriska.specs.Serving.{buffer_bytes, Ready, Steps, Serves, Room
 use calls::MAX_ANSWER;
 use control::layout::CONTROL_WORDS;
 use handle::Handles;
-use libc::{STDIN_FILENO, STDOUT_FILENO};
 use session::input::Next;
 use session::{input, turn};
+use std::io::{Read, Write};
 use valid::layout::{DACLS, PENDING, TOKENS};
 
 // The most chunks, so that the program ends.
@@ -53,8 +54,19 @@ struct Ended {
     handles: Handles,
 }
 
+// Writes an answer and flushes it, so that it is out before the next read: whether that went well.
+fn write_answer<W: Write>(writer: &mut W, answer: &[u8]) -> bool
+    ensures { result ≡ true → Appends (W.contents writer.old) (W.contents writer.new) answer.now }
+{
+    match writer.write_all(answer) {
+        Ok(()) => writer.flush().is_ok(),
+        Err(_) => false,
+    }
+}
+
 // Feeds a chunk once and writes the answer. A refused chunk is used up: it is skipped, and has no answer.
-fn feed_once(
+fn feed_once<W: Write>(
+    writer: &mut W,
     station: u32,
     chunk: &[u8],
     answer: &mut [u8],
@@ -70,7 +82,7 @@ fn feed_once(
         station, chunk, answer, tokens, dacls, handles, control, pending,
     );
     let n = t.fed.answered;
-    let written = io::write_all(STDOUT_FILENO, &answer[..n]);
+    let written = write_answer(writer, &answer[..n]);
     let next = t.handles;
     if t.fed.refusal != 0 {
         return Step {
@@ -87,7 +99,8 @@ fn feed_once(
 }
 
 // Feeds a chunk until it is used up, or an answer can't be written.
-fn serve(
+fn serve<W: Write>(
+    writer: &mut W,
     station: u32,
     chunk: &[u8],
     answer: &mut [u8],
@@ -103,6 +116,7 @@ fn serve(
     let mut used: usize = 0;
     while used < chunk.len() {
         let t = feed_once(
+            writer,
             station,
             &chunk[used..],
             answer,
@@ -129,21 +143,21 @@ fn serve(
 
 // The bytes held move to the front of the buffer, and one read puts what is there behind them. Their end; 0 where the input
 // has ended or the read failed.
-fn refill(buffer: &mut [u8], from: usize, end: usize) -> usize
+fn refill<R: Read>(reader: &mut R, buffer: &mut [u8], from: usize, end: usize) -> usize
     requires { Room from end buffer.old }
     ensures { Refilled from end buffer.old buffer.new result }
 {
     let kept = input::keep(buffer, from, end);
-    let got = libc::read(STDIN_FILENO, &mut buffer[kept..]);
-    let n = io::count(got, &buffer[kept..]);
-    if n == 0 {
-        return 0;
+    match reader.read(&mut buffer[kept..]) {
+        Ok(0) | Err(_) => 0,
+        Ok(n) => kept + n,
     }
-    kept + n
 }
 
 // One chunk of the bytes held is served, or more are read where none is whole.
-fn advance(
+fn advance<R: Read, W: Write>(
+    reader: &mut R,
+    writer: &mut W,
     buffer: &mut [u8],
     answer: &mut [u8],
     tokens: &mut [u64],
@@ -166,7 +180,7 @@ fn advance(
             handles,
         },
         Next::More => {
-            let filled = refill(buffer, from, end);
+            let filled = refill(reader, buffer, from, end);
             Advanced {
                 going: 0 < filled,
                 chunks: 0,
@@ -178,6 +192,7 @@ fn advance(
         Next::Chunk { station, at, size } => {
             let to = at + size;
             let s = serve(
+                writer,
                 station,
                 &buffer[at..to],
                 answer,
@@ -200,7 +215,9 @@ fn advance(
 }
 
 // Chunk after chunk, until the input ends or is not what it should be, nothing more can be written, or the most are taken.
-fn run(
+fn run<R: Read, W: Write>(
+    reader: &mut R,
+    writer: &mut W,
     buffer: &mut [u8],
     answer: &mut [u8],
     tokens: &mut [u64],
@@ -218,7 +235,7 @@ fn run(
     let mut end: usize = 0;
     while chunks < CHUNKS {
         let a = advance(
-            buffer, answer, tokens, dacls, held, control, pending, from, end,
+            reader, writer, buffer, answer, tokens, dacls, held, control, pending, from, end,
         );
         held = a.handles;
         chunks += a.chunks;
@@ -239,7 +256,9 @@ fn run(
     }
 }
 
-fn main() {
+fn main(rt: HostRuntime) {
+    let mut reader = rt.stdin();
+    let mut writer = rt.stdout();
     let mut buffer = [0u8; BUFFER];
     let mut answer = [0u8; MAX_ANSWER];
     let mut tokens = [0u64; TOKENS];
@@ -248,6 +267,8 @@ fn main() {
     let mut pending = [0u8; PENDING];
     let handles = turn::start(&mut tokens, &mut dacls, &mut control, &mut pending);
     run(
+        &mut reader,
+        &mut writer,
         &mut buffer,
         &mut answer,
         &mut tokens,

@@ -17,7 +17,7 @@ pub returns-then-not-made : goal.returns-then-not-made
 returns-then-not-made c = search (rules, packed_refused)
 
 pub returns-then-not-made-can_issue : goal.returns-then-not-made-can_issue
-returns-then-not-made-can_issue c = packed_no_room _ _ _ _ _ _ _ _ _ c.held.ensures (ap not c.if-not-held.false) c.copied-table.ensures c.make_packed-made.ensures (ap not c.if-not-made.false) c.can_issue.ensures (ap not c.if-not-made-can_issue.true) c.refused-then-not-made-can_issue.ensures
+returns-then-not-made-can_issue c = packed_no_room _ _ _ _ _ _ _ _ _ c.held.ensures (ap not c.if-not-held.false) c.copied-table.ensures c.make_packed-made.ensures c.if-not-made.false c.can_issue.ensures (ap not c.if-not-made-can_issue.true) c.refused-then-not-made-can_issue.ensures
 
 pub issue_created-end-requires : goal.issue_created-end-requires
 issue_created-end-requires c = (c.requires.0, c.requires.1, search rules, packed_left c.make_packed-made.result.room c.can_issue.ensures (ap not c.if-not-made-can_issue.false))
@@ -26,4 +26,4 @@ pub set-requires : goal.set-requires
 set-requires c = (search rules, search (rules, c.requires.0.control))
 
 pub returns : goal.returns
-returns c = packed_creates _ _ _ _ _ _ _ _ _ c.held.ensures (ap not c.if-not-held.false) c.copied-table.ensures c.make_packed-made.ensures (ap not c.if-not-made.false) c.can_issue.ensures (ap not c.if-not-made-can_issue.false) c.next-n.ensures c.issue_created-end.ensures c.set.ensures
+returns c = packed_creates _ _ _ _ _ _ _ _ _ c.held.ensures (ap not c.if-not-held.false) c.copied-table.ensures c.make_packed-made.ensures c.if-not-made.false c.can_issue.ensures (ap not c.if-not-made-can_issue.false) c.next-n.ensures c.issue_created-end.ensures c.set.ensures

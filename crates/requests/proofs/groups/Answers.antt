@@ -24,4 +24,4 @@ adjust_groups-requires c = search rules
 
 pub returns : goal.returns
 unfolding rule
-returns c = entries_served requests.groups _ _ _ _ _ c.entries-f.ensures _ (ap not c.if-not-f.false) c.adjust_groups.ensures
+returns c = entries_served requests.groups _ _ _ _ _ c.entries-f.ensures _ c.if-not-f.false c.adjust_groups.ensures
