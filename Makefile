@@ -10,7 +10,7 @@ cargo = OBRISKA_LIB_DIR=$(abspath $(libdir)) cargo
 host = --offline --release --manifest-path host/Cargo.toml
 
 # The kit that the proofs were made with, as `rt version` says it.
-KIT = rattle-kit-5b-plain logic 097e4c862dff5811
+KIT = rattle-kit-13f logic dac8208d650f15bf
 
 # $(call need,TOOL,WHAT FOR): ends a target at once where a tool is missing.
 need = @command -v $(1) >/dev/null || { echo "$(strip make $(MAKECMDGOALS)): $(1) is missing, which $(2)" >&2; exit 1; }
@@ -22,6 +22,10 @@ else
 libdir = build
 endif
 library = $(libdir)/libobriska.a
+
+# Proves what has changed and compiles the exports, which are a crate of their own, for any x86-64 processor.
+compile = env -C crates/broker_c rt lib --cpu x86-64
+compiled = crates/broker_c/out/libbroker_c.a
 
 .PHONY: lib help play talk example install check-hosts check-c check-same bench-numbers clean
 .PHONY: need-cargo need-cc need-checks need-benches
@@ -61,15 +65,15 @@ $(library):
 	@exit 1
 else
 # From the same sources and kit the archive is the same byte for byte, so its sha256 is told.
-sources = $(shell find crates -type f -not -path '*/must-fail/*')
+sources = $(shell find crates -type f -not -path '*/must-fail/*' -not -path '*/out/*')
 $(library): crates.txt $(sources)
 	$(call need,rt,proves and compiles the broker: $(KIT); OBRISKA_LIB_DIR=.. takes a library that is there)
 	@kit=$$(rt version); echo "== kit: $$kit"; \
 	    [ "$$kit" = "$(KIT)" ] || echo "warning: another kit than $(KIT)" >&2
 	@echo "== proving and compiling the broker (the first time takes minutes)"
 	@mkdir -p $(libdir)
-	@host/progress $(libdir)/proofs.log rt staticlib broker
-	cp target/staticlib/libbroker.a $@
+	@host/progress $(libdir)/proofs.log $(compile)
+	cp $(compiled) $@
 	@echo "== sha256 $$(sha256sum $@)"
 endif
 
@@ -108,9 +112,9 @@ check-c: need-checks $(library)
 
 # The archive is compiled once more and compared.
 check-same: $(library)
-	@rm -f target/staticlib/libbroker.a
-	@host/progress $(libdir)/again.log rt staticlib broker
-	@if cmp $(library) target/staticlib/libbroker.a; then \
+	@rm -f $(compiled)
+	@host/progress $(libdir)/again.log $(compile)
+	@if cmp $(library) $(compiled); then \
 	    echo "test result: ok. 1 passed; 0 failed"; \
 	else \
 	    echo "test result: FAILED. 0 passed; 1 failed"; exit 1; \
@@ -121,7 +125,7 @@ check-hosts: need-cargo check-c
 
 bench-numbers: need-benches
 	tests/numbers/libraries
-	OBRISKA_LIB_DIR=$(abspath target/numbers) cargo run --release --offline --manifest-path tests/Cargo.toml --package numbers
+	OBRISKA_LIB_DIR=$(abspath build/numbers) cargo run --release --offline --manifest-path tests/Cargo.toml --package numbers
 
 clean:
 	rm -rf build host/target

@@ -1,4 +1,4 @@
-//! Links libobriska.a: from OBRISKA_LIB_DIR if that is set, else built here by `rt staticlib broker`.
+//! Links libobriska.a: from OBRISKA_LIB_DIR if that is set, else built here by `rt lib`.
 //! The codec alone needs none.
 
 use std::path::{Path, PathBuf};
@@ -36,15 +36,28 @@ fn given(directory: &Path) -> PathBuf {
     found.clone()
 }
 
-/// Proves and compiles the broker; its library's own name is libbroker.a.
+/// Proves and compiles the broker; rt's own name for the library is libbroker_c.a.
 fn built() -> PathBuf {
     let root = Path::new(env!("CARGO_MANIFEST_DIR")).join("../..");
-    println!("cargo:rerun-if-changed={}", root.join("crates").display());
-    println!("cargo:rerun-if-changed={}", root.join("crates.txt").display());
-    let status = Command::new("rt").args(["staticlib", "broker"]).current_dir(&root).status();
-    assert!(status.is_ok_and(|status| status.success()), "`rt staticlib broker` failed");
+    sources(&root);
+    let exports = root.join("crates/broker_c");
+    let status = Command::new("rt").args(["lib", "--cpu", "x86-64"]).current_dir(&exports).status();
+    assert!(status.is_ok_and(|status| status.success()), "`rt lib` failed in crates/broker_c");
     let directory = PathBuf::from(env::var_os("OUT_DIR").expect("cargo sets OUT_DIR"));
-    fs::copy(root.join("target/staticlib/libbroker.a"), directory.join("libobriska.a"))
+    fs::copy(exports.join("out/libbroker_c.a"), directory.join("libobriska.a"))
         .expect("the library can be copied");
     directory
+}
+
+/// What rt proves is read again where it changes; what rt writes into a crate's folder out/ is not.
+fn sources(root: &Path) {
+    println!("cargo:rerun-if-changed={}", root.join("crates.txt").display());
+    for folder in fs::read_dir(root.join("crates")).expect("the crates are there") {
+        let folder = folder.expect("a crate's folder").path();
+        for part in ["src", "specs", "proofs"].map(|part| folder.join(part)) {
+            if part.is_dir() {
+                println!("cargo:rerun-if-changed={}", part.display());
+            }
+        }
+    }
 }

@@ -17,8 +17,7 @@ use control::sids;
 use handle::{Handle, list};
 
 // The start's memory, over any memory of the right sizes; else 13.
-#[unsafe(no_mangle)]
-pub extern "C" fn obriska_start(
+pub fn obriska_start(
     tokens: &mut [u64],
     dacls: &mut [u8],
     handles: &mut [Handle],
@@ -33,8 +32,7 @@ pub extern "C" fn obriska_start(
 }
 
 // A station's chunk: its bytes up to the end of the first request or break, or all.
-#[unsafe(no_mangle)]
-pub extern "C" fn obriska_feed(
+pub fn obriska_feed(
     station: u32,
     chunk: &[u8],
     answer: &mut [u8],
@@ -60,8 +58,7 @@ pub extern "C" fn obriska_feed(
 }
 
 // A station's part request and its break are dropped.
-#[unsafe(no_mangle)]
-pub extern "C" fn obriska_reconnect(
+pub fn obriska_reconnect(
     station: u32,
     tokens: &[u64],
     dacls: &[u8],
@@ -84,8 +81,7 @@ pub extern "C" fn obriska_reconnect(
 }
 
 // The slot of a station's live handle of that number, front to back among the first 32; 32 if there is none. It changes nothing.
-#[unsafe(no_mangle)]
-pub extern "C" fn obriska_find(handles: &[Handle], station: u32, number: u32) -> usize
+pub fn obriska_find(handles: &[Handle], station: u32, number: u32) -> usize
     ensures { result ≡ found_index (is_handle station number) (slots_of (loaded handles.now)) }
 {
     list::find(handles, station, number)
@@ -93,24 +89,21 @@ pub extern "C" fn obriska_find(handles: &[Handle], station: u32, number: u32) ->
 
 // The packed form of the SID that has a number in the SID table, and its size; 0, and nothing written, where there is none or no room for
 // it. It tests nothing else of the memory.
-#[unsafe(no_mangle)]
-pub extern "C" fn obriska_sid(control: &[u64], number: u32, out: &mut [u8]) -> usize
+pub fn obriska_sid(control: &[u64], number: u32, out: &mut [u8]) -> usize
     ensures { SidWritten control.now number out.old out.new result }
 {
     sids::write(control, number, out)
 }
 
 // The edition that is linked: major, minor and patch, a byte each.
-#[unsafe(no_mangle)]
-pub extern "C" fn obriska_version() -> u32
+pub fn obriska_version() -> u32
     ensures { result ≡ version }
 {
     0x000200
 }
 
 // The layout of the lent memory that it takes.
-#[unsafe(no_mangle)]
-pub extern "C" fn obriska_layout() -> u32
+pub fn obriska_layout() -> u32
     ensures { result ≡ layout }
 {
     6

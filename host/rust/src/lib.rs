@@ -32,7 +32,7 @@
 //! # Building
 //!
 //! The build script links `libobriska.a` from the directory that `OBRISKA_LIB_DIR` names. If that
-//! is not set, it proves and compiles the broker by `rt staticlib broker`.
+//! is not set, it proves and compiles the broker by `rt lib`.
 //!
 //! Without the feature `std`, which is on by default, there is no broker and nothing is linked: the
 //! codec is left, for `no_std`; with the feature `alloc`, conditions and putting back too.
