@@ -90,7 +90,7 @@ returns-in-1 c = search by_number_lem
 
 pub returns-in-2 : goal.returns-in-2
 unfolding layouts
-returns-in-2 c = by_number_lem c.request_number-first.ensures _ _ 2 c.in-2.keys2 c.close.ensures
+returns-in-2 c = by_number_lem c.request_number-first.ensures _ _ 2 c.in-2.is c.close.ensures
 
 pub returns-in-3 : goal.returns-in-3
 unfolding layouts

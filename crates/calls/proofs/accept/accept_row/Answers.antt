@@ -19,43 +19,13 @@ pub break_off-requires : goal.break_off-requires
 break_off-requires c = let p = c.requires in (p.0, p.1, count_fits c.join-stop.ensures p.3 c.row-1.given, p.2)
 
 pub serve_frame-requires : goal.serve_frame-requires
-serve_frame-requires c = let p = c.requires in (p.0, p.1, p.2, held_row p.4, start_fits c.join-stop.ensures c.what-1.given.1, count_fits c.join-stop.ensures p.3 c.row-1.given)
-
-pub shape_of-control-in-Part : goal.shape_of-control-in-Part
-shape_of-control-in-Part c = c.control-1.given
-
-pub shape_of-row-in-Part : goal.shape_of-row-in-Part
-shape_of-row-in-Part c = c.row-1.given
+serve_frame-requires c = let p = c.requires in (p.0, p.1, p.2, held_row p.4, start_fits c.join-stop.ensures c.in-Whole.is, count_fits c.join-stop.ensures p.3 c.row-1.given)
 
 pub returns-in-Part : goal.returns-in-Part
-returns-in-Part c = chunk_joins _ _ _ c.requires.1 c.stream_of-before.ensures c.if-before.false _ c.join-stop.ensures c.row-1.given c.enum_told-1.given.1 c.keep.ensures refl
-
-pub shape_of-control-in-Broken : goal.shape_of-control-in-Broken
-shape_of-control-in-Broken c = c.control-in-Broken-1.given
-
-pub shape_of-row-in-Broken : goal.shape_of-row-in-Broken
-shape_of-row-in-Broken c = c.row-in-Broken-1.given ∙ c.row-1.given
-
-pub shape_of-out-in-Broken : goal.shape_of-out-in-Broken
-shape_of-out-in-Broken c = c.out-1.given
+returns-in-Part c = chunk_joins _ _ _ c.requires.1 c.stream_of-before.ensures c.if-before.false _ c.join-stop.ensures c.row-1.given c.in-Part.is c.keep.ensures refl
 
 pub returns-in-Broken : goal.returns-in-Broken
-returns-in-Broken c = chunk_breaks _ _ _ c.requires.1 c.stream_of-before.ensures c.if-before.false _ c.join-stop.ensures c.row-1.given c.enum_told-in-Broken-1.given.1 c.break_off.ensures
-
-pub shape_of-tokens-in-Whole : goal.shape_of-tokens-in-Whole
-shape_of-tokens-in-Whole c = c.tokens-1.given
-
-pub shape_of-dacls-in-Whole : goal.shape_of-dacls-in-Whole
-shape_of-dacls-in-Whole c = c.dacls-1.given
-
-pub shape_of-control-in-Whole : goal.shape_of-control-in-Whole
-shape_of-control-in-Whole c = c.control-in-Whole-1.given
-
-pub shape_of-row-in-Whole : goal.shape_of-row-in-Whole
-shape_of-row-in-Whole c = c.row-in-Whole-1.given ∙ c.row-1.given
-
-pub shape_of-out-in-Whole : goal.shape_of-out-in-Whole
-shape_of-out-in-Whole c = c.out-in-Whole-1.given
+returns-in-Broken c = chunk_breaks _ _ _ c.requires.1 c.stream_of-before.ensures c.if-before.false _ c.join-stop.ensures c.row-1.given c.in-Broken.is c.break_off.ensures
 
 pub returns-in-Whole : goal.returns-in-Whole
-returns-in-Whole c = chunk_serves _ _ _ c.requires.1 c.stream_of-before.ensures c.if-before.false _ c.join-stop.ensures c.row-1.given _ c.what-1.given.1 c.serve_frame.ensures
+returns-in-Whole c = chunk_serves _ _ _ c.requires.1 c.stream_of-before.ensures c.if-before.false _ c.join-stop.ensures c.row-1.given _ c.in-Whole.is c.serve_frame.ensures
