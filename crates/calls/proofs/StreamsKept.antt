@@ -12,7 +12,6 @@ use Rattle.rules.specs.Station.{Station, with_token, with_client}
 use Rattle.rules.specs.State.{State, with_sids, entering, with_tokens, with_handles, with_stations, change_station, set_token, set_client, put_token, change_token, used, add_token, add_handle, drop_handle, with_pairs, set_pair, held, released}
 use Rattle.rules.specs.Memory.{pending_bytes, pending_row}
 use Rattle.rules.specs.Decision.{Decision, need◌else◌then◌, success, carried_out, with_handle, issued}
-use Rattle.rules.specs.Request as Request
 use Rattle.rules.specs.Request.{Request, parse}
 use Rattle.rules.specs.Serve.{rule, decided, decision, serve}
 use Rattle.rules.specs.OpenClose as OpenClose

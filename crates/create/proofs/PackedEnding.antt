@@ -29,7 +29,7 @@ use Rattle.rules.specs.Valid.{valid, is_byte}
 use Rattle.rules.specs.Request.{follow, ◌>>=◌, give, times, u32, packed_sid, group}
 use Rattle.rules.specs.Decision.{Served, need◌else◌then◌, carried_out, can_issue, issued}
 use Rattle.rules.specs.Create.{givable, valid_pair, valid_integrity, valid_create, entered, create_numbered, create}
-use Rattle.rules.proofs.Logic.{and_l, and_r, and_i, not_both, either, all_mem, mem_all, mem_right}
+use Rattle.rules.proofs.Logic.{and_l, and_r, and_i, not_both, all_mem, mem_all, mem_right}
 use Rattle.rules.proofs.Same.{same_eq, same_refl}
 use Rattle.rules.proofs.Sids.{all_drop, read_form, row_one}
 use Rattle.rules.proofs.SidNumbers.{sids_fit, sids_few, sids_two, number_one, number_is, number_kept, stays_in, entered_in, entered_by_long, entered_all_long, fits_less, all_entered_in}

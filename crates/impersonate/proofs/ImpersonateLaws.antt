@@ -1,5 +1,5 @@
 -- Requests 12 and 13, part by part and end by end: what the calls gave is what the rules decide. Assumes nothing.
-use Prim.Native.Nat.{ℕ, ◌<◌, ◌≤◌, min}
+use Prim.Native.Nat.{ℕ, ◌<◌, min}
 use native.Mathlib.Omega.{arith}
 use mathlib.Core.Path.{◌≡◌, refl, sym, ap, ap₂, ◌∙◌}
 use mathlib.Core.Bool.{Bool, true, false, not, ◌&&◌, ◌||◌, beq}
@@ -21,7 +21,7 @@ use Rattle.rules.specs.Station.{no_client}
 use Rattle.rules.specs.Valid.{valid}
 use Rattle.rules.specs.State as state
 use Rattle.rules.specs.State.{State, station_count, caller, client_at, set_client, released}
-use Rattle.rules.specs.Decision.{Decision, Served, carried_out, need◌else◌then◌, success}
+use Rattle.rules.specs.Decision.{Decision, carried_out, need◌else◌then◌, success}
 use Rattle.rules.specs.Impersonate.{alike, passes, may_act, in_force, marked, impersonate, revert}
 use Rattle.rules.proofs.Facts.{valid_facts, facts_valid}
 use Rattle.rules.proofs.Steps.{Is}

@@ -23,7 +23,7 @@ use Rattle.session.specs.declared.input.Next.{Next}
 use Rattle.session.specs.declared.input.Next.TheVariants as next
 use Rattle.obriska.specs.declared.Served.{Served}
 use Rattle.obriska.specs.declared.Advanced.{Advanced}
-use Rattle.obriska.specs.Serving.{buffer_bytes, Ready, held, Room, Refilled, Serves, Follows, Advances, Runs, none, turn, Ends}
+use Rattle.obriska.specs.Serving.{buffer_bytes, Ready, held, Room, Refilled, Serves, Follows, Advances, Runs, turn, Ends}
 
 -- ---- refill
 

@@ -21,7 +21,6 @@ use Rattle.calls.specs.Promise.{Feeds, FeedsWith}
 use Rattle.calls.specs.declared.Turn.{Turn}
 use Rattle.handle.proofs.Words.{records_long}
 use Rattle.calls.proofs.Freeing.{of_bytes_lem}
-use Rattle.session.specs.Program.{fed}
 use Rattle.session.specs.Turns.{Starts, Turns}
 use Rattle.session.specs.declared.turn.Turned.{Turned}
 use Rattle.session.proofs.Feeding.{call_goes, call_refused, call_valid, call_taken, call_skipped}

@@ -1,6 +1,5 @@
 -- By the tests of the mask and of the room. Assumes nothing.
 use borrow.Author.Rules.{rules}
-use borrow.Author.Tests.{not-false}
 use Rattle.decide.proofs.LookupLaws.{mask_narrow}
 use Rattle.open.proofs.OpenCloseEnding.{bad_mask, no_room, opened}
 use Rattle.open.proofs.open_own.Goals as goal

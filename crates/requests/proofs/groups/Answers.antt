@@ -1,5 +1,4 @@
 -- Request 6. Assumes nothing.
-use Rattle.std.proofs.Common.{ap, not}
 use borrow.Author.Rules.{rules}
 use Rattle.rules.specs.Request as requests
 use Rattle.rules.specs.Serve.{rule}

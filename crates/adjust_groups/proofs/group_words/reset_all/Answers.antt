@@ -1,5 +1,4 @@
 -- After i turns the first i words are reset. Assumes nothing.
-use Prim.Native.Nat.{◌-◌}
 use borrow.Author.Rules.{rules}
 use Rattle.table.specs.Updating.{updating_none}
 use Rattle.adjust_groups.proofs.GroupEntries.{one_reset, all_reset}

@@ -1,5 +1,5 @@
 -- By the stream's mark, then by what the chunk came to. Assumes nothing.
-use mathlib.Core.Path.{refl, ◌∙◌}
+use mathlib.Core.Path.{refl}
 use Rattle.calls.proofs.Accepting.{held_row, count_short, count_fits, start_fits, chunk_eaten, chunk_joins, chunk_breaks, chunk_serves}
 use Rattle.calls.proofs.accept.accept_row.Goals as goal
 

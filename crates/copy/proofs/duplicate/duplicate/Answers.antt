@@ -1,6 +1,5 @@
 -- By the handle, the test and the room. Assumes nothing.
 use Rattle.std.proofs.Common.{ap, not}
-use borrow.Author.Tests.{not-false}
 use Rattle.decide.proofs.Issuing.{numbers_left}
 use Rattle.decide.proofs.Locating.{located}
 use Rattle.copy.proofs.DuplicateEnding.{duplicate_unknown, duplicate_bad, duplicate_full, duplicates}

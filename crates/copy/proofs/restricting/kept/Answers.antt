@@ -1,5 +1,4 @@
 -- One by one. Assumes nothing.
-use Prim.Native.Nat.{◌-◌}
 use mathlib.Core.Path.{refl}
 use borrow.Author.Rules.{rules}
 use Rattle.copy.proofs.RestrictingSids.{keep_begin, keep_end, keep_one, keep_none, judged_by}
@@ -15,8 +14,8 @@ loop-i-preserved c =
     let more = c.loop-i-test.true in
     let stays = judged_by c.stays.ensures in
     elim c.if-stays.branch [
-      then-stays w ↦ keep_one _ c.loop-i.invariant few more _ refl stays w.if-stays.true w.with_sid-list.ensures w.list-is
-    | else-stays w ↦ keep_none _ c.loop-i.invariant few more _ refl stays w.if-stays.false w.list-is
+      | then-stays w ↦ keep_one _ c.loop-i.invariant few more _ refl stays w.if-stays.true w.with_sid-list.ensures w.list-is
+      | else-stays w ↦ keep_none _ c.loop-i.invariant few more _ refl stays w.if-stays.false w.list-is
     ]
 
 pub returns : goal.returns

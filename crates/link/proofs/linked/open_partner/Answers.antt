@@ -1,7 +1,6 @@
 -- By the room for a handle. Assumes nothing.
 use Rattle.std.proofs.Common.{ap, not}
 use borrow.Author.Rules.{rules}
-use borrow.Author.Tests.{not-false}
 use Rattle.link.proofs.LinkedEnding.{no_handle_left, opens}
 use Rattle.link.proofs.linked.open_partner.Goals as goal
 

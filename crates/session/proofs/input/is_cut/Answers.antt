@@ -1,5 +1,4 @@
 -- `is_cut` meets its contract. The loop's invariant: the bytes left decide. Assumes nothing.
-use Prim.Native.Nat.{◌-◌}
 use borrow.Author.Rules.{rules}
 use Rattle.session.proofs.Reading.{too_long, begun, ends, goes_on, all_on}
 use Rattle.session.proofs.input.is_cut.Goals as goal

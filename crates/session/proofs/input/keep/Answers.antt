@@ -1,5 +1,4 @@
 -- `keep` meets its contract. The loop's invariant: the bytes passed stand at the front. Assumes nothing.
-use Prim.Native.Nat.{◌-◌}
 use native.Mathlib.Omega.{arith}
 use mathlib.Core.Path.{refl}
 use borrow.Author.Rules.{rules}

@@ -1,5 +1,5 @@
 -- valid::stations::all_idle meets its contract: its loop tests each row. Assumes nothing.
-use Prim.Native.Nat.{ℕ, ◌-◌}
+use Prim.Native.Nat.{ℕ}
 use borrow.Author.Rules.{rules}
 use Rattle.table.specs.Rows.{rows_none, rows_more, rows_done}
 use Rattle.rules.specs.Memory.{station_words}

@@ -1,5 +1,4 @@
 -- valid::stations::rows_valid meets its contract: its loop tests each row. Assumes nothing.
-use Prim.Native.Nat.{◌-◌}
 use borrow.Author.Rules.{rules}
 use Rattle.table.specs.Rows.{rows_none, rows_more, rows_done}
 use Rattle.rules.specs.Memory.{station_words, pending_bytes}
