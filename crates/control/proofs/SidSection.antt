@@ -105,7 +105,7 @@ module _ (ws : List ℕ) (n : ℕ) (out : List ℕ) where
             back = reads_back (sids_in ws) n out sound k few w ∙ ap (λ (t : List Sid). got (sid_of t n) (drop r out)) back;
           }
 
-      -- canWriteNumber asks that it is a number
+      -- can_write_number asks that it is a number
       cannot : is_number σ.sids n ≡ false → can_write_number (sids_in ws) n out ≡ false
       unfolding can_write_number has_number
       cannot h = ap (λ (b : Bool). eqb (length (sids_in ws)) sid_words && leb (get_or (sids_in ws) 0 0) max_sids && b && ltb (place_of_number n) (get_or (sids_in ws) 0 0) && can_write (number_row (sids_in ws) n) out) (ap (λ (t : List Sid). is_number t n) back ∙ h)

@@ -118,7 +118,7 @@ module _ {A : Type 0} (f : A → Bool) where
       go false e (here q) ih = inr (here q)
       go false e (there k) ih = ⊎_elim (λ q. inl q) (λ k. inr (there k)) (ih e k)
 
--- a token that is not the closed handle's is still isReferred to
+-- a token that is not the closed handle's is still referred to
 close_refers : (d : State) (s n : ℕ) (h : Handle) → StateFacts d → find_handle d s n ≡ live h → (t : Token) → Mem t (lives (drop_handle s n d).tokens.slots) → (t.number ≡ h.token → ⊥) → Mem t.number (references (drop_handle s n d))
 unfolding drop_handle with_handles with_slots find_handle number_of handle_token
 close_refers d s n h f e t m ne =

@@ -79,7 +79,7 @@ pub record Throughout (σ : State) (cs : List Call) : Type 0 where
   pub token_numbers : (t : Token) → Live t (after cs σ) → (1 ≤ t.number) × (t.number < max64)
   -- a station acts for none, or for a live impersonation token, and the level in force is never above the token's own
   pub acting : (s : ℕ) → let c = client_at (after cs σ) s in (c ≡ no_client) ⊎ ActsFor (after cs σ) c
-  -- what a station acts for changes only by its own requests 12 and 13 (between the bodies it stays: `oneByOne`)
+  -- what a station acts for changes only by its own requests 12 and 13 (between the bodies it stays: `one_by_one`)
   pub clients : (x : Serving) → Mem (serves x) (outcomes (events cs σ) σ) → (s : ℕ) → ClientKept x s
   -- a linked pair's tokens are live, Full and Limited, primary, of its session and of one user
   pub linked : (p : Pair) → Mem p (lives (after cs σ).pairs) → Linked (after cs σ) p

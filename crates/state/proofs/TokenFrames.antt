@@ -12,13 +12,13 @@ use Rattle.control.specs.Control.{ControlIn}
 use Rattle.control.proofs.Sections.{control_same}
 use Rattle.state.specs.Parts.{TokensIn, HandlesIn}
 
--- tokens: addHandle, dropHandle, setToken
+-- tokens: add_handle, drop_handle, set_token
 module _ {σ : State} {ts ds : List ℕ} (i : TokensIn σ ts ds) where
   pub with_handles_lem : (x : Table Rules.Handle) → TokensIn (with_handles x σ) ts ds
   unfolding with_handles
   with_handles_lem x = record { words = i.words; bytes = i.bytes }
 
--- control words: putToken and released, which give no number
+-- control words: put_token and released, which give no number
 module _ {σ : State} {cs : List ℕ} (j : ControlIn σ cs) where
   pub with_slots_lem : (ps : List (Slot Token)) → ControlIn (with_tokens (with_slots ps σ.tokens) σ) cs
   unfolding with_tokens with_slots sections
@@ -28,7 +28,7 @@ module _ {σ : State} {cs : List ℕ} (j : ControlIn σ cs) where
   unfolding used change_token put_token
   used_control n s = with_slots_lem _
 
--- handles: putToken, addToken and released
+-- handles: put_token, add_token and released
 module _ {σ : State} {hs : List Handle} (k : HandlesIn σ hs) where
   pub with_tokens_lem : (x : Table Token) → HandlesIn (with_tokens x σ) hs
   unfolding with_tokens

@@ -1,4 +1,4 @@
--- A token's row: the tests of its parts come to `tokenTest`. Assumes nothing.
+-- A token's row: the tests of its parts come to `token_test`. Assumes nothing.
 use Rattle.std.proofs.Common.{◌≡◌, ℕ, zero, suc, ◌+◌, ◌-◌, ◌*◌, ◌/◌, ◌%◌, ◌^◌, ◌<◌, ◌≤◌, Bool, true, false, not, ◌&&◌, ◌||◌, eqb, ltb, leb, List, [], ◌∷◌, ◌++◌, map, length, get_or, take, drop, sym, refl, ap, ◌∙◌, ap₂, add_comm, div-add-mod', arith, length-drop, length-take, length-take-le, take_all, take-take, drop-drop, ltb-true, lt-ltb, eq-eqb, ne_eqb, le-leb, leb-true}
 use mathlib.Core.Bool.{and-true, and-false, and_assoc}
 use borrow.Author.Tests.{lt-leb}

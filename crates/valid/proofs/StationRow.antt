@@ -1,4 +1,4 @@
--- A station's row, and a proper part of a frame by its first bytes: the tests come to `streamTest` and `stationTest`. Assumes nothing.
+-- A station's row, and a proper part of a frame by its first bytes: the tests come to `stream_test` and `station_test`. Assumes nothing.
 use mathlib.Core.Path.{◌≡◌, refl, sym, ap, ap₂, ◌∙◌}
 use mathlib.Core.Bool.{Bool, true, false, not, ◌&&◌, and-true, and_assoc, or-true, or-false}
 use mathlib.Core.List.{List, [], ◌∷◌}
