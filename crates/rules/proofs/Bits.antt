@@ -8,7 +8,7 @@ use mathlib.Core.Bool.{Bool, true, false, not, ◌&&◌, ◌||◌, and-true, and
 use mathlib.Core.Logic.{⊎_elim}
 use lib.Dec.{eqb, eqb-zero-suc, eqb-suc-zero, eqb-suc-suc}
 use lib.Arith.{digits_div, digits_mod, lt-one, bin_ind}
-use lib.Pow.{pow-add, pow-lt, pow_mono}
+use lib.Pow.{pow-add, pow-lt, pow_mono, mod-pow-add, shr-shr}
 use lib.Bits.{bit_and, bit_or, and_step, or_step, and_le_l, and_le_r}
 use borrow.Author.Tests.{eqb-true, eq-eqb}
 use Rattle.std.specs.Prelude.{if◌then◌else◌}
@@ -17,11 +17,11 @@ use Rattle.rules.proofs.Logic.{and_l, and_r, and_i, or_e, or_l, not_both, either
 
 -- ---- a bit further up is a bit of the half
 
-has_zero : (w : ℕ) → has 0 w ≡ eqb (w % 2) 1
+pub has_zero : (w : ℕ) → has 0 w ≡ eqb (w % 2) 1
 unfolding has
 has_zero w = ap (λ (x : ℕ). eqb (x % 2) 1) (div-one w)
 
-has_suc : (n w : ℕ) → has (suc n) w ≡ has n (w / 2)
+pub has_suc : (n w : ℕ) → has (suc n) w ≡ has n (w / 2)
 unfolding has
 has_suc n w = ap (λ (x : ℕ). eqb (x % 2) 1) (ap (λ (x : ℕ). w / x) (pow-succ' 2 n) ∙ sym (div-div-eq-div-mul w 2 (2 ^ n)))
 
@@ -106,6 +106,23 @@ pub power_past : (k n : ℕ) → k ≤ n → 2 ^ n % 2 ^ k ≡ 0
 power_past k n l =
     let e : n ≡ n - k + k = omega arith in
     ap (λ (x : ℕ). 2 ^ x % 2 ^ k) e ∙ ap (λ (x : ℕ). x % 2 ^ k) (pow-add 2 (n - k) k) ∙ mul-mod_left (2 ^ (n - k)) (2 ^ k)
+
+-- the bits of a word's low k bits, and of those above them
+low_step : (k w : ℕ) → w % 2 ^ suc k ≡ (w / 2 % 2 ^ k) * 2 + w % 2
+low_step k w = ap (λ (x : ℕ). w % 2 ^ x) {x = suc k} {y = k + 1} (omega arith) ∙ mod-pow-add w k 1
+
+pub has_low : (k n w : ℕ) → n < k → has n (w % 2 ^ k) ≡ has n w
+has_low zero n w h = absurd (omega arith)
+has_low (suc k) zero w h =
+    has_zero (w % 2 ^ suc k) ∙ ap (λ (x : ℕ). eqb x 1) (ap (λ (x : ℕ). x % 2) (low_step k w) ∙ digits_mod (w / 2 % 2 ^ k) (mod-lt w (omega arith)))
+    ∙ sym (has_zero w)
+has_low (suc k) (suc n) w h =
+    has_suc n (w % 2 ^ suc k) ∙ ap (has n) (ap (λ (x : ℕ). x / 2) (low_step k w) ∙ digits_div (w / 2 % 2 ^ k) (mod-lt w (omega arith)))
+    ∙ has_low k n (w / 2) (omega arith) ∙ sym (has_suc n w)
+
+pub has_high : (k n w : ℕ) → has (k + n) w ≡ has n (w / 2 ^ k)
+unfolding has
+has_high k n w = ap (λ (x : ℕ). eqb (x % 2) 1) (sym (shr-shr w k n))
 
 -- ---- bits that w does not name, and bits that it takes away
 

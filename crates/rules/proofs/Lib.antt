@@ -4,6 +4,7 @@ pub mod Index
 pub mod Bits
 pub mod Numbers
 pub mod Tables
+pub mod Halving
 pub mod Sids
 pub mod SidOrder
 pub mod SidNumbers

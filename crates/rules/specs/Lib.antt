@@ -15,6 +15,7 @@ pub mod Station
 pub mod Pair
 pub mod State
 pub mod Index
+pub mod Halving
 pub mod Entry
 pub mod Condition
 pub mod Refusal

@@ -1,0 +1,19 @@
+-- An index is a bit of its word. Assumes nothing.
+use borrow.Author.Rules.{rules}
+use Rattle.marks.proofs.Named.{has_index, past_words}
+use Rattle.marks.proofs.has.Goals as goal
+
+pub returns-in-0 : goal.returns-in-0
+returns-in-0 c = search (rules, has_index)
+
+pub returns-in-1 : goal.returns-in-1
+returns-in-1 c = search (rules, has_index)
+
+pub returns-in-2 : goal.returns-in-2
+returns-in-2 c = search (rules, has_index)
+
+pub returns-in-3 : goal.returns-in-3
+returns-in-3 c = search (rules, has_index)
+
+pub returns-in_default : goal.returns-in_default
+returns-in_default c = search (rules, past_words)
