@@ -7,7 +7,7 @@ use mathlib.Core.List.{List, [], ◌∷◌, ◌++◌, append-nil}
 use lib.Dec.{leb}
 use lib.Seq.{get_or-take, get_or-drop}
 use lib.ListN.{length, take, drop, get_or, replicate, length-append}
-use Rattle.table.specs.Table.{record_at_lem, part_at}
+use Rattle.table.specs.Table.{nth_record, part_at}
 use Rattle.rules.specs.Number.{encode, encode_in, encode_all}
 use Rattle.rules.specs.Frame.{frame, max_answer}
 use Rattle.rules.specs.Token.{max_dacl}
@@ -159,7 +159,7 @@ module _ (ws bs o : List ℕ) (n : ℕ) (l : length bs ≡ max_dacl) (c : n ≡ 
 module _ (ts ds o : List ℕ) (slot class : ℕ) (below : (i : ℕ) → get_or ts i 0 < 2 ^ 64) where
   pub class_room : token_valid (token_in ts ds slot) ≡ true → max_answer ≤ length o
       → Room (0 ∷ class_bytes (token_at (take (slot * token_words + token_words - slot * token_words) (drop (slot * token_words) ts)) (take (slot * max_dacl + max_dacl - slot * max_dacl) (drop (slot * max_dacl) ds))) class) o
-  unfolding token_at record_at_lem
+  unfolding token_at nth_record
   class_room v room =
       let t = token_in ts ds slot in
       let number : t.number < 2 ^ 64 =

@@ -1,6 +1,6 @@
 -- What an answer says: its body's bytes, document 01's number first, and which answers there are. Assumes nothing.
 use Rattle.std.specs.Prelude.{ℕ, ◌-◌, ◌≤◌, ◌<◌, ◌≡◌, true, List, [], ◌∷◌, ◌++◌, length, drop, replicate}
-use Rattle.table.specs.Table.{record_at_lem}
+use Rattle.table.specs.Table.{nth_record}
 use Rattle.rules.specs.Number.{encode, encode_all}
 use Rattle.rules.specs.Frame.{frame}
 use Rattle.rules.specs.Token.{Token, max_dacl}
@@ -14,7 +14,7 @@ use Rattle.answer.specs.declared.Answer.TheVariants as answer
 
 -- the token in a slot
 abbrev pub token_in : List ℕ → List ℕ → ℕ → Token
-token_in words dacls slot = token_at (record_at_lem token_words slot words) (record_at_lem max_dacl slot dacls)
+token_in words dacls slot = token_at (nth_record token_words slot words) (nth_record max_dacl slot dacls)
 
 abbrev pub answer_of : List ℕ → List ℕ → Answer → List ℕ
 answer_of words dacls (answer.Refused n) = n ∷ []

@@ -7,7 +7,7 @@ use mathlib.Core.List.{List, [], ◌∷◌, ◌++◌}
 use lib.ListN.{length, take, drop, get_or, set, replicate, length-map}
 use lib.Seq.{set_out, length-take-le}
 use Rattle.table.specs.Lists.{pad, take_pad}
-use Rattle.table.specs.Table.{flat, record_at_lem, put_record, record_flat, put_back, part_at, put_lent}
+use Rattle.table.specs.Table.{flat, nth_record, put_record, record_flat, put_back, part_at, put_lent}
 use Rattle.rules.specs.Basic.{all, implies, is_empty}
 use Rattle.rules.specs.Number.{encode, encode_in, low_first}
 use Rattle.rules.specs.Frame as Frame
@@ -269,7 +269,7 @@ module _ (s : ℕ) (hs : List Handle) (ts ds cs ps : List ℕ) (h : s < station_
   unfolding station_at
   lent_row =
       part_at pending_bytes s ps
-      ∙ ap (record_at_lem pending_bytes s) (held_pending ts ds hs cs ps v).rows
+      ∙ ap (nth_record pending_bytes s) (held_pending ts ds hs cs ps v).rows
       ∙ record_flat pending_row pending_bytes length_pending_row s held.stations start_station (inside held state_valid s h)
 
   pub lent_long : length lent ≡ pending_bytes

@@ -8,7 +8,7 @@ use lib.Dec.{eqb, ltb}
 use lib.ListN.{length, drop, get_or, set}
 use lib.Seq.{get_or-take, get_or-drop}
 use borrow.Author.Tests.{eq-eqb, ne_eqb, lt-ltb, le-ltb}
-use Rattle.table.specs.Table.{flat, record_at_lem, record_element, length_flat, record_flat, put_flat}
+use Rattle.table.specs.Table.{flat, nth_record, record_element, length_flat, record_flat, put_flat}
 use Rattle.table.specs.Rows.{rows_at, length_rows}
 use Rattle.table.specs.Sections.{place_of, section_long, section_word}
 use Rattle.std.specs.Prelude.{if◌then◌else◌}
@@ -32,7 +32,7 @@ abbrev pub slot_of : (session elevated filtered : ℕ) → Slot rules.Pair
 slot_of session elevated filtered = if eqb elevated 0 then free else live (pair_of session elevated filtered)
 
 module _ (ws : List ℕ) (place : ℕ) (h : place < pair_slots) where
-  pair_word : (k : ℕ) → k < pair_words → get_or (record_at_lem pair_words place (pairs_in ws)) k 0 ≡ get_or ws (pair_word_at place k) 0
+  pair_word : (k : ℕ) → k < pair_words → get_or (nth_record pair_words place (pairs_in ws)) k 0 ≡ get_or ws (pair_word_at place k) 0
   pair_word k l =
       sym (record_element pair_words place k (pairs_in ws) 0 l)
       ∙ get_or-take (pair_slots * pair_words) (drop (place_of control_sizes pair_section) ws) (place * pair_words + k) 0 (omega arith)

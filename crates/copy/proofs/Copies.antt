@@ -4,7 +4,7 @@ use mathlib.Core.Path.{◌≡◌, refl, sym, ap, ◌∙◌}
 use mathlib.Core.Bool.{true}
 use mathlib.Core.List.{List}
 use lib.ListN.{length, take, drop}
-use Rattle.table.specs.Table.{record_at_lem, part_at}
+use Rattle.table.specs.Table.{nth_record, part_at}
 use Rattle.rules.specs.Token as rules
 use Rattle.rules.specs.Token.{max_dacl}
 use Rattle.rules.specs.Handle as rules-handle
@@ -33,8 +33,8 @@ row_copied w i {xs} h e l = record { inside = h; row = e ∙ part_at w i xs; lon
 -- ws and bs are the rows of what f makes of the token in slot i
 pub issues_made : (f : ℕ → rules.Token → rules.Token) {n i s mask : ℕ} {ws bs : List ℕ} {hs : List Handle} {cs ts ds cs' ts' ds' : List ℕ} {r : Outcome}
     → i < token_slots → NextGiven token_counter cs n
-    → ((t : rules.Token) → token_valid t ≡ true → record_at_lem token_words i ts ≡ token_row t → ws ≡ token_row (f n t))
-    → ((t : rules.Token) → record_at_lem max_dacl i ds ≡ dacl_row t → bs ≡ dacl_row (f n t))
+    → ((t : rules.Token) → token_valid t ≡ true → nth_record token_words i ts ≡ token_row t → ws ≡ token_row (f n t))
+    → ((t : rules.Token) → nth_record max_dacl i ds ≡ dacl_row t → bs ≡ dacl_row (f n t))
     → RowIssued s mask ws bs ts ds hs cs ts' ds' cs' r → CopyIssued f i s mask ts ds hs cs ts' ds' cs' r
 issues_made f l k w b e = record {
   carried = λ j at. ends_issuing (λ σ. f σ.tokens.next (state.token_of σ j)) (λ σ. σ) e (λ σ v p.

@@ -9,7 +9,7 @@ use lib.ListN.{length, take, drop, get_or, length-append}
 use lib.Seq.{drop_at}
 use borrow.Author.Tests.{not-true, not-false, le-leb, lt-leb, leb-true, ltb-true}
 use Rattle.table.specs.Lists.{pad, length_pad, take_pad}
-use Rattle.table.specs.Table.{record_at_lem, part_at, record_element}
+use Rattle.table.specs.Table.{nth_record, part_at, record_element}
 use Rattle.std.specs.Prelude.{if◌then◌else◌}
 use Rattle.rules.specs.Basic.{implies, all, distinct, is_below}
 use Rattle.rules.specs.Bits.{within}
@@ -326,7 +326,7 @@ module _ (p : Reader Given) {s n mark removed : ℕ} {body : List ℕ} {deny_at 
           ∙ ap (λ (i : ℕ). carried_out σ (go mark removed deny given s σ (handle_of σ s n) (state.token_of σ i))) (sym (g.token σ v k.handles))
 
       -- whatever token is in the slot has the same restricting SIDs
-      takes : f ≡ 0 → (t : Token) → token_valid t ≡ true → record_at_lem token_words x.slot ts ≡ token_row t → TakesFrom (numbers_after given σ) source.groups list t
+      takes : f ≡ 0 → (t : Token) → token_valid t ≡ true → nth_record token_words x.slot ts ≡ token_row t → TakesFrom (numbers_after given σ) source.groups list t
       takes y t w e =
           let there = in_slot token (g.slot z) v k.tokens g.inside in
           let u = m given l.later l.sids σ v k in

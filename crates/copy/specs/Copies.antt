@@ -1,6 +1,6 @@
 -- Requests 9 and 10: a copy of the token in a slot, made and issued. Assumes nothing.
 use Rattle.std.specs.Prelude.{ℕ, ◌<◌, ◌≡◌, List, length}
-use Rattle.table.specs.Table.{record_at_lem}
+use Rattle.table.specs.Table.{nth_record}
 use Rattle.rules.specs.Token as rules
 use Rattle.rules.specs.State as state
 use Rattle.rules.specs.State.{token_slots}
@@ -15,7 +15,7 @@ use Rattle.decide.specs.Carried.{Carried}
 -- the row of a slot, copied
 pub record RowCopied (w slot : ℕ) (xs r : List ℕ) : Type 0 where
   pub inside : slot < token_slots
-  pub row : r ≡ record_at_lem w slot xs
+  pub row : r ≡ nth_record w slot xs
   pub long : length r ≡ w
 
 -- the row of every token t becomes that of f t, and stays as long as it is

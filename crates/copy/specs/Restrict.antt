@@ -1,6 +1,6 @@
 -- What requests 10 and 15 make and do, where the indexes and the SIDs are all there. Assumes nothing.
 use Rattle.std.specs.Prelude.{ℕ, ◌≤◌, ◌<◌, ◌≡◌, Bool, true, ◌&&◌, ◌||◌, List, eqb, leb, length, drop, if◌then◌else◌}
-use Rattle.table.specs.Table.{record_at_lem}
+use Rattle.table.specs.Table.{nth_record}
 use Rattle.rules.specs.Basic.{all}
 use Rattle.rules.specs.Number.{got}
 use Rattle.rules.specs.Privileges.{remove}
@@ -44,7 +44,7 @@ pub record IsSource (t : Token) (r : Source) : Type 0 where
 pub record SourceAt (slot : ℕ) (ts : List ℕ) (r : Source) : Type 0 where
   pub few_groups : r.groups ≤ max_groups
   pub few_restricting : r.restricting ≤ max_restricting
-  pub source : (t : Token) → token_valid t ≡ true → record_at_lem token_words slot ts ≡ token_row t → IsSource t r
+  pub source : (t : Token) → token_valid t ≡ true → nth_record token_words slot ts ≡ token_row t → IsSource t r
 
 -- ---- the copy
 
@@ -96,7 +96,7 @@ restricted_as mark removed deny given n t = restricted n mark removed deny given
 pub record RestrictedIssued (slot groups : ℕ) (list : Sids) (mark removed : ℕ) (s : List ℕ) (deny_at deny_count station mask : ℕ) (ts ds : List ℕ)
     (hs : List Handle) (cs ts' ds' cs' : List ℕ) (r : Outcome) : Type 0 where
   pub copy : (deny later : List ℕ) → times deny_count u32 (drop deny_at s) ≡ got deny later → (given : List ℕ)
-      → ((t : Token) → token_valid t ≡ true → record_at_lem token_words slot ts ≡ token_row t → TakesFrom given groups list t)
+      → ((t : Token) → token_valid t ≡ true → nth_record token_words slot ts ≡ token_row t → TakesFrom given groups list t)
       → CopyIssued (restricted_as mark removed deny given) slot station mask ts ds hs cs ts' ds' cs' r
 
 pub record RestrictCarried (p : Reader Given) (station number mark removed : ℕ) (s : List ℕ) (deny_at deny_count sid_at sid_count : ℕ) (ts ds : List ℕ) (hs : List Handle)

@@ -1,7 +1,7 @@
 -- Request 10: the copy's restricting SIDs, where those given are all there. Assumes nothing.
 use Rattle.std.specs.Prelude.{ℕ, ◌+◌, ◌≤◌, ◌≡◌, Bool, ◌||◌, List, [], ◌∷◌, ◌++◌, length, drop}
 use Rattle.table.specs.Lists.{pad}
-use Rattle.table.specs.Table.{record_at_lem}
+use Rattle.table.specs.Table.{nth_record}
 use Rattle.rules.specs.Basic.{filter, member, is_empty}
 use Rattle.rules.specs.Number.{got}
 use Rattle.rules.specs.Token.{Token, max_restricting}
@@ -35,7 +35,7 @@ pub record OwnKept (own : ℕ) (ws s : List ℕ) (at count : ℕ) (r : Sids) : T
 
 pub record ListMade (slot own : ℕ) (ts s : List ℕ) (at count : ℕ) (r : Sids) : Type 0 where
   pub listed : (given later : List ℕ) → times count u32 (drop at s) ≡ got given later
-      → (t : Token) → length t.limits.restricting ≡ own → record_at_lem token_words slot ts ≡ token_row t → Listed (restricting_to given t.limits.restricting) r
+      → (t : Token) → length t.limits.restricting ≡ own → nth_record token_words slot ts ≡ token_row t → Listed (restricting_to given t.limits.restricting) r
 
 -- ---- in a row
 

@@ -39,7 +39,7 @@ module _ {s mask : ℕ} {ws bs : List ℕ} {hs : List Handle} {cs ts ds cs₁ ts
 
   stepped_formed : (σ : State) → Formed σ → Formed (stepped σ)
   unfolding with_tokens
-  stepped_formed σ f = record { token_slots_lem = f.token_slots_lem; handle_slots_lem = f.handle_slots_lem; tokens = f.tokens; handles = f.handles; pairs = f.pairs }
+  stepped_formed σ f = record { token_slots_long = f.token_slots_long; handle_slots_long = f.handle_slots_long; tokens = f.tokens; handles = f.handles; pairs = f.pairs }
 
   handles_after : (u : Token) (σ : State) → valid σ ≡ true → PartsIn σ ts ds hs cs → HandlesIn (add_handle s (get_or ws Head.number 0) mask (add_token u σ)) (changed hs c)
   unfolding add_token with_tokens added add_handle with_handles sections

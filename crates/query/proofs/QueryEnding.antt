@@ -7,7 +7,7 @@ use mathlib.Core.List.{List, [], ◌∷◌, map}
 use lib.Dec.{eqb, leb}
 use lib.ListN.{length, take, drop, get_or}
 use borrow.Author.Tests.{not-true, not-false, le-leb, lt-leb}
-use Rattle.table.specs.Table.{record_at_lem, part_at, record_flat}
+use Rattle.table.specs.Table.{nth_record, part_at, record_flat}
 use Rattle.table.specs.Rows.{rows_at}
 use Rattle.rules.specs.Mask as mask
 use Rattle.rules.specs.Refusal.{refusal, capacity_below}
@@ -71,11 +71,11 @@ slot_of σ n i ts ds v k at m = go (found_some number_of n σ.tokens.slots m)
         let long = slots_long σ v in
         let l : i < length ps = live_inside ps i (ap is_live there) in
         let in16 : i < token_slots = omega arith in
-        let row : live t ≡ slot_at (record_at_lem token_words i ts) (record_at_lem max_dacl i ds) =
+        let row : live t ≡ slot_at (nth_record token_words i ts) (nth_record max_dacl i ds) =
         sym there ∙ ap (λ (qs : List (Slot Rules.Token)). get_or qs i free) (sym read) ∙ rows_at slot_at token_words max_dacl free token_slots i ts ds in16 in
         record {
           inside = in16;
-          token = live_or no_token (eqb (get_or (record_at_lem token_words i ts) Head.number 0) 0) row refl ∙ ap (or_else no_token) (sym e);
+          token = live_or no_token (eqb (get_or (nth_record token_words i ts) Head.number 0) 0) row refl ∙ ap (or_else no_token) (sym e);
         }
 
 -- ---- a class of the token
@@ -100,11 +100,11 @@ module _ (n class capacity : ℕ) {ts : List ℕ} where
         let s = slot_of σ n slot ts ds v i at m in
         let ps = σ.tokens.slots in
         let in_dacls : slot < length ps = let l = slots_long σ v in let k = s.inside in omega arith in
-        let long : length (record_at_lem max_dacl slot ds) ≡ max_dacl =
-        ap length (ap (record_at_lem max_dacl slot) i.bytes ∙ record_flat slot_dacl max_dacl length_slot_dacl slot ps free in_dacls)
+        let long : length (nth_record max_dacl slot ds) ≡ max_dacl =
+        ap length (ap (nth_record max_dacl slot) i.bytes ∙ record_flat slot_dacl max_dacl length_slot_dacl slot ps free in_dacls)
         ∙ length_slot_dacl (get_or ps slot free) in
-        c.counted (record_at_lem max_dacl slot ds) long
-        ∙ ap (λ (ws : List ℕ). length (class_bytes (token_at ws (record_at_lem max_dacl slot ds)) class)) (part_at token_words slot ts)
+        c.counted (nth_record max_dacl slot ds) long
+        ∙ ap (λ (ws : List ℕ). length (class_bytes (token_at ws (nth_record max_dacl slot ds)) class)) (part_at token_words slot ts)
         ∙ ap (λ (x : Rules.Token). length (class_bytes x class)) s.token
 
     pub class_above : capacity < size → ClassAnswered n class capacity ts (answers.TooSmall size)

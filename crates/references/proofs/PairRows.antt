@@ -10,7 +10,7 @@ use lib.Dec.{eqb}
 use lib.ListN.{length, take, drop, get_or, replicate, length-drop, get_or-eq_default}
 use lib.Seq.{take_all}
 use Rattle.table.specs.Lists.{named_take}
-use Rattle.table.specs.Table.{flat, record_at_lem, part_at}
+use Rattle.table.specs.Table.{flat, nth_record, part_at}
 use Rattle.table.specs.Rows.{read_rows, test_rows, length_rows, rows_at}
 use Rattle.std.specs.Prelude.{if◌then◌else◌}
 use Rattle.rules.specs.Basic.{all, distinct, same}
@@ -105,12 +105,12 @@ module _ (ts : List ℕ) (x : ℕ) {i : ℕ} (at : (ds : List ℕ) → i ≡ fou
   here : found (is_numbered x) (slots_of ts []) ≡ get_or (slots_of ts []) i free
   here = found_at (is_numbered x) (slots_of ts []) ∙ ap (λ (k : ℕ). get_or (slots_of ts []) k free) (sym (at []))
 
-  named_row : i < token_slots → token_named ts x ≡ token_at (record_at_lem token_words i ts) (record_at_lem max_dacl i [])
+  named_row : i < token_slots → token_named ts x ≡ token_at (nth_record token_words i ts) (nth_record max_dacl i [])
   unfolding slot_at
   named_row h =
       let w = at [] in
       let n = long in
-      live_or no_token (eqb (get_or (record_at_lem token_words i ts) Head.number 0) 0) (here ∙ rows_at slot_at token_words max_dacl free token_slots i ts [] h)
+      live_or no_token (eqb (get_or (nth_record token_words i ts) Head.number 0) 0) (here ∙ rows_at slot_at token_words max_dacl free token_slots i ts [] h)
       (found_live (is_numbered x) (slots_of ts []) (omega arith))
 
   named_none : token_slots ≤ i → token_named ts x ≡ no_token
@@ -143,8 +143,8 @@ module _ (ts : List ℕ) (s x y : ℕ) where
   at_tokens {i} {j} at from h l e =
       e
       ∙ ap₂ (λ v w. pair_fits s (token_at v []) (token_at w [])) (part_at token_words i ts) (part_at token_words j ts)
-      ∙ elevated_any s _ (record_at_lem token_words i ts) [] (record_at_lem max_dacl i [])
-      ∙ filtered_any s _ (record_at_lem token_words j ts) [] (record_at_lem max_dacl j [])
+      ∙ elevated_any s _ (nth_record token_words i ts) [] (nth_record max_dacl i [])
+      ∙ filtered_any s _ (nth_record token_words j ts) [] (nth_record max_dacl j [])
       ∙ sym (ap₂ (pair_fits s) (named_row ts x at h) (named_row ts y from l))
 
 -- ---- a place's row

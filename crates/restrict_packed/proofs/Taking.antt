@@ -29,7 +29,7 @@ use Rattle.rules.specs.Restrict.{restricting_to}
 use Rattle.rules.proofs.Logic.{and_l, and_r, and_i, not_both, all_mem, mem_all, mem_right}
 use Rattle.rules.proofs.Facts.{valid_facts}
 use Rattle.rules.proofs.SidNumbers.{sids_fit, sids_two, number_is, number_below, entered_all_long}
-use Rattle.table.specs.Table.{record_at_lem}
+use Rattle.table.specs.Table.{nth_record}
 use Rattle.handle.specs.declared.Handle.{Handle}
 use Rattle.control.specs.Sids.{SidsCopied, SidsSet}
 use Rattle.state.specs.TokenCalls.{FoundAt}
@@ -69,7 +69,7 @@ either_zero (suc n) = inr (λ e. omega arith)
 
 module _ {slot own count : ℕ} {ts ws ms : List ℕ} {g : Gathered} {list : Sids} (m : ListMade slot own ts count g.list ms list) {given : List Given} {t : List Sid}
     (size : length given ≡ count) (v : sids_valid t ≡ true) (a : AllIn given t ws ms g)
-    (u : Token) (n : length u.limits.restricting ≡ own) (q : record_at_lem token_words slot ts ≡ token_row u) (known : all (is_number t) u.limits.restricting ≡ true) where
+    (u : Token) (n : length u.limits.restricting ≡ own) (q : nth_record token_words slot ts ≡ token_row u) (known : all (is_number t) u.limits.restricting ≡ true) where
   abbrev ns : List ℕ
   ns = numbers_in given t
 

@@ -1,6 +1,6 @@
 -- Request 15: the copy's restricting SIDs, by the marks of those given. Assumes nothing.
 use Rattle.std.specs.Prelude.{ℕ, ◌≡◌, Bool, ◌||◌, List, eqb, length}
-use Rattle.table.specs.Table.{record_at_lem}
+use Rattle.table.specs.Table.{nth_record}
 use Rattle.rules.specs.Basic.{filter}
 use Rattle.rules.specs.Token.{Token}
 use Rattle.rules.specs.Memory.{token_words, token_row}
@@ -17,5 +17,5 @@ pub record OwnKept (own : ℕ) (ws : List ℕ) (count : ℕ) (marks : List ℕ) 
 
 pub record ListMade (slot own : ℕ) (ts : List ℕ) (count : ℕ) (given : Sids) (marks : List ℕ) (r : Sids) : Type 0 where
   pub none : own ≡ 0 → (r.count ≡ count) × (r.words ≡ given.words)
-  pub some : (own ≡ 0 → ⊥) → (t : Token) → length t.limits.restricting ≡ own → record_at_lem token_words slot ts ≡ token_row t
+  pub some : (own ≡ 0 → ⊥) → (t : Token) → length t.limits.restricting ≡ own → nth_record token_words slot ts ≡ token_row t
       → Listed (filter (stays_by count marks) t.limits.restricting) r

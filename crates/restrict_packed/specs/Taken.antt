@@ -1,6 +1,6 @@
 -- Request 15: what the SIDs given come to for the token that is copied. Assumes nothing.
 use Rattle.std.specs.Prelude.{ℕ, ◌≡◌, true, List, length, drop}
-use Rattle.table.specs.Table.{record_at_lem}
+use Rattle.table.specs.Table.{nth_record}
 use Rattle.rules.specs.Basic.{all}
 use Rattle.rules.specs.Number.{got}
 use Rattle.rules.specs.Token.{Token}
@@ -27,5 +27,5 @@ pub record SidsTaken (slot own : ℕ) (s : List ℕ) (at count : ℕ) (ts ws ws'
   pub long : length ws' ≡ sid_words
   pub taken : (given : List Given) (later : List ℕ) → times count packed_sid (drop at s) ≡ got given later
       → (t : List Sid) → sids_valid t ≡ true → ws ≡ write_sids t
-      → (u : Token) → length u.limits.restricting ≡ own → record_at_lem token_words slot ts ≡ token_row u → all (is_number t) u.limits.restricting ≡ true
+      → (u : Token) → length u.limits.restricting ≡ own → nth_record token_words slot ts ≡ token_row u → all (is_number t) u.limits.restricting ≡ true
       → TakenFrom given t u ws' r

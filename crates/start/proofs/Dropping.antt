@@ -6,7 +6,7 @@ use mathlib.Core.Bool.{false}
 use mathlib.Core.List.{List, ◌++◌, append-nil}
 use lib.ListN.{length, take, drop, replicate, length-take, drop_of_length-le}
 use Rattle.table.specs.Lists.{pad}
-use Rattle.table.specs.Table.{record_at_lem, put_record, length_flat, put_lent, part_at}
+use Rattle.table.specs.Table.{nth_record, put_record, length_flat, put_lent, part_at}
 use Rattle.rules.specs.Station.{Station, with_pending, cleared}
 use Rattle.rules.specs.State.{station_count, station_at}
 use Rattle.rules.specs.Memory.{pending_bytes, station_row, pending_row}
@@ -21,8 +21,8 @@ unfolding pending_row cleared with_pending pad
 no_pending x = refl
 
 -- a row that was lent and cleared whole
-cleared_row : (s : ℕ) (ps : List ℕ) {row : List ℕ} → row ≡ replicate pending_bytes 0 ++ drop pending_bytes (record_at_lem pending_bytes s ps) → row ≡ replicate pending_bytes 0
-unfolding record_at_lem
+cleared_row : (s : ℕ) (ps : List ℕ) {row : List ℕ} → row ≡ replicate pending_bytes 0 ++ drop pending_bytes (nth_record pending_bytes s ps) → row ≡ replicate pending_bytes 0
+unfolding nth_record
 cleared_row s ps e = e ∙ ap (λ (ws : List ℕ). replicate pending_bytes 0 ++ ws) (drop_of_length-le (take pending_bytes (drop (s * pending_bytes) ps)) {i = pending_bytes} (simp length-take (omega arith))) ∙ append-nil (replicate pending_bytes 0)
 
 pub stream_dropped : (s : ℕ) (cs ps cs' row : List ℕ) → s < station_count → length ps ≡ station_count * pending_bytes → StreamSet s 0 false cs cs'

@@ -7,7 +7,7 @@ use mathlib.Core.Bool.{Bool, true, false, not}
 use mathlib.Core.List.{List, [], ◌++◌, map, append-nil}
 use lib.ListN.{length, take, drop, replicate, replicate-append-replicate, drop_of_length-le, length-replicate}
 use Rattle.table.specs.Lists.{pad}
-use Rattle.table.specs.Table.{flat, record_at_lem, put_record, record_flat, put_flat}
+use Rattle.table.specs.Table.{flat, nth_record, put_record, record_flat, put_flat}
 use Rattle.rules.specs.Privileges as privileges
 use Rattle.rules.specs.Privileges.{existing, granted}
 use Rattle.rules.specs.Token.{Token, max_dacl, system, primary_of, no_defaults, new_token, start_token}
@@ -56,8 +56,8 @@ module _ {zs : List ℕ} (h : zs ≡ replicate (token_slots * token_words) 0) wh
 
   -- the first row, and the rows with token 1's stored in its place
   first_row : take token_words zs ≡ replicate token_words 0
-  unfolding record_at_lem slot_row no_tokens
-  first_row = ap (record_at_lem token_words 0) rows_free ∙ record_flat slot_row token_words length_slot_row 0 no_tokens free one_there
+  unfolding nth_record slot_row no_tokens
+  first_row = ap (nth_record token_words 0) rows_free ∙ record_flat slot_row token_words length_slot_row 0 no_tokens free one_there
 
   stored_first : put_record token_words 0 (slot_row (live start_token)) zs ≡ flat slot_row start.tokens.slots
   unfolding start placed no_tokens

@@ -28,8 +28,8 @@ use Rattle.state.specs.Formed.{Formed}
 pub loose_formed : (σ : State) → Loose σ → Formed σ
 unfolding number_of handle_number elevated_token
 loose_formed σ l = record {
-  token_slots_lem = l.tokens.sized;
-  handle_slots_lem = l.handles.sized;
+  token_slots_long = l.tokens.sized;
+  handle_slots_long = l.handles.sized;
   tokens = λ t m. (facts_token t (l.each_token t m), (l.tokens.given t.number (map_mem number_of m)).0);
   handles = λ h m. (l.handles.given h.number (map_mem handle_number m)).0;
   pairs = λ p m. (l.tokens.given p.elevated (l.live p.elevated (by_elevated σ (map_mem elevated_token m)))).0;
@@ -49,7 +49,7 @@ module _ (σ : State) (f : Formed σ) where
   unfolding TokenSlot number_of
   tokens_back ts ds i =
       ap₂ token.slots_of i.words i.bytes
-      ∙ rows_written slot_at token_words max_dacl slot_row slot_dacl length_slot_row length_slot_dacl TokenSlot slot_back token_slots σ.tokens.slots f.token_slots_lem
+      ∙ rows_written slot_at token_words max_dacl slot_row slot_dacl length_slot_row length_slot_dacl TokenSlot slot_back token_slots σ.tokens.slots f.token_slots_long
       (each_slot _ σ.tokens.slots f.tokens)
 
   pub handles_back : (hs : List Handle) → HandlesIn σ hs → handle.slots_of hs ≡ σ.handles.slots

@@ -96,7 +96,7 @@ handle_room hs {cs} {i} {next} e g = record {
   room = λ σ v h k.
       let f = valid_formed σ v in
       let w : i ≡ free_index σ.handles.slots = e ∙ ap free_index (handles_back σ f hs h) in
-      ap₂ ◌&&◌ (ap₂ ltb w (sym f.handle_slots_lem) ∙ free_there σ.handles.slots) (ap (λ (n : ℕ). ltb n max32) (g.next σ k));
+      ap₂ ◌&&◌ (ap₂ ltb w (sym f.handle_slots_long) ∙ free_there σ.handles.slots) (ap (λ (n : ℕ). ltb n max32) (g.next σ k));
   next = λ t. let l : next < max32 = ltb-true next max32 (and_r (ltb i handle_slots) (ltb next max32) t) in let w = g.word in omega arith;
 }
 

@@ -9,7 +9,7 @@ use lib.ListN.{take, drop, get_or, set, take-append-drop, get_or-eq_default}
 use lib.Seq.{set_out}
 use borrow.Author.Tests.{eqb-true}
 use Rattle.table.specs.Lists.{pad}
-use Rattle.table.specs.Table.{flat, record_at_lem, put_record, record_flat, part_at, put_lent}
+use Rattle.table.specs.Table.{flat, nth_record, put_record, record_flat, part_at, put_lent}
 use Rattle.rules.specs.Token as Rules
 use Rattle.rules.specs.Token.{max_dacl}
 use Rattle.rules.specs.Table.{free, live, or_else, found, with_slots}
@@ -34,8 +34,8 @@ pub record InSlot (σ : State) (n i : ℕ) (ts ds : List ℕ) : Type 0 where
   pub there : get_or σ.tokens.slots i free ≡ live (State.token_of σ n)
   pub number : (State.token_of σ n).number ≡ n
   pub is_valid : token_valid (State.token_of σ n) ≡ true
-  pub words : record_at_lem token_words i ts ≡ token_row (State.token_of σ n)
-  pub bytes : record_at_lem max_dacl i ds ≡ dacl_row (State.token_of σ n)
+  pub words : nth_record token_words i ts ≡ token_row (State.token_of σ n)
+  pub bytes : nth_record max_dacl i ds ≡ dacl_row (State.token_of σ n)
 
 module _ (n : ℕ) {i : ℕ} {ts ds : List ℕ} (at : FoundAt n ts i) {σ : State} (v : valid σ ≡ true) (h : TokensIn σ ts ds) where
   index : i ≡ found_index (is_numbered n) σ.tokens.slots
@@ -54,8 +54,8 @@ module _ (n : ℕ) {i : ℕ} {ts ds : List ℕ} (at : FoundAt n ts i) {σ : Stat
         there = there;
         number = eqb-true (State.token_of σ n).number n was.1;
         is_valid = ((valid_formed σ v).tokens (State.token_of σ n) was.0).0;
-        words = ap (record_at_lem token_words i) h.words ∙ record_flat slot_row token_words length_slot_row i ps free (omega arith) ∙ ap slot_row there;
-        bytes = ap (record_at_lem max_dacl i) h.bytes ∙ record_flat slot_dacl max_dacl length_slot_dacl i ps free (omega arith) ∙ ap slot_dacl there;
+        words = ap (nth_record token_words i) h.words ∙ record_flat slot_row token_words length_slot_row i ps free (omega arith) ∙ ap slot_row there;
+        bytes = ap (nth_record max_dacl i) h.bytes ∙ record_flat slot_dacl max_dacl length_slot_dacl i ps free (omega arith) ∙ ap slot_dacl there;
       }
 
   pub no_token_lem : token_slots ≤ i → State.token_of σ n ≡ no_token
@@ -103,8 +103,8 @@ lent i ts = take (i * token_words + token_words - i * token_words) (drop (i * to
 abbrev pub back : ℕ → List ℕ → List ℕ → List ℕ
 back i ws ts = take (i * token_words) ts ++ (ws ++ drop (i * token_words + token_words - i * token_words) (drop (i * token_words) ts))
 
-put_same : (w i : ℕ) (xs : List ℕ) → xs ≡ put_record w i (record_at_lem w i xs) xs
-unfolding record_at_lem put_record
+put_same : (w i : ℕ) (xs : List ℕ) → xs ≡ put_record w i (nth_record w i xs) xs
+unfolding nth_record put_record
 put_same w i xs = sym (take-append-drop (i * w) xs) ∙ ap (λ (l : List ℕ). take (i * w) xs ++ l) (sym (take-append-drop w (drop (i * w) xs)))
 
 module _ (n : ℕ) {i : ℕ} {ts ds : List ℕ} (at : FoundAt n ts i) {σ : State} (v : valid σ ≡ true) (h : TokensIn σ ts ds) (l : i < token_slots) where

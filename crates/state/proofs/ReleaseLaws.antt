@@ -83,7 +83,7 @@ module _ {token : ℕ} {hs : List Handle} {cs ts ds : List ℕ} {a b : Bool} (by
     token_freed h ew ed = record {
       tokens = λ σ f p.
           let slots = σ.tokens.slots in
-          let low : i < length slots = omega (arith, f.token_slots_lem) in
+          let low : i < length slots = omega (arith, f.token_slots_long) in
           rw (sym (referred σ f p) ∙ unreferred) (rw (index σ f p) (record {
             words = ew ∙ ap (put_record token_words i (slot_row free)) p.tokens.words ∙ put_words slots i low free;
             bytes = ed ∙ ap (put_record max_dacl i (slot_dacl free)) p.tokens.bytes ∙ put_dacls slots i low free;
@@ -94,7 +94,7 @@ module _ {token : ℕ} {hs : List Handle} {cs ts ds : List ℕ} {a b : Bool} (by
     unfolding freed_one with_tokens with_slots
     token_missing h = record {
       tokens = λ σ f p.
-          let out : set σ.tokens.slots i free ≡ σ.tokens.slots = set_out σ.tokens.slots i free (omega (arith, f.token_slots_lem)) in
+          let out : set σ.tokens.slots i free ≡ σ.tokens.slots = set_out σ.tokens.slots i free (omega (arith, f.token_slots_long)) in
           rw (sym (referred σ f p) ∙ unreferred) (tokens_same (sym (index σ f p ∙ out)) p.tokens);
     }
 
@@ -112,8 +112,8 @@ freed_parts {token} {hs} {cs} σ f k p = record {
 freed_formed : (token : ℕ) (σ : State) → Formed σ → Formed (freed_one token σ)
 unfolding freed_one with_tokens with_slots number_of
 freed_formed token σ f = on_if Formed (member token (references σ)) σ _ (λ t. f) (λ t. record {
-  token_slots_lem = length_exchanged (is_numbered token) free σ.tokens.slots ∙ f.token_slots_lem;
-  handle_slots_lem = f.handle_slots_lem;
+  token_slots_long = length_exchanged (is_numbered token) free σ.tokens.slots ∙ f.token_slots_long;
+  handle_slots_long = f.handle_slots_long;
   tokens = λ u m. f.tokens u (in_freed number_of (is_numbered token) σ.tokens.slots m);
   handles = f.handles;
   pairs = f.pairs;

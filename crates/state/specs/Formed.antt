@@ -10,8 +10,8 @@ use Rattle.rules.specs.Valid.{token_valid}
 use Rattle.rules.specs.State.{State, token_slots, handle_slots}
 
 pub record Formed (σ : State) : Type 0 where
-  pub token_slots_lem : length σ.tokens.slots ≡ token_slots
-  pub handle_slots_lem : length σ.handles.slots ≡ handle_slots
+  pub token_slots_long : length σ.tokens.slots ≡ token_slots
+  pub handle_slots_long : length σ.handles.slots ≡ handle_slots
   -- number 0 stands for a free slot, and for a pair's free place
   pub tokens : (t : Token) → Mem t (lives σ.tokens.slots) → (token_valid t ≡ true) × (1 ≤ t.number)
   pub handles : (h : Handle) → Mem h (lives σ.handles.slots) → 1 ≤ h.number
