@@ -1,10 +1,11 @@
 -- Bytes of a body that are written as a DACL. Assumes nothing.
 use Prim.Native.Nat.{ℕ, zero, suc, ◌+◌, ◌-◌, ◌≤◌}
 use native.Mathlib.Omega.{arith}
-use mathlib.Core.Path.{◌≡◌, refl, sym, ap, ◌∙◌, subst}
-use mathlib.Core.List.{List, [], ◌∷◌, ◌++◌, append-nil}
-use lib.ListN.{length, take, drop, set, replicate, length-take, length-drop, drop_of_length-le}
-use lib.Seq.{take_at, drop_at}
+use mathlib.Core.Path.{◌≡◌, refl, sym, ap, ap₂, ◌∙◌, subst}
+use mathlib.Core.List.{List, [], ◌∷◌, ◌++◌}
+use lib.ListN.{length, take, drop, set, replicate, length-take, length-drop}
+use Rattle.std.proofs.Common.{length-take-le}
+use Rattle.std.proofs.lemmas.List.{drop-replicate, length-replicate}
 use Rattle.table.specs.Lists.{pad, pad_fits}
 use Rattle.rules.specs.Number.{Read, got, bad}
 use Rattle.rules.specs.Request.{follow, give, times, byte}
@@ -53,28 +54,18 @@ module _ (s : List ℕ) (at size : ℕ) (h : There byte s at size []) where
     dacl = λ t. e ∙ ap (pad max_dacl) (sym part.0);
   }
 
--- ---- a row written in two parts: the bytes, and then zeros
+-- ---- a row of zeros, and the bytes over the first of them
 
-abbrev then_from : ℕ → ℕ → List ℕ → List ℕ → List ℕ
-then_from n k zs out = take n out ++ (zs ++ drop (k - n) (drop n out))
-
-two_parts : (n : ℕ) {xs ys zs : List ℕ} (out : List ℕ) → length out ≡ max_dacl → length xs ≡ n → n ≤ max_dacl → ys ≡ xs → zs ≡ replicate (max_dacl - n) 0
-    → then_from n max_dacl zs (take 0 out ++ (ys ++ drop (n - 0) (drop 0 out))) ≡ pad max_dacl xs
-two_parts n {xs} {ys} {zs} out l k h e z =
-    let rest : List ℕ = drop (n - 0) out in
-    ap (λ (b : List ℕ). then_from n max_dacl zs (b ++ rest)) e
-    ∙ ap (λ (b : List ℕ). then_from n max_dacl b (xs ++ rest)) z
-    ∙ ap (λ (b : List ℕ). b ++ (replicate (max_dacl - n) 0 ++ drop (max_dacl - n) (drop n (xs ++ rest)))) (take_at xs rest n k)
-    ∙ ap (λ (b : List ℕ). xs ++ (replicate (max_dacl - n) 0 ++ drop (max_dacl - n) b)) (drop_at xs rest n k)
-    ∙ ap (λ (b : List ℕ). xs ++ (replicate (max_dacl - n) 0 ++ b)) (drop_of_length-le rest {i = max_dacl - n} (simp length-drop (omega arith)))
-    ∙ ap (λ (b : List ℕ). xs ++ b) (append-nil (replicate (max_dacl - n) 0))
-    ∙ ap (λ (m : ℕ). xs ++ replicate (max_dacl - m) 0) (sym k)
+over_zeros : (xs out : List ℕ) (n : ℕ) → length xs ≡ n → n ≤ max_dacl → length out ≡ max_dacl → {zs : List ℕ} → zs ≡ replicate (length out) 0 → xs ++ drop n zs ≡ pad max_dacl xs
+over_zeros xs out n k h l z =
+    ap (λ (b : List ℕ). xs ++ drop n b) z
+    ∙ ap (λ (b : List ℕ). xs ++ b) (drop-replicate n (length out) 0)
+    ∙ ap₂ (λ (a b : ℕ). xs ++ replicate (a - b) 0) l (sym k)
     ∙ sym (pad_fits max_dacl xs (omega arith))
 
--- the first part is lent to the reader
 pub stored : (s : List ℕ) (at n : ℕ) (out : List ℕ) {ys zs : List ℕ} → at + n ≤ length s → n ≤ max_dacl → length out ≡ max_dacl
-    → ys ≡ take (length (take (n - 0) (drop 0 out))) (drop at s) → zs ≡ replicate (max_dacl - n) 0
-    → then_from n max_dacl zs (take 0 out ++ (ys ++ drop (n - 0) (drop 0 out))) ≡ pad max_dacl (take n (drop at s))
-stored s at n out h few l e z =
-    let part : length (take (n - 0) (drop 0 out)) ≡ n = simp (length-take, length-drop) (omega arith) in
-    two_parts n out l (simp (length-take, length-drop) (omega arith)) few (e ∙ ap (λ (m : ℕ). take m (drop at s)) part) z
+    → zs ≡ replicate (length out) 0 → ys ≡ take (length (take n zs)) (drop at s) → ys ++ drop n zs ≡ pad max_dacl (take n (drop at s))
+stored s at n out {ys} {zs} few h l z e =
+    let long : length zs ≡ max_dacl = ap length z ∙ length-replicate (length out) 0 ∙ l in
+    ap (λ (b : List ℕ). b ++ drop n zs) (e ∙ ap (λ (m : ℕ). take m (drop at s)) (length-take-le n zs (omega arith)))
+    ∙ over_zeros (take n (drop at s)) out n (simp (length-take, length-drop) (omega arith)) h l z

@@ -1,5 +1,5 @@
 -- Request 8's fields: the judgement by the words of the row, and the changes. Assumes nothing.
-use Prim.Native.Nat.{ℕ, zero, suc, ◌+◌, ◌-◌, ◌≤◌, ◌<◌}
+use Prim.Native.Nat.{ℕ, zero, suc, ◌+◌, ◌-◌, ◌≤◌, ◌<◌, min}
 use native.Mathlib.Numerals.{sub-one}
 use native.Mathlib.Omega.{arith}
 use mathlib.Core.Path.{◌≡◌, refl, sym, ap, ◌∙◌}
@@ -10,7 +10,7 @@ use lib.Dec.{eqb, leb}
 use lib.ListN.{length, take, drop, get_or, set, get_or-map}
 use lib.Seq.{get_or-take, get_or-drop}
 use borrow.Author.Tests.{eqb-true, eq-eqb, ne_eqb, leb-true, lt-ltb, le-ltb, not-true, not-false}
-use Rattle.std.specs.Prelude.{if◌then◌else◌}
+use Rattle.std.specs.Prelude.{Ok, Err, if◌then◌else◌}
 use Rattle.rules.specs.Group.{Group, no_group, is_owner}
 use Rattle.rules.specs.Token.{Token, max_groups, max_dacl, with_defaults, next_modified}
 use Rattle.rules.specs.Valid.{groups_valid, token_valid}
@@ -21,11 +21,11 @@ use Rattle.rules.proofs.Logic.{and_l, and_r, or_e}
 use Rattle.rules.proofs.Facts.{token_facts}
 use Rattle.rules.proofs.Rows.{token_back}
 use Rattle.token.specs.Row.{Becomes}
-use Rattle.answer.specs.declared.Answer.TheVariants as answers
-use Rattle.decide.specs.Ending.{Ending, refused, becomes, token_after, answered, RowsEnd}
+use Rattle.answer.specs.declared.refusal.Refusal.TheVariants as refusal
+use Rattle.decide.specs.Ending.{Ending, refused, becomes, token_after, answered}
 use Rattle.state.proofs.TokenScalars.{empty_size}
 use Rattle.adjust_defaults.specs.DefaultDacl.{DaclWritten}
-use Rattle.adjust_defaults.specs.Defaults.{OwnerJudged, DefaultsJudged, with_indexes, DefaultsSet, defaults_ending}
+use Rattle.adjust_defaults.specs.Defaults.{OwnerJudged, DefaultsJudged, with_indexes, DefaultsSet, defaults_ending, FieldsEnd}
 
 -- ---- a row's groups
 
@@ -61,16 +61,14 @@ unfolding valid_owner
 past gs zero h l = absurd (h refl)
 past gs (suc k) h l = rw (le-ltb k (length gs) (omega arith))
 
+-- the count is cut to what a row holds
 module _ (ws : List ℕ) (i : ℕ) (h : i ≡ 0 → ⊥) where
-  pub owner_none : max_groups ≤ i - 1 → OwnerJudged i ws false
-  owner_none l = record { judged = λ t v e. past t.groups i h (omega (arith, few_groups t v)) }
+  pub owner_past : min (get_or ws Head.group_count 0) max_groups ≤ i - 1 → OwnerJudged i ws false
+  owner_past l = record { judged = λ t v e. past t.groups i h (omega (arith, count_in_row t e, few_groups t v)) }
 
-  pub owner_past : get_or ws Head.group_count 0 ≤ i - 1 → OwnerJudged i ws false
-  owner_past l = record { judged = λ t v e. past t.groups i h (omega (arith, count_in_row t e)) }
-
-  pub owner_group : (b : Bool) → i - 1 < get_or ws Head.group_count 0 → b ≡ is_owner (unpack (get_or ws (head_words + (i - 1)) 0)) → OwnerJudged i ws b
+  pub owner_group : (b : Bool) → i - 1 < min (get_or ws Head.group_count 0) max_groups → b ≡ is_owner (unpack (get_or ws (head_words + (i - 1)) 0)) → OwnerJudged i ws b
   unfolding valid_owner
-  owner_group b l e = record { judged = λ t v q. by t v q i h l e }
+  owner_group b l e = record { judged = λ t v q. by t v q i h (omega arith) e }
     where
       by : (t : Token) → token_valid t ≡ true → ws ≡ token_row t → (i : ℕ) → (i ≡ 0 → ⊥) → i - 1 < get_or ws Head.group_count 0 → b ≡ is_owner (unpack (get_or ws (head_words + (i - 1)) 0)) → b ≡ valid_owner t.groups i
       by t v q zero h l e = absurd (h refl)
@@ -101,14 +99,6 @@ module _ (ws : List ℕ) (owner group flag size : ℕ) where
 
 -- ---- the changes
 
-pub index_kept : (new old : ℕ) → new ≡ no_change → old ≡ or_kept new old
-unfolding or_kept
-index_kept new old h = rw (eq-eqb new no_change h)
-
-pub index_new : (new old : ℕ) → (new ≡ no_change → ⊥) → new ≡ or_kept new old
-unfolding or_kept
-index_new new old h = rw (ne_eqb new no_change h)
-
 pub indexes_set : (owner group : ℕ) {ws : List ℕ} {o g : ℕ} → o ≡ or_kept owner (get_or ws Head.owner 0) → g ≡ or_kept group (get_or (set ws Head.owner o) Head.primary_group 0)
     → Becomes (with_indexes owner group) ws (set (set ws Head.owner o) Head.primary_group g)
 unfolding token_row head with_defaults
@@ -138,24 +128,24 @@ module _ (owner group flag : ℕ) {ws ws₁ ws₂ bs : List ℕ} (a : Becomes (w
 
 module _ (owner group flag size : ℕ) (bytes : List ℕ) (l : length bytes ≡ size) (bs : List ℕ) {ws : List ℕ} {b : Bool} (j : DefaultsJudged owner group flag size ws b) where
   ending : {k : Bool} → b ≡ k → (t : Token) → token_valid t ≡ true → ws ≡ token_row t
-      → (if k then becomes (adjusted_token owner group flag bytes t) [] else refused 5) ≡ defaults_ending owner group flag bytes t
-  ending q t v e = ap (λ (k : Bool). if k then becomes (adjusted_token owner group flag bytes t) [] else refused 5) (sym q ∙ j.judged t v e bytes l)
+      → (if k then becomes (adjusted_token owner group flag bytes t) [] else refused refusal.BadField) ≡ defaults_ending owner group flag bytes t
+  ending q t v e = ap (λ (k : Bool). if k then becomes (adjusted_token owner group flag bytes t) [] else refused refusal.BadField) (sym q ∙ j.judged t v e bytes l)
 
-  pub made_none : not b ≡ true → RowsEnd (defaults_ending owner group flag bytes) ws bs ws bs (answers.Refused 5)
+  pub made_none : not b ≡ true → FieldsEnd (defaults_ending owner group flag bytes) ws bs ws bs (Err refusal.BadField)
   made_none h =
       let f = not-true b h in
       record {
         ends = record {
           row = λ t v e. e ∙ ap (λ (z : Ending). token_row (token_after t z)) (ending f t v e);
           answer = λ t v e ts ds. ap answered (ending f t v e);
-          fit = λ ts ds. omega arith;
+          fit = λ ts ds. tt;
         };
         dacl = λ t v e d. d ∙ ap (λ (z : Ending). dacl_row (token_after t z)) (ending f t v e);
       }
 
-  pub made_so : not b ≡ false → {ws' bs' : List ℕ} → DefaultsSet owner group flag bytes ws bs ws' bs'
-      → RowsEnd (defaults_ending owner group flag bytes) ws bs ws' bs' answers.Done
-  made_so h m =
+  pub made_so : not b ≡ false → {ws' bs' : List ℕ} → DefaultsSet owner group flag bytes ws bs ws' bs' → (u : Unit {0})
+      → FieldsEnd (defaults_ending owner group flag bytes) ws bs ws' bs' (Ok u)
+  made_so h m u =
       let f = not-false b h in
       record {
         ends = record {

@@ -1,13 +1,13 @@
 -- Request 7: how it ends. Assumes nothing.
 use Prim.Native.Nat.{ℕ, ◌≤◌, ◌<◌}
-use native.Mathlib.Omega.{arith}
 use mathlib.Core.Path.{◌≡◌, refl, sym, ◌∙◌}
 use mathlib.Core.Bool.{Bool, true, false, not}
 use mathlib.Core.List.{List, []}
-use borrow.Author.Tests.{not-true, not-false}
+use borrow.Author.Tests.{not-false}
+use Rattle.std.specs.Prelude.{Ok, Err}
 use Rattle.rules.specs.Bits.{has}
 use Rattle.rules.specs.Mask.{adjust_scope}
-use Rattle.rules.specs.Refusal.{refusal, privilege_not_held}
+use Rattle.rules.specs.Refusal.{privilege_not_held}
 use Rattle.rules.specs.Privileges.{tcb}
 use Rattle.rules.specs.Handle as rules
 use Rattle.rules.specs.Token as Rules
@@ -20,15 +20,17 @@ use Rattle.rules.proofs.Facts.{valid_facts, facts_valid}
 use Rattle.rules.proofs.Kept.{mark}
 use Rattle.handle.specs.declared.Handle.{Handle}
 use Rattle.token.specs.Row.{Becomes}
-use Rattle.state.specs.TokenCalls.{FoundAt, WordsChanged, Held, Used}
-use Rattle.state.proofs.InPlace.{lent, back, words_changed, words_unchanged}
+use Rattle.state.specs.TokenCalls.{FoundAt, lent, WordsChanged, Held, Used}
+use Rattle.state.proofs.InPlace.{back, words_changed, words_unchanged}
 use Rattle.state.specs.ReleaseFacts.{PartsIn}
 use Rattle.state.proofs.TokenFrames.{with_slots_lem, with_tokens_lem, used_control, used_handles}
 use Rattle.answer.specs.declared.Answer.TheVariants as answers
-use Rattle.decide.specs.declared.outcome.Outcome.{Outcome}
-use Rattle.decide.specs.Carried.{Ends, Carried}
-use Rattle.decide.proofs.Deciding.{refuses, ends_with}
-use Rattle.decide.proofs.LookupLaws.{LookedUp, looked_up, handle_refuses}
+use Rattle.answer.specs.declared.refusal.Refusal.{Refusal}
+use Rattle.answer.specs.declared.refusal.Refusal.TheVariants as refusal
+use Rattle.decide.specs.Carried.{ends, Carried}
+use Rattle.decide.specs.Lookup.{LookedUp}
+use Rattle.decide.proofs.Deciding.{refuses, ends_with, fails}
+use Rattle.decide.proofs.LookupLaws.{looked_up, handle_refuses}
 use Rattle.adjust_defaults.specs.Scope.{ScopeApplied}
 
 -- ---- the effect
@@ -60,27 +62,23 @@ scope_applied {s = s} in8 m c = record {
 abbrev go : ℕ → ℕ → State → rules.Handle → Rules.Token → Decision
 go s v σ h t = need held σ s tcb else privilege_not_held then success (change_token h.token (scoped_token v) (used tcb s σ)) []
 
-module _ {s n : ℕ} (v : ℕ) {hs : List Handle} {cs ts ds : List ℕ} {h : Handle} {k : ℕ} (l : LookedUp s n adjust_scope hs h k) where
-  pub scope_handle_refused : {r : Outcome} → (k ≡ 0 → ⊥) → Ends (answers.Refused k) r
-      → Carried (λ σ. scope σ s n v) ts ds hs cs ts ds cs r
+module _ {s n : ℕ} (v : ℕ) {hs : List Handle} {cs ts ds : List ℕ} where
+  pub scope_handle_refused : {e : Refusal} → LookedUp s n adjust_scope hs (Err e) → Carried (λ σ. scope σ s n v) ts ds hs cs ts ds cs (Err e)
   unfolding scope
-  scope_handle_refused {r} f e = handle_refuses l (go s v) r e f
+  scope_handle_refused l = handle_refuses l (go s v)
 
-  module _ (found : k ≡ 0) {b : Bool} (is : Held tcb s ts cs b) where
+  module _ {h : Handle} (l : LookedUp s n adjust_scope hs (Ok h)) {b : Bool} (is : Held tcb s ts cs b) where
     decided : (σ : State) → valid σ ≡ true → PartsIn σ ts ds hs cs
         → carried_out σ (scope σ s n v) ≡ carried_out σ (need b else privilege_not_held then success (change_token h.token (scoped_token v) (used tcb s σ)) [])
     unfolding scope
-    decided σ w p =
-        looked_up l σ w p.handles (go s v σ) found ∙ rw (sym (is.held σ w p.tokens p.control))
+    decided σ w p = looked_up l σ w p.handles (go s v σ) ∙ rw (sym (is.held σ w p.tokens p.control))
 
-    pub scope_not_held : {r : Outcome} → not b ≡ true → Ends (answers.Refused 4) r → Carried (λ σ. scope σ s n v) ts ds hs cs ts ds cs r
-    unfolding carried_out refusal
-    scope_not_held {r} f e = refuses 4 r e (omega arith) (λ σ w p. decided σ w p ∙ rw (not-true b f))
+    pub scope_not_held : not b ≡ true → Carried (λ σ. scope σ s n v) ts ds hs cs ts ds cs (Err refusal.PrivilegeNotHeld)
+    scope_not_held f = refuses refusal.PrivilegeNotHeld (λ σ w p. decided σ w p ∙ fails b σ privilege_not_held _ f)
 
-    pub scope_changes : {r : Outcome} {ts' : List ℕ} → not b ≡ false → ScopeApplied s h.token v ts cs ts' → Ends answers.Done r
-        → Carried (λ σ. scope σ s n v) ts ds hs cs ts' ds cs r
+    pub scope_changes : {ts' : List ℕ} → not b ≡ false → ScopeApplied s h.token v ts cs ts' → Carried (λ σ. scope σ s n v) ts ds hs cs ts' ds cs (Ok (ends answers.Done))
     unfolding carried_out change_token put_token
-    scope_changes {r} f c e = ends_with answers.Done r e (λ σ w p. tt)
+    scope_changes f c = ends_with answers.Done (λ σ w p. tt)
         (λ σ w p. rw (decided σ w p, not-false b f) (record {
           handles = with_tokens_lem (used_handles p.handles tcb s) _;
           control = with_slots_lem (used_control p.control tcb s) _;

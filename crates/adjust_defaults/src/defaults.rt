@@ -1,49 +1,44 @@
 // Request 8: default owner, primary group and DACL.
-ghost use Rattle.std.specs.Prelude.{[], ◌≤◌, length};
+ghost use Rattle.std.specs.Prelude.{◌≡◌, [], ◌≤◌, length};
 ghost use Rattle.rules.specs.Request.{byte};
-ghost use Rattle.handle.specs.Words.{records_in};
-ghost use Rattle.state.specs.Parts.{Lent};
+ghost use Rattle.rules.specs.AdjustDefaults as rules;
+ghost use Rattle.state.specs.Parts.{SameParts};
 ghost use Rattle.body.specs.Layout.{values_at, There};
-ghost use Rattle.adjust_defaults.specs.Defaults.{DefaultsCarried};
+ghost use Rattle.decide.specs.Carried.{CarriedOut};
 
 use crate::default_fields;
+use answer::{Answer, Refusal};
 use body::fields::DefaultsFields;
+use control::stations::Station;
 use decide::located::locate;
-use decide::lookup::mask_of;
 use decide::outcome;
 use decide::outcome::Outcome;
-use handle::HANDLE_WORDS;
-use state::handles::find_handle;
+use privilege::mask::Mask;
+use state::parts::Parts;
 use token::layout::{MAX_DACL, TOKEN_WORDS};
 
 // The size bytes that stand at the end of a body are the DACL.
 pub fn adjust_defaults(
-    station: u32,
+    parts: &mut Parts,
+    station: Station,
     f: DefaultsFields,
     s: &[u8],
-    handles: &[u64; HANDLE_WORDS],
-    tokens: &mut [u64],
-    dacls: &mut [u8],
-    control: &[u64],
-) -> Outcome
-    requires { Lent tokens.old dacls.old control.now × (f.at ≤ length s.now) × There byte s.now f.at f.size [] }
-    ensures { DefaultsCarried station f.handle f.owner f.group f.flag (values_at byte s.now f.at f.size) tokens.old dacls.old (records_in handles.now) control.now tokens.new dacls.new control.now result }
+) -> Result<Outcome, Refusal>
+    requires { (f.at ≤ length s.now) × There byte s.now f.at f.size [] }
+    ensures same { SameParts parts.old parts.new }
+    ensures control { parts.new.control.now ≡ parts.old.control.now }
+    ensures carried { CarriedOut (λ σ. rules.adjust σ station.number f.handle f.owner f.group f.flag (values_at byte s.now f.at f.size)) parts.old parts.new result }
 {
-    let found = find_handle(station, f.handle, handles);
-    let x = locate(found, mask_of(found).may_adjust_default(), tokens);
-    if x.refusal != 0 {
-        return outcome::refused(x.refusal);
-    }
-    let slot = x.slot;
+    let slot = locate(parts, station, f.handle, Mask::ADJUST_DEFAULT)?.slot;
     let row = slot * TOKEN_WORDS;
     let row_end = row + TOKEN_WORDS;
     let dacl = slot * MAX_DACL;
     let dacl_end = dacl + MAX_DACL;
-    let answer = default_fields::adjust(
+    default_fields::adjust(
         f,
         s,
-        &mut tokens[row..row_end],
-        &mut dacls[dacl..dacl_end],
-    );
-    outcome::ends(answer)
+        &mut parts.tokens[row..row_end],
+        &mut parts.dacls[dacl..dacl_end],
+    )?;
+    Ok(outcome::ends(Answer::Done))
 }

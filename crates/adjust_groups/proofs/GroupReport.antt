@@ -1,65 +1,47 @@
 -- The report of request 6: the ENABLED bits of a token's groups fit one word, and the other words are 0. Assumes nothing.
-use Prim.Native.Nat.{ℕ, zero, suc, ◌+◌, ◌*◌, ◌-◌, ◌^◌, ◌≤◌, ◌<◌}
+use Prim.Native.Nat.{ℕ, zero, suc, ◌+◌, ◌*◌, ◌^◌, ◌%◌, ◌≤◌}
 use native.Mathlib.Omega.{arith}
-use mathlib.Core.Path.{◌≡◌, refl, sym, ap, ap₂, ◌∙◌}
+use mathlib.Core.Path.{◌≡◌, refl, ap, ap₂, ◌∙◌}
 use mathlib.Core.Bool.{Bool, true, false}
 use mathlib.Core.List.{List, [], ◌∷◌, map}
+use lib.Bits.{bit_or}
 use lib.Pow.{pow_mono}
-use lib.ListN.{length, drop, get_or, replicate, length-map, length-drop, drop_of_length-le}
-use lib.Seq.{drop-cons, take_all}
-use Rattle.std.specs.Prelude.{if◌then◌else◌}
+use lib.ListN.{length, replicate, length-map, drop_of_length-le}
+use lib.Seq.{take_all}
+use Rattle.std.specs.Prelude.{reverse, if◌then◌else◌}
+use Rattle.std.specs.List.{fold}
+use Rattle.std.specs.Int.Bits.{or_zero_r, or_add_and}
+use Rattle.std.proofs.lemmas.Nat.{and_mask}
+use Rattle.std.proofs.lemmas.Grind.{reverse_onto, fold-append}
 use Rattle.rules.specs.Group.{Group, is_enabled}
 use Rattle.rules.specs.Token.{max_groups}
 use Rattle.rules.specs.Memory.{unpack}
 use Rattle.rules.specs.AdjustGroups.{enabled_bits, enabled_words, report_words}
 use Rattle.rules.proofs.Answers.{bits_below}
-use Rattle.token.specs.declared.Group as Code
-use Rattle.token.specs.Meaning.{group_of}
-use Rattle.token.specs.Row.{group_in}
 
-module _ (w : ℕ) {g : Code.Group} {b : Bool} (eg : g ≡ group_in w) (eb : b ≡ is_enabled (group_of g)) where
-  told : b ≡ is_enabled (unpack w)
-  unfolding unpack
-  told = eb ∙ ap (λ (x : Code.Group). is_enabled (group_of x)) eg
+-- ---- the fold from the last group's word down
 
-  pub bit_on : b ≡ true → ◌≡◌ {A = ℕ} 1 (if is_enabled (unpack w) then 1 else 0)
-  bit_on h = rw (sym told ∙ h)
+abbrev bit_of : ℕ → ℕ
+bit_of w = if is_enabled (unpack w) then 1 else 0
 
-  pub bit_off : b ≡ false → ◌≡◌ {A = ℕ} 0 (if is_enabled (unpack w) then 1 else 0)
-  bit_off h = rw (sym told ∙ h)
+abbrev pub one_more : ℕ → ℕ → ℕ
+one_more bits w = bit_or (bits * 2 % 2 ^ 64) (bit_of w)
 
--- a loop from the last group's word down: w has the bits of the groups from i on
-pub record Counting (gw : List ℕ) (w i : ℕ) : Type 0 where
-  pub within : i ≤ length gw
-  pub fits : length gw ≤ max_groups
-  pub bits : w ≡ enabled_bits (map unpack (drop i gw))
+joined : (a : ℕ) (b : Bool) → bit_or (a * 2) (if b then 1 else 0) ≡ (if b then 1 else 0) + 2 * a
+joined a true = omega (arith, or_add_and (a * 2) 1, and_mask (a * 2) 1)
+joined a false = or_zero_r (a * 2) ∙ omega arith
 
-pub count_none : (gw : List ℕ) → length gw ≤ max_groups → Counting gw 0 (length gw)
+pub all_bits : (gw : List ℕ) → length gw ≤ max_groups → fold one_more 0 (reverse gw) ≡ enabled_bits (map unpack gw)
 unfolding enabled_bits
-count_none gw h = record { within = omega arith; fits = h; bits = ap (λ (l : List ℕ). enabled_bits (map unpack l)) (sym (drop_of_length-le gw {i = length gw} (omega arith))) }
+all_bits [] h = refl
+all_bits (w ∷ gw) h =
+    let gs = map unpack gw in
+    let s : length gs ≤ 63 = omega (arith, length-map gw unpack) in
+    ap (fold one_more 0) (reverse_onto gw w []) ∙ fold-append one_more 0 (reverse gw) (w ∷ []) ∙ ap (λ (x : ℕ). one_more x w) (all_bits gw (omega arith))
+    ∙ ap (λ (x : ℕ). bit_or x (bit_of w)) {x = enabled_bits gs * 2 % 2 ^ 64} {y = enabled_bits gs * 2} (omega (arith, bits_below gs, pow_mono s))
+    ∙ joined (enabled_bits gs) (is_enabled (unpack w))
 
-module _ {gw : List ℕ} {w i : ℕ} (c : Counting gw w i) where
-  pub count_all : i ≤ 0 → w ≡ enabled_bits (map unpack gw)
-  count_all h = c.bits ∙ ap (λ (k : ℕ). enabled_bits (map unpack (drop k gw))) {x = i} {y = 0} (omega arith)
-
-  module _ (h : 0 < i) (b : ℕ) (eb : b ≡ (if is_enabled (unpack (get_or gw (i - 1) 0)) then 1 else 0)) where
-    more : b + 2 * w ≡ enabled_bits (map unpack (drop (i - 1) gw))
-    unfolding enabled_bits
-    more =
-        ap₂ (λ (x y : ℕ). x + 2 * y) eb (c.bits ∙ ap (λ (j : ℕ). enabled_bits (map unpack (drop j gw))) {x = i} {y = suc (i - 1)} (omega arith))
-        ∙ ap (λ (l : List ℕ). enabled_bits (map unpack l)) (sym (drop-cons gw (i - 1) 0 (omega (arith, c.within))))
-
-    pub count_more : Counting gw (b + 2 * w) (i - 1)
-    count_more = record { within = omega (arith, c.within); fits = c.fits; bits = more }
-
-    pub sum_fits : b + 2 * w < 2 ^ 64
-    sum_fits =
-        let l = drop (i - 1) gw in
-        let s : length (map unpack l) ≤ 64 = omega (arith, length-map l unpack, length-drop (i - 1) gw, c.fits) in
-        omega (arith, more, bits_below (map unpack l), pow_mono s)
-
-    pub twice_fits : 2 * w < 2 ^ 64
-    twice_fits = omega (arith, sum_fits)
+-- ---- the words
 
 zero_words : (k : ℕ) → enabled_words k [] ≡ replicate k 0
 unfolding enabled_words enabled_bits

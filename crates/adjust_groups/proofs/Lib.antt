@@ -1,3 +1,3 @@
-pub mod GroupEntries
 pub mod GroupReport
+pub mod GroupEntries
 pub mod GroupsEnding

@@ -1,5 +1,7 @@
 // A token's groups: which of them are protected, and, in the words of the token's row, ENABLED of one set, all reset, and the report of
 // the enabled ones.
+#![tactic(auto, unfolding(rules::specs::AdjustGroups::is_protected, rules::specs::AdjustGroups::reset_group))]
+
 ghost use Rattle.std.specs.Prelude.{◌≡◌, map, ◌≤◌, length, if◌then◌else◌};
 ghost use Rattle.rules.specs.Basic.{change_at};
 ghost use Rattle.rules.specs.Group.{is_enabled, with_enabled};
@@ -10,7 +12,7 @@ ghost use Rattle.token.specs.Meaning.{group_of};
 ghost use Rattle.token.specs.Row.{on_word};
 ghost use Rattle.adjust_groups.specs.GroupEntries.{groups_in};
 
-use token::{Group, attributes, words};
+use token::Group;
 
 // ---- one group
 
@@ -18,20 +20,17 @@ use token::{Group, attributes, words};
 pub fn is_protected(user: u32, value: u64, g: Group) -> bool
     ensures { result ≡ is_protected user value (group_of g) }
 {
-    attributes::is_mandatory(g)
-        | attributes::is_deny_only(g)
-        | attributes::is_logon(g)
-        | ((g.sid == user) & (value == 0))
+    g.is_mandatory() | g.is_deny_only() | g.is_logon() | ((g.sid == user) & (value == 0))
 }
 
 // ENABLED from value 2, but in deny-only groups.
 fn reset_group(g: Group) -> Group
     ensures { group_of result ≡ reset_group (group_of g) }
 {
-    if attributes::is_deny_only(g) {
+    if g.is_deny_only() {
         return g;
     }
-    attributes::with_enabled(g, attributes::is_enabled_by_default(g))
+    g.with_enabled(g.is_enabled_by_default())
 }
 
 // ---- one word
@@ -39,23 +38,19 @@ fn reset_group(g: Group) -> Group
 fn reset_word(w: u64) -> u64
     ensures { result ≡ on_word reset_group w }
 {
-    words::pack(reset_group(words::unpack(w)))
+    u64::from(reset_group(Group::from(w)))
 }
 
 fn with_enabled_word(w: u64, on: bool) -> u64
     ensures { result ≡ on_word (with_enabled on) w }
 {
-    words::pack(attributes::with_enabled(words::unpack(w), on))
+    u64::from(Group::from(w).with_enabled(on))
 }
 
 fn enabled_bit(w: u64) -> u64
     ensures { result ≡ (if is_enabled (unpack w) then 1 else 0) }
 {
-    if attributes::is_enabled(words::unpack(w)) {
-        1
-    } else {
-        0
-    }
+    u64::from(Group::from(w).is_enabled())
 }
 
 // ---- the words of a row's groups
@@ -63,14 +58,12 @@ fn enabled_bit(w: u64) -> u64
 pub fn reset_all(groups: &mut [u64])
     ensures { groups.new ≡ map (on_word reset_group) groups.old }
 {
-    let mut i: usize = 0;
-    while i < groups.len() {
-        groups[i] = reset_word(groups[i]);
-        i += 1;
+    for word in groups.iter_mut() {
+        *word = reset_word(*word);
     }
 }
 
-// Past the last group there is nothing to set.
+// Past the last group there is nothing to set. Not by `get_mut`: std does not say what the slice holds after a write through it.
 pub fn set_enabled_at(key: u64, on: bool, groups: &mut [u64])
     ensures { groups.new ≡ change_at key (on_word (with_enabled on)) groups.old }
 {
@@ -85,11 +78,8 @@ pub fn enabled_word(groups: &[u64]) -> u64
     requires { length groups.now ≤ max_groups }
     ensures { result ≡ enabled_bits (groups_in groups.now) }
 {
-    let mut i = groups.len();
-    let mut w: u64 = 0;
-    while 0 < i {
-        i -= 1;
-        w = enabled_bit(groups[i]) + 2 * w;
-    }
-    w
+    groups
+        .iter()
+        .rev()
+        .fold(0, |bits, word| (bits << 1) | enabled_bit(*word))
 }

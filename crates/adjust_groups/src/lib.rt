@@ -4,19 +4,18 @@
 ghost use Rattle.std.specs.Prelude.{◌≡◌, length, drop};
 ghost use Rattle.rules.specs.Memory.{token_words};
 ghost use Rattle.rules.specs.AdjustGroups.{adjust};
-ghost use Rattle.handle.specs.Words.{records_in};
-ghost use Rattle.state.specs.Parts.{Lent};
-ghost use Rattle.decide.specs.EntriesCarried.{EntriesCarried};
+ghost use Rattle.state.specs.Parts.{WordsAlone};
+ghost use Rattle.decide.specs.EntriesCarried.{EntriesCarriedOut};
 ghost use Rattle.adjust_groups.specs.GroupEntries.{RowSwitched};
 
-use answer::Answer;
+use answer::{Answer, Refusal};
 use body::fields::EntriesFields;
+use control::stations::Station;
 use decide::located::locate;
-use decide::lookup::mask_of;
 use decide::outcome;
 use decide::outcome::Outcome;
-use handle::HANDLE_WORDS;
-use state::handles::find_handle;
+use privilege::mask::Mask;
+use state::parts::Parts;
 use token::layout::{GROUP_COUNT, HEAD_WORDS, MAX_GROUPS, TOKEN_WORDS};
 use token::row;
 
@@ -24,39 +23,29 @@ mod group_entries;
 mod group_words;
 
 // The count entries that stand at a place of a body, on the token in a row.
-fn adjust_row(s: &[u8], at: usize, count: u64, words: &mut [u64]) -> Answer
+fn adjust_row(s: &[u8], at: usize, count: u32, words: &mut [u64]) -> Result<Answer, Refusal>
     requires { length words.old ≡ token_words }
     ensures { RowSwitched count (drop at s.now) words.old words.new result }
 {
     let identity = row::identity_in(words);
     let end = HEAD_WORDS + row::count_in(words, GROUP_COUNT, MAX_GROUPS);
-    let x = group_entries::adjust(identity.user, s, at, count, &mut words[HEAD_WORDS..end]);
-    if x.refusal != 0 {
-        return Answer::Refused(x.refusal);
-    }
+    let previous = group_entries::adjust(identity.user, s, at, count, &mut words[HEAD_WORDS..end])?;
     row::step_modified(words);
-    Answer::Report(x.previous)
+    Ok(Answer::Report(previous))
 }
 
 pub fn adjust_groups(
-    station: u32,
+    parts: &mut Parts,
+    station: Station,
     f: EntriesFields,
     s: &[u8],
-    handles: &[u64; HANDLE_WORDS],
-    tokens: &mut [u64],
-    dacls: &[u8],
-    control: &[u64],
-) -> Outcome
-    requires { Lent tokens.old dacls.now control.now }
-    ensures { EntriesCarried adjust station f.handle s.now f.at f.count tokens.old dacls.now (records_in handles.now) control.now tokens.new dacls.now control.now result }
+) -> Result<Outcome, Refusal>
+    ensures alone { WordsAlone parts.old parts.new }
+    ensures carried { EntriesCarriedOut adjust station.number f.handle s.now f.at f.count parts.old parts.new result }
 {
-    let found = find_handle(station, f.handle, handles);
-    let x = locate(found, mask_of(found).may_adjust_groups(), tokens);
-    if x.refusal != 0 {
-        return outcome::refused(x.refusal);
-    }
+    let x = locate(parts, station, f.handle, Mask::ADJUST_GROUPS)?;
     let from = x.slot * TOKEN_WORDS;
     let end = from + TOKEN_WORDS;
-    let answer = adjust_row(s, f.at, f.count as u64, &mut tokens[from..end]);
-    outcome::ends(answer)
+    let answer = adjust_row(s, f.at, f.count, &mut parts.tokens[from..end])?;
+    Ok(outcome::ends(answer))
 }

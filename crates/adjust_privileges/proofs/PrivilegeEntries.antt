@@ -2,10 +2,10 @@
 use Prim.Native.Nat.{ℕ, ◌<◌}
 use native.Mathlib.Omega.{arith}
 use mathlib.Core.Path.{◌≡◌, refl, sym, ap, ◌∙◌}
-use mathlib.Core.Bool.{Bool, true, false, not, ◌&&◌}
+use mathlib.Core.Bool.{Bool, true, false, not, ◌||◌}
 use mathlib.Core.List.{List}
 use lib.Bits.{bit_and}
-use lib.Dec.{eqb, leb}
+use lib.Dec.{leb}
 use borrow.Author.Tests.{leb-true}
 use Rattle.std.specs.Prelude.{if◌then◌else◌}
 use Rattle.rules.specs.Number.{Read, got, bad}
@@ -14,21 +14,19 @@ use Rattle.rules.specs.Privileges.{Privileges, exists, reset}
 use Rattle.rules.specs.AdjustPrivileges.{is_reset, valid_entry, applied, adjusted, named, previous}
 use Rattle.rules.specs.Request.{times, entry}
 use Rattle.rules.proofs.Logic.{and_l, and_r}
-use Rattle.privilege.specs.declared.privileges.Privileges as Code
-use Rattle.privilege.specs.Meaning.{privileges_of}
 use Rattle.body.specs.Entries.{entry_of, is_just, Progress, going, stopped, passed}
-use Rattle.body.proofs.Passes.{whole, pass_whole}
+use Rattle.body.proofs.Passes.{whole, none_whole, some_whole}
 use Rattle.adjust_privileges.specs.PrivilegeEntries.{Outcome, done, refused, judged}
 
 -- ---- one entry
 
 -- a good one is below 64
-pub small : (p : Privileges) (o v n : Bool) (k a : ℕ) → v ≡ valid_entry p (entry_of k a) → (o && v && not n) ≡ true → k < 64
+pub small : (p : Privileges) (v n : Bool) (k a : ℕ) → v ≡ valid_entry p (entry_of k a) → (not v || n) ≡ false → k < 64
 unfolding valid_entry exists
-small p o v n k a e h =
-    let g = sym e ∙ and_r o v (and_l (o && v) (not n) h) in
-    let l = leb-true k 36 (and_r (leb 2 k) (leb k 36) (and_l (exists k) _ g)) in
+small p true n k a e h =
+    let l = leb-true k 36 (and_r (leb 2 k) (leb k 36) (and_l (exists k) _ (sym e))) in
     omega (arith, l)
+small p false n k a e h = cc
 
 -- ---- all of them
 
@@ -53,15 +51,14 @@ module _ (p : Privileges) where
       sym (finished_if (valid_entries (valid_entry p) es) (apply_all applied es p) (named es)) ∙ rw (sym h)
   whole_judged bad h = refl
 
--- j says that the entries are a reset
-module _ (p q : Code.Privileges) (n : ℕ) (bytes : List ℕ) (j : Bool) (h : j ≡ is_just 0 0x80000000 (times n entry bytes)) where
-  pub was_reset : j ≡ true → privileges_of q ≡ reset (privileges_of p) → done (privileges_of q) p.present p.enabled ≡ judged (privileges_of p) (times n entry bytes)
-  was_reset t e = ap (λ (x : Privileges). done x p.present p.enabled) e ∙ reset_judged (privileges_of p) (times n entry bytes) (sym t ∙ h)
+  -- j says that the entries are a reset
+  module _ (n : ℕ) (bytes : List ℕ) {j : Bool} (h : j ≡ is_just 0 0x80000000 (times n entry bytes)) where
+    pub was_reset : j ≡ true → {q : Privileges} → q ≡ reset p → done q p.present p.enabled ≡ judged p (times n entry bytes)
+    was_reset t e = ap (λ (q : Privileges). done q p.present p.enabled) e ∙ reset_judged (times n entry bytes) (sym t ∙ h)
 
-  -- o no entry was bad; q and w are what the pass made
-  pub was_passed : j ≡ false → (o : Bool) (w : ℕ) → (if o then going (privileges_of q) w else stopped) ≡ passed (valid_entry (privileges_of p)) applied (privileges_of p) (times n entry bytes)
-      → (if o && not (eqb n 0) then done (privileges_of q) (bit_and p.present w) (bit_and p.enabled w) else refused) ≡ judged (privileges_of p) (times n entry bytes)
-  was_passed f o w e =
-      finished_if (privileges_of p) (o && not (eqb n 0)) (privileges_of q) w
-      ∙ ap (finished (privileges_of p)) (pass_whole (valid_entry (privileges_of p)) applied o (privileges_of q) w (privileges_of p) n bytes e)
-      ∙ whole_judged (privileges_of p) (times n entry bytes) (sym f ∙ h)
+    pub none_given : j ≡ false → n ≡ 0 → refused ≡ judged p (times n entry bytes)
+    none_given f z = ap finished (none_whole (valid_entry p) applied p n bytes z) ∙ whole_judged (times n entry bytes) (sym f ∙ h)
+
+    -- g is what the pass made
+    pub was_passed : j ≡ false → (n ≡ 0 → ⊥) → (g : Progress Privileges) → g ≡ passed (valid_entry p) applied p (times n entry bytes) → finished g ≡ judged p (times n entry bytes)
+    was_passed f z g e = ap finished (e ∙ some_whole (valid_entry p) applied p n bytes z) ∙ whole_judged (times n entry bytes) (sym f ∙ h)

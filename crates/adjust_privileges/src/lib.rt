@@ -5,60 +5,50 @@ ghost use Rattle.std.specs.Prelude.{◌≡◌, length, drop};
 ghost use Rattle.rules.specs.Memory.{token_words};
 ghost use Rattle.rules.specs.Request.{times, entry};
 ghost use Rattle.rules.specs.AdjustPrivileges.{adjust};
-ghost use Rattle.handle.specs.Words.{records_in};
-ghost use Rattle.state.specs.Parts.{Lent};
-ghost use Rattle.decide.specs.Ending.{RowEnds};
+ghost use Rattle.state.specs.Parts.{WordsAlone};
+ghost use Rattle.decide.specs.Ending.{RowEnds, told};
+ghost use Rattle.decide.specs.EntriesCarried.{EntriesCarriedOut};
 ghost use Rattle.adjust_privileges.specs.PrivilegeEntries.{privileges_ending};
-ghost use Rattle.decide.specs.EntriesCarried.{EntriesCarried};
 
-use answer::{Answer, refusal};
+use answer::{Answer, Refusal};
 use body::fields::EntriesFields;
+use control::stations::Station;
 use decide::located::locate;
-use decide::lookup::mask_of;
 use decide::outcome;
 use decide::outcome::Outcome;
-use handle::HANDLE_WORDS;
-use state::handles::find_handle;
+use privilege::mask::Mask;
+use state::parts::Parts;
 use token::layout::TOKEN_WORDS;
 use token::row;
 
 mod privilege_entries;
 
 // The count entries that stand at a place of a body, on the token in a row.
-fn adjust_row(s: &[u8], at: usize, count: u64, words: &mut [u64]) -> Answer
+fn adjust_row(s: &[u8], at: usize, count: u32, words: &mut [u64]) -> Result<Answer, Refusal>
     requires { length words.old ≡ token_words }
-    ensures { RowEnds (privileges_ending (times count entry (drop at s.now))) words.old words.new result }
+    ensures { RowEnds (privileges_ending (times count entry (drop at s.now))) words.old words.new (told result) }
 {
     let before = row::privileges_in(words);
-    let adjusted = privilege_entries::adjust(before, s, at, count);
-    if !adjusted.ok {
-        return Answer::Refused(refusal::BAD_FIELD);
-    }
-    let made = adjusted.privileges;
-    row::set_privileges(words, made);
+    let Some(adjusted) = privilege_entries::adjust(before, s, at, count) else {
+        return Err(Refusal::BadField);
+    };
+    row::set_privileges(words, adjusted.privileges);
     row::step_modified(words);
-    Answer::Values(adjusted.was_present, adjusted.was_enabled)
+    Ok(Answer::Values(adjusted.was_present, adjusted.was_enabled))
 }
 
 pub fn adjust_privileges(
-    station: u32,
+    parts: &mut Parts,
+    station: Station,
     f: EntriesFields,
     s: &[u8],
-    handles: &[u64; HANDLE_WORDS],
-    tokens: &mut [u64],
-    dacls: &[u8],
-    control: &[u64],
-) -> Outcome
-    requires { Lent tokens.old dacls.now control.now }
-    ensures { EntriesCarried adjust station f.handle s.now f.at f.count tokens.old dacls.now (records_in handles.now) control.now tokens.new dacls.now control.now result }
+) -> Result<Outcome, Refusal>
+    ensures alone { WordsAlone parts.old parts.new }
+    ensures carried { EntriesCarriedOut adjust station.number f.handle s.now f.at f.count parts.old parts.new result }
 {
-    let found = find_handle(station, f.handle, handles);
-    let x = locate(found, mask_of(found).may_adjust_privileges(), tokens);
-    if x.refusal != 0 {
-        return outcome::refused(x.refusal);
-    }
+    let x = locate(parts, station, f.handle, Mask::ADJUST_PRIVILEGES)?;
     let from = x.slot * TOKEN_WORDS;
     let end = from + TOKEN_WORDS;
-    let answer = adjust_row(s, f.at, f.count as u64, &mut tokens[from..end]);
-    outcome::ends(answer)
+    let answer = adjust_row(s, f.at, f.count, &mut parts.tokens[from..end])?;
+    Ok(outcome::ends(answer))
 }

@@ -2,16 +2,15 @@
 use Prim.Native.Nat.{ℕ, zero, suc, ◌+◌, ◌*◌, ◌-◌, ◌^◌, ◌≤◌, ◌<◌, min}
 use native.Mathlib.Omega.{arith}
 use mathlib.Core.Path.{◌≡◌, refl, sym, ap, ap₂, ◌∙◌}
-use mathlib.Core.Bool.{true, not, ◌&&◌}
+use mathlib.Core.Bool.{true}
 use mathlib.Core.List.{List, [], ◌∷◌, ◌++◌, append-nil}
-use lib.Dec.{leb}
 use lib.Seq.{get_or-take, get_or-drop}
 use lib.ListN.{length, take, drop, get_or, replicate, length-append}
 use Rattle.table.specs.Table.{nth_record, part_at}
 use Rattle.rules.specs.Number.{encode, encode_in, encode_all}
 use Rattle.rules.specs.Frame.{frame, max_answer}
+use Rattle.rules.specs.Refusal.{refusal, capacity_below}
 use Rattle.rules.specs.Token.{max_dacl}
-use Rattle.rules.specs.State.{token_slots}
 use Rattle.rules.specs.Head as Head
 use Rattle.rules.specs.Memory.{token_words, token_at}
 use Rattle.rules.specs.Valid.{token_valid}
@@ -22,10 +21,17 @@ use Rattle.rules.proofs.Numbers.{encode_one}
 use Rattle.rules.proofs.Answers.{word, class_fits, frame_fits}
 use Rattle.number.specs.Answer.{answered}
 use Rattle.answer.specs.Classes.{RowOne}
-use Rattle.answer.specs.Answer.{token_in, answer_of, Fit, Room, WroteFrame}
+use Rattle.answer.specs.Refusal.{refusal_of, number_of}
+use Rattle.answer.specs.declared.refusal.Refusal.{Refusal}
+use Rattle.answer.specs.declared.refusal.Refusal.TheVariants as refusals
+use Rattle.answer.specs.Answer.{token_in, answer_of, Room, WroteFrame}
+use Rattle.answer.specs.Class.{single_number, class_number}
+use Rattle.answer.specs.declared.class.Single.{Single}
+use Rattle.answer.specs.declared.class.Class.{Class}
+use Rattle.answer.specs.declared.class.Class.TheVariants as classes
 use Rattle.answer.specs.declared.Answer.{Answer}
 use Rattle.answer.specs.declared.Answer.TheVariants as answer
-use Rattle.answer.proofs.Classes.{no_class, dacl_bytes}
+use Rattle.answer.proofs.Classes.{dacl_bytes}
 
 -- a status is one byte
 first_byte : (n : ℕ) (ns : List ℕ) → n < 128 → encode_all (n ∷ ns) ≡ n ∷ encode_all ns
@@ -35,10 +41,6 @@ first_byte n ns h = ap (λ (l : List ℕ). l ++ encode_all ns) (encode_one n h)
 with_value : (n v : ℕ) → n < 128 → encode_all (n ∷ v ∷ []) ≡ n ∷ encode v
 unfolding encode_all
 with_value n v h = first_byte n (v ∷ []) h ∙ ap (λ (l : List ℕ). n ∷ l) (append-nil (encode v))
-
--- the part of a list from its start
-start : (n : ℕ) (xs : List ℕ) → take (n - 0) (drop 0 xs) ≡ take n xs
-start n xs = ap (λ (k : ℕ). take k xs) {x = n - 0} {y = n} (omega arith)
 
 wrote_same : {xs ys o o' : List ℕ} {r : ℕ} → xs ≡ ys → WroteFrame xs o o' r → WroteFrame ys o o' r
 wrote_same {o = o} e w = record {
@@ -67,34 +69,23 @@ module _ (ns o : List ℕ) (fits : Room (encode_all ns) o) where
   pub all_framed : (o' : List ℕ) (r : ℕ) → r ≡ length (answered ns []) → o' ≡ answered ns [] ++ drop (length (answered ns [])) o → WroteFrame (encode_all ns) o o' r
   all_framed = framed (encode_all ns) ns [] o (append-nil (encode_all ns)) fits
 
--- the start of an array of them
-module _ (n : ℕ) (xs ns o : List ℕ) (e : take n xs ≡ ns) where
-  same : encode_all (take (n - 0) (drop 0 xs)) ≡ encode_all ns
-  same = ap encode_all (start n xs ∙ e)
+-- other numbers that are the same
+module _ (xs ns o : List ℕ) (e : xs ≡ ns) where
+  pub same_room : Room (encode_all ns) o → Room (encode_all xs) o
+  same_room h = omega (arith, ap (λ (l : List ℕ). length (frame (encode_all l))) e)
 
-  pub start_room : Room (encode_all ns) o → Room (encode_all (take (n - 0) (drop 0 xs))) o
-  start_room h = omega (arith, ap (λ (l : List ℕ). length (frame l)) same)
+  pub same_wrote : {o' : List ℕ} {r : ℕ} → WroteFrame (encode_all xs) o o' r → WroteFrame (encode_all ns) o o' r
+  same_wrote w = wrote_same (ap encode_all e) w
 
-  pub start_wrote : {o' : List ℕ} {r : ℕ} → WroteFrame (encode_all (take (n - 0) (drop 0 xs))) o o' r → WroteFrame (encode_all ns) o o' r
-  start_wrote w = wrote_same same w
+-- ---- up to three numbers
 
--- ---- a status and up to two values
-
-short : (count a b c : ℕ) → count ≤ 3 → a < 2 ^ 64 → b < 2 ^ 64 → c < 2 ^ 64 → length (frame (encode_all (take count (a ∷ b ∷ c ∷ [])))) ≤ max_answer
+words_fit : (ns : List ℕ) → ((i : ℕ) → get_or ns i 0 < 2 ^ 64) → length (encode_all ns) ≤ 10 * length ns
 unfolding encode_all
-short zero a b c h ha hb hc = frame_fits [] (omega arith)
-short (suc zero) a b c h ha hb hc = frame_fits (encode a ++ []) (simp length-append (omega (arith, word a ha)))
-short (suc (suc zero)) a b c h ha hb hc = frame_fits (encode a ++ (encode b ++ [])) (simp length-append (omega (arith, word a ha, word b hb)))
-short (suc (suc (suc zero))) a b c h ha hb hc =
-    frame_fits (encode a ++ (encode b ++ (encode c ++ []))) (simp length-append (omega (arith, word a ha, word b hb, word c hc)))
-short (suc (suc (suc (suc k)))) a b c h ha hb hc = absurd (omega arith)
+words_fit [] below = omega arith
+words_fit (n ∷ ns) below = simp length-append (omega (arith, word n (below 0), words_fit ns (λ i. below (suc i))))
 
-module _ (count a b c : ℕ) (o : List ℕ) (few : count ≤ 3) (ha : a < 2 ^ 64) (hb : b < 2 ^ 64) (hc : c < 2 ^ 64) (room : max_answer ≤ length o) where
-  fits : length (frame (encode_all (take count (a ∷ b ∷ c ∷ [])))) ≤ length o
-  fits = let l = short count a b c few ha hb hc in omega arith
-
-  pub put_room : Room (encode_all (take (count - 0) (a ∷ b ∷ c ∷ []))) o
-  put_room = start_room count (a ∷ b ∷ c ∷ []) (take count (a ∷ b ∷ c ∷ [])) o refl fits
+pub put_room : (ns o : List ℕ) → ((i : ℕ) → get_or ns i 0 < 2 ^ 64) → length ns ≤ 3 → max_answer ≤ length o → Room (encode_all ns) o
+put_room ns o below few room = omega (arith, frame_fits (encode_all ns) (omega (arith, words_fit ns below)))
 
 -- ---- the report
 
@@ -112,48 +103,34 @@ report_fits w o hw room =
 
 -- ---- a class of a row
 
-module _ (ws bs o : List ℕ) (class k : ℕ) (ns : List ℕ) (e : class ≡ k) (b : class_bytes (token_at ws bs) k ≡ encode_all ns) where
-  as_class : encode_all (0 ∷ ns) ≡ 0 ∷ class_bytes (token_at ws bs) class
-  as_class = first_byte 0 ns (omega arith) ∙ ap (λ (l : List ℕ). 0 ∷ l) (sym (ap (class_bytes (token_at ws bs)) e ∙ b))
+module _ (ws bs o : List ℕ) (class x : Class) (ns : List ℕ) (e : class ≡ x) (b : class_bytes (token_at ws bs) (class_number x) ≡ encode_all ns) where
+  as_class : encode_all (0 ∷ ns) ≡ 0 ∷ class_bytes (token_at ws bs) (class_number class)
+  as_class = first_byte 0 ns (omega arith) ∙ ap (λ (l : List ℕ). 0 ∷ l) (sym (ap (λ (y : Class). class_bytes (token_at ws bs) (class_number y)) e ∙ b))
 
-  pub class_fits_in : Room (0 ∷ class_bytes (token_at ws bs) class) o → Room (encode_all (0 ∷ ns)) o
+  pub class_fits_in : Room (0 ∷ class_bytes (token_at ws bs) (class_number class)) o → Room (encode_all (0 ∷ ns)) o
   class_fits_in h = omega (arith, ap (λ (l : List ℕ). length (frame l)) as_class)
 
-  pub class_wrote : {o' : List ℕ} {r : ℕ} → WroteFrame (encode_all (0 ∷ ns)) o o' r → WroteFrame (0 ∷ class_bytes (token_at ws bs) class) o o' r
+  pub class_wrote : {o' : List ℕ} {r : ℕ} → WroteFrame (encode_all (0 ∷ ns)) o o' r → WroteFrame (0 ∷ class_bytes (token_at ws bs) (class_number class)) o o' r
   class_wrote w = wrote_same as_class w
 
-module _ (ws bs o : List ℕ) (class : ℕ) where
-  pub one_wrote : {m : ℕ} {o' : List ℕ} {r : ℕ} → RowOne ws class m → WroteFrame (encode_all (0 ∷ m ∷ [])) o o' r
-      → WroteFrame (0 ∷ class_bytes (token_at ws bs) class) o o' r
-  one_wrote {m} h w = wrote_same (with_value 0 m (omega arith) ∙ ap (λ (l : List ℕ). 0 ∷ l) (sym (h.bytes bs))) w
-
-  pub none_wrote : {o' : List ℕ} {r : ℕ} → not (leb 1 class && leb class 13) ≡ true → WroteFrame (encode_all (0 ∷ [])) o o' r
-      → WroteFrame (0 ∷ class_bytes (token_at ws bs) class) o o' r
-  unfolding encode_all
-  none_wrote u w = wrote_same (first_byte 0 [] (omega arith) ∙ ap (λ (l : List ℕ). 0 ∷ l) (sym (no_class ws bs class u))) w
-
-  pub dacl_fits_in : class ≡ 6 → Room (0 ∷ class_bytes (token_at ws bs) class) o → Room (0 ∷ class_bytes (token_at ws bs) 6) o
-  dacl_fits_in e h = rw e at h
-
-  pub dacl_wrote : {o' : List ℕ} {r : ℕ} → class ≡ 6 → WroteFrame (0 ∷ class_bytes (token_at ws bs) 6) o o' r
-      → WroteFrame (0 ∷ class_bytes (token_at ws bs) class) o o' r
-  dacl_wrote e w = wrote_same (ap (λ (k : ℕ). 0 ∷ class_bytes (token_at ws bs) k) (sym e)) w
+-- a class of one number
+pub one_wrote : (ws bs : List ℕ) (class : Class) (x : Single) {m : ℕ} {o o' : List ℕ} {r : ℕ} → class ≡ classes.Single x → RowOne ws (single_number x) m
+    → WroteFrame (encode_all (0 ∷ m ∷ [])) o o' r → WroteFrame (0 ∷ class_bytes (token_at ws bs) (class_number class)) o o' r
+one_wrote ws bs class x {m} e h w =
+    wrote_same
+    (with_value 0 m (omega arith) ∙ ap (λ (l : List ℕ). 0 ∷ l) (sym (ap (λ (y : Class). class_bytes (token_at ws bs) (class_number y)) e ∙ h.bytes bs))) w
 
 -- the DACL: its count, and then its bytes
 module _ (ws bs o : List ℕ) (n : ℕ) (l : length bs ≡ max_dacl) (c : n ≡ min (get_or ws Head.dacl_length 0) max_dacl) (fits : Room (0 ∷ class_bytes (token_at ws bs) 6) o) where
-  abbrev ps : List ℕ
-  ps = take (n - 0) (drop 0 bs)
+  same_dacl : encode_all (0 ∷ n ∷ []) ++ take n bs ≡ 0 ∷ class_bytes (token_at ws bs) 6
+  same_dacl = ap (λ (k : List ℕ). k ++ take n bs) (with_value 0 n (omega arith)) ∙ ap (λ (l : List ℕ). 0 ∷ l) (dacl_bytes ws bs n l c)
 
-  same_dacl : encode_all (0 ∷ n ∷ []) ++ ps ≡ 0 ∷ class_bytes (token_at ws bs) 6
-  same_dacl =
-      ap₂ ◌++◌ (with_value 0 n (omega arith)) (start n bs) ∙ ap (λ (l : List ℕ). 0 ∷ l) (dacl_bytes ws bs n l c)
+  pub dacl_room : length (answered (0 ∷ n ∷ []) (take n bs)) ≤ length o
+  dacl_room = enough (0 ∷ class_bytes (token_at ws bs) 6) (0 ∷ n ∷ []) (take n bs) o same_dacl fits
 
-  pub dacl_room : length (answered (0 ∷ n ∷ []) ps) ≤ length o
-  dacl_room = enough (0 ∷ class_bytes (token_at ws bs) 6) (0 ∷ n ∷ []) ps o same_dacl fits
-
-  pub dacl_framed : (o' : List ℕ) (r : ℕ) → r ≡ length (answered (0 ∷ n ∷ []) ps) → o' ≡ answered (0 ∷ n ∷ []) ps ++ drop (length (answered (0 ∷ n ∷ []) ps)) o
+  pub dacl_framed : (o' : List ℕ) (r : ℕ) → r ≡ length (answered (0 ∷ n ∷ []) (take n bs)) → o' ≡ answered (0 ∷ n ∷ []) (take n bs) ++ drop (length (answered (0 ∷ n ∷ []) (take n bs))) o
       → WroteFrame (0 ∷ class_bytes (token_at ws bs) 6) o o' r
-  dacl_framed = framed (0 ∷ class_bytes (token_at ws bs) 6) (0 ∷ n ∷ []) ps o same_dacl fits
+  dacl_framed = framed (0 ∷ class_bytes (token_at ws bs) 6) (0 ∷ n ∷ []) (take n bs) o same_dacl fits
 
 -- the row in a slot, of words that are below 2^64
 module _ (ts ds o : List ℕ) (slot class : ℕ) (below : (i : ℕ) → get_or ts i 0 < 2 ^ 64) where
@@ -167,18 +144,65 @@ module _ (ts ds o : List ℕ) (slot class : ℕ) (below : (i : ℕ) → get_or t
       let l = frame_fits (0 ∷ class_bytes t class) (omega (arith, class_fits t number (token_facts t v) class)) in
       rw (part_at token_words slot ts, part_at max_dacl slot ds) (omega arith)
 
+-- ---- a refusal
+
+-- its number is one byte
+one_byte : (x : Refusal) → number_of x < 128
+unfolding refusal capacity_below
+one_byte refusals.Malformed = omega arith
+one_byte refusals.NotALiveHandle = omega arith
+one_byte refusals.RightMissing = omega arith
+one_byte refusals.PrivilegeNotHeld = omega arith
+one_byte refusals.BadField = omega arith
+one_byte refusals.ProtectedGroup = omega arith
+one_byte refusals.InstallMismatch = omega arith
+one_byte refusals.RestrictedServer = omega arith
+one_byte refusals.TableFull = omega arith
+one_byte (refusals.CapacityBelow size) = omega arith
+one_byte refusals.StreamBroken = omega arith
+one_byte refusals.NotLinked = omega arith
+
+-- only one tells more
+no_report : (x : Refusal) → ((size : ℕ) → x ≡ refusals.CapacityBelow size → ⊥) → (refusal_of x).report ≡ []
+unfolding refusal
+no_report refusals.Malformed u = refl
+no_report refusals.NotALiveHandle u = refl
+no_report refusals.RightMissing u = refl
+no_report refusals.PrivilegeNotHeld u = refl
+no_report refusals.BadField u = refl
+no_report refusals.ProtectedGroup u = refl
+no_report refusals.InstallMismatch u = refl
+no_report refusals.RestrictedServer u = refl
+no_report refusals.TableFull u = refl
+no_report (refusals.CapacityBelow size) u = absurd (u size refl)
+no_report refusals.StreamBroken u = refl
+no_report refusals.NotLinked u = refl
+
+sized : (size : ℕ) → (refusal_of (refusals.CapacityBelow size)).report ≡ encode size
+unfolding capacity_below
+sized size = refl
+
+module _ (x : Refusal) {o o' : List ℕ} {n r : ℕ} where
+  -- a number alone
+  pub untold : ((size : ℕ) → x ≡ refusals.CapacityBelow size → ⊥) → n ≡ number_of x → WroteFrame (encode_all (n ∷ [])) o o' r
+      → WroteFrame ((refusal_of x).number ∷ (refusal_of x).report) o o' r
+  unfolding encode_all
+  untold u e w = wrote_same (first_byte n [] (omega (arith, one_byte x)) ∙ ap₂ (λ (k : ℕ) (l : List ℕ). k ∷ l) e (sym (no_report x u))) w
+
+  -- a number, and the size that the capacity is below
+  pub told : (size : ℕ) → x ≡ refusals.CapacityBelow size → n ≡ number_of (refusals.CapacityBelow size) → WroteFrame (encode_all (n ∷ size ∷ [])) o o' r
+      → WroteFrame ((refusal_of x).number ∷ (refusal_of x).report) o o' r
+  told size q e w =
+      wrote_same
+      (with_value n size (omega (arith, one_byte (refusals.CapacityBelow size)))
+      ∙ ap₂ (λ (k : ℕ) (l : List ℕ). k ∷ l) e (sym (sized size))
+      ∙ sym (ap (λ (y : Refusal). (refusal_of y).number ∷ (refusal_of y).report) q)) w
+
 -- ---- each answer
 
 module _ (ws bs : List ℕ) (a : Answer) (o o' : List ℕ) (r : ℕ) where
   meant : (x : Answer) (xs : List ℕ) → a ≡ x → WroteFrame xs o o' r → xs ≡ answer_of ws bs x → WroteFrame (answer_of ws bs a) o o' r
   meant x xs e w b = wrote_same (b ∙ ap (answer_of ws bs) (sym e)) w
-
-  pub refused : (n : ℕ) → a ≡ answer.Refused n → Fit ws bs a → WroteFrame (encode_all (n ∷ [])) o o' r → WroteFrame (answer_of ws bs a) o o' r
-  unfolding encode_all
-  refused n e fit w = meant (answer.Refused n) (encode_all (n ∷ [])) e w (first_byte n [] (rw e at fit))
-
-  pub too_small : (size : ℕ) → a ≡ answer.TooSmall size → WroteFrame (encode_all (9 ∷ size ∷ [])) o o' r → WroteFrame (answer_of ws bs a) o o' r
-  too_small size e w = meant (answer.TooSmall size) (encode_all (9 ∷ size ∷ [])) e w (with_value 9 size (omega arith))
 
   pub done : a ≡ answer.Done → WroteFrame (encode_all (0 ∷ [])) o o' r → WroteFrame (answer_of ws bs a) o o' r
   unfolding encode_all
@@ -192,13 +216,3 @@ module _ (ws bs : List ℕ) (a : Answer) (o o' : List ℕ) (r : ℕ) where
 
   pub report : (w : ℕ) → a ≡ answer.Report w → WroteFrame (encode_all (0 ∷ w ∷ replicate (report_words - 1) 0)) o o' r → WroteFrame (answer_of ws bs a) o o' r
   report v e w = meant (answer.Report v) (encode_all (0 ∷ v ∷ replicate (report_words - 1) 0)) e w (first_byte 0 (v ∷ replicate (report_words - 1) 0) (omega arith))
-
-  pub of_class : (slot class : ℕ) → a ≡ answer.Class slot class → WroteFrame (0 ∷ class_bytes (token_in ws bs slot) class) o o' r → WroteFrame (answer_of ws bs a) o o' r
-  of_class slot class e w = meant (answer.Class slot class) (0 ∷ class_bytes (token_in ws bs slot) class) e w refl
-
-module _ (ws bs : List ℕ) (a : Answer) (slot class : ℕ) (e : a ≡ answer.Class slot class) (fit : Fit ws bs a) where
-  pub slot_fits : slot < token_slots
-  slot_fits = (rw e at fit).0
-
-  pub token_fits : token_valid (token_in ws bs slot) ≡ true
-  token_fits = (rw e at fit).1

@@ -9,6 +9,8 @@ use Rattle.rules.specs.Memory.{token_words, token_at}
 use Rattle.rules.specs.Valid.{token_valid}
 use Rattle.rules.specs.AdjustGroups.{report_words}
 use Rattle.rules.specs.Query.{class_bytes}
+use Rattle.answer.specs.Refusal.{refusal_of}
+use Rattle.answer.specs.Class.{class_number}
 use Rattle.answer.specs.declared.Answer.{Answer}
 use Rattle.answer.specs.declared.Answer.TheVariants as answer
 
@@ -17,18 +19,16 @@ abbrev pub token_in : List ℕ → List ℕ → ℕ → Token
 token_in words dacls slot = token_at (nth_record token_words slot words) (nth_record max_dacl slot dacls)
 
 abbrev pub answer_of : List ℕ → List ℕ → Answer → List ℕ
-answer_of words dacls (answer.Refused n) = n ∷ []
-answer_of words dacls (answer.TooSmall size) = 9 ∷ encode size
+answer_of words dacls (answer.Refused r) = (refusal_of r).number ∷ (refusal_of r).report
 answer_of words dacls answer.Done = 0 ∷ []
 answer_of words dacls (answer.Value v) = 0 ∷ encode v
 answer_of words dacls (answer.Values v w) = 0 ∷ encode_all (v ∷ w ∷ [])
 answer_of words dacls (answer.Report w) = 0 ∷ encode_all (w ∷ replicate (report_words - 1) 0)
-answer_of words dacls (answer.Class slot class) = 0 ∷ class_bytes (token_in words dacls slot) class
+answer_of words dacls (answer.Class slot class) = 0 ∷ class_bytes (token_in words dacls slot) (class_number class)
 
--- a refusal's number is one byte, and a class is one of a valid token
+-- a class is one of a valid token
 abbrev pub Fit : List ℕ → List ℕ → Answer → Type 0
-Fit words dacls (answer.Refused n) = n < 128
-Fit words dacls (answer.TooSmall size) = Unit {0}
+Fit words dacls (answer.Refused r) = Unit {0}
 Fit words dacls answer.Done = Unit {0}
 Fit words dacls (answer.Value v) = Unit {0}
 Fit words dacls (answer.Values v w) = Unit {0}

@@ -1,10 +1,11 @@
 -- What a query answers of a token's row, class by class. Assumes nothing.
-use Rattle.std.specs.Prelude.{ℕ, ◌+◌, ◌≤◌, ◌≡◌, List, [], ◌∷◌, length, get_or}
+use Rattle.std.specs.Prelude.{ℕ, ◌+◌, ◌/◌, ◌≡◌, List, [], ◌∷◌, length, get_or}
 use Rattle.rules.specs.Number.{encode}
 use Rattle.rules.specs.Token.{sid_at, max_restricting, max_dacl}
 use Rattle.rules.specs.Query.{pairs, class_bytes}
 use Rattle.rules.specs.Head as Head
-use Rattle.rules.specs.Memory.{low8, groups_at, limits_at, token_at}
+use Rattle.rules.specs.Basic.{word32}
+use Rattle.rules.specs.Memory.{low8, low32, groups_at, limits_at, token_at}
 
 -- ---- the classes of several numbers
 
@@ -28,16 +29,14 @@ statistics ws = get_or ws Head.number 0 ∷ get_or ws Head.session 0 ∷ get_or 
 abbrev pub sid_numbers : List ℕ → List ℕ
 sid_numbers ws = length (limits_at ws).restricting ∷ (limits_at ws).restricting
 
--- ---- the classes of one number
+-- how long a group's two numbers are, and a SID's one, of its word
+abbrev pub pair_size : ℕ → ℕ
+pair_size w = length (encode (low32 w)) + length (encode (w / word32))
 
-pub record IsOne (class : ℕ) : Type 0 where
-  pub low : 1 ≤ class
-  pub high : class ≤ 13
-  pub not_groups : class ≡ 2 → ⊥
-  pub not_privileges : class ≡ 3 → ⊥
-  pub not_dacl : class ≡ 6 → ⊥
-  pub not_statistics : class ≡ 9 → ⊥
-  pub not_sids : class ≡ 10 → ⊥
+abbrev pub sid_size : ℕ → ℕ
+sid_size w = length (encode (low32 w))
+
+-- ---- the classes of one number
 
 -- r is the class's number, whatever the DACL
 pub record RowOne (ws : List ℕ) (class r : ℕ) : Type 0 where

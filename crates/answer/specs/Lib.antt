@@ -1,2 +1,4 @@
 pub mod Classes
+pub mod Refusal
+pub mod Class
 pub mod Answer

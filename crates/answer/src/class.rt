@@ -1,74 +1,163 @@
 // Request 4: what a query answers of a token's row, and how long that is. Most classes are one number.
-ghost use Rattle.std.specs.Prelude.{◌≡◌, ◌≤◌, ◌<◌, length};
-ghost use Rattle.rules.specs.Number.{encode_all};
-ghost use Rattle.rules.specs.Memory.{token_words};
-ghost use Rattle.answer.specs.Classes.{group_numbers, sid_numbers, statistics, IsOne, RowSid, RowOne, RowCounted};
+ghost use Rattle.std.specs.Prelude.{◌≡◌, ◌≤◌, ◌*◌, ◌∷◌, length, map, sum_by};
+ghost use Rattle.rules.specs.Token.{max_groups, max_restricting};
+ghost use Rattle.rules.specs.Memory.{low32, token_words, unpack, groups_at, limits_at};
+ghost use Rattle.answer.specs.Class.{single_number, class_number, Decodes};
+ghost use Rattle.answer.specs.Classes.{pair_size, sid_size, statistics, RowSid, RowOne, RowCounted};
 
+use crate::Refusal;
 use table::WORD_32;
 use token::layout::*;
 use token::row;
+
+// The classes of one number.
+#[derive(Clone, Copy, PartialEq, Eq, Debug)]
+pub enum Single {
+    User,
+    Owner,
+    PrimaryGroup,
+    Type,
+    Level,
+    Scope,
+    Elevation,
+    Integrity,
+}
+
+#[derive(Clone, Copy, PartialEq, Eq, Debug)]
+pub enum Class {
+    Single(Single),
+    Groups,
+    Privileges,
+    Dacl,
+    Statistics,
+    Restricting,
+}
+
+impl TryFrom<u32> for Class {
+    type Error = Refusal;
+
+    ghost try_from_gives = { Decodes };
+
+    fn try_from(number: u32) -> Result<Class, Refusal> {
+        match number {
+            1 => Ok(Class::Single(Single::User)),
+            2 => Ok(Class::Groups),
+            3 => Ok(Class::Privileges),
+            4 => Ok(Class::Single(Single::Owner)),
+            5 => Ok(Class::Single(Single::PrimaryGroup)),
+            6 => Ok(Class::Dacl),
+            7 => Ok(Class::Single(Single::Type)),
+            8 => Ok(Class::Single(Single::Level)),
+            9 => Ok(Class::Statistics),
+            10 => Ok(Class::Restricting),
+            11 => Ok(Class::Single(Single::Scope)),
+            12 => Ok(Class::Single(Single::Elevation)),
+            13 => Ok(Class::Single(Single::Integrity)),
+            _ => Err(Refusal::BadField),
+        }
+    }
+}
+
+// ---- the words of a row's lists
+
+pub(crate) fn groups(words: &[u64]) -> &[u64]
+    requires { length words.now ≡ token_words }
+    ensures { (map unpack result.now ≡ groups_at words.now) × (length result.now ≤ max_groups) }
+{
+    let n = row::count_in(words, GROUP_COUNT, MAX_GROUPS);
+    &words[HEAD_WORDS..HEAD_WORDS + n]
+}
+
+pub(crate) fn restricting(words: &[u64]) -> &[u64]
+    requires { length words.now ≡ token_words }
+    ensures { (map low32 result.now ≡ (limits_at words.now).restricting) × (length result.now ≤ max_restricting) }
+{
+    let n = row::count_in(words, RESTRICTING_COUNT, MAX_RESTRICTING);
+    &words[GROUPS_END..GROUPS_END + n]
+}
+
+// The success, and class 9.
+pub(crate) fn statistics(words: &[u64]) -> [u64; 6]
+    requires { length words.now ≡ token_words }
+    ensures { result ≡ 0 ∷ statistics words.now }
+{
+    [
+        0,
+        words[NUMBER],
+        words[SESSION],
+        words[MODIFIED],
+        words[KIND] % 256,
+        words[ROOT],
+    ]
+}
+
+// ---- the classes of one number
 
 // A SID's index is 0 for the user, k for group k - 1.
 fn sid_at(words: &[u64], index: u64) -> u64
     requires { length words.now ≡ token_words }
     ensures { RowSid words.now index result }
 {
-    let at = index as usize;
-    if at == 0 {
+    if index == 0 {
         return words[USER] % WORD_32;
     }
-    if row::count_in(words, GROUP_COUNT, MAX_GROUPS) < at {
-        return 0;
+    match groups(words).get(index as usize - 1) {
+        Some(w) => w % WORD_32,
+        None => 0,
     }
-    words[HEAD_WORDS - 1 + at] % WORD_32
 }
 
-// The number of a class that is one.
-pub fn one(words: &[u64], class: u64) -> u64
-    requires { (length words.now ≡ token_words) × IsOne class }
-    ensures { RowOne words.now class result }
+pub fn one(words: &[u64], class: Single) -> u64
+    requires { length words.now ≡ token_words }
+    ensures { RowOne words.now (single_number class) result }
 {
     match class {
-        1 => words[USER] % WORD_32,
-        4 => sid_at(words, words[OWNER] % WORD_32),
-        5 => sid_at(words, words[PRIMARY_GROUP] % WORD_32),
-        7 => words[KIND] % 256,
-        8 => words[LEVEL] % 256,
-        11 => words[SCOPE] % WORD_32,
-        12 => words[ELEVATION] % 256,
-        _ => words[INTEGRITY] % WORD_32,
+        Single::User => words[USER] % WORD_32,
+        Single::Owner => sid_at(words, words[OWNER] % WORD_32),
+        Single::PrimaryGroup => sid_at(words, words[PRIMARY_GROUP] % WORD_32),
+        Single::Type => words[KIND] % 256,
+        Single::Level => words[LEVEL] % 256,
+        Single::Scope => words[SCOPE] % WORD_32,
+        Single::Elevation => words[ELEVATION] % 256,
+        Single::Integrity => words[INTEGRITY] % WORD_32,
     }
 }
 
 // ---- how many bytes follow the status
 
-fn groups_size(words: &[u64]) -> usize
-    requires { length words.now ≡ token_words }
-    ensures { result ≡ length (encode_all (group_numbers words.now)) }
+// The numbers of groups.
+fn pairs_size(groups: &[u64]) -> usize
+    requires { length groups.now ≤ max_groups }
+    ensures { (result ≡ sum_by pair_size groups.now) × (result ≤ 20 * max_groups) }
 {
-    let n = row::count_in(words, GROUP_COUNT, MAX_GROUPS);
-    let mut sum = number::size(n as u64);
-    let mut i: usize = 0;
-    while i < n {
-        let w = words[HEAD_WORDS + i];
-        sum += number::size(w % WORD_32) + number::size(w / WORD_32);
-        i += 1;
-    }
-    sum
+    groups
+        .iter()
+        .map(|w| number::size(w % WORD_32) + number::size(w / WORD_32))
+        .sum()
 }
 
-fn sids_size(words: &[u64]) -> usize
-    requires { length words.now ≡ token_words }
-    ensures { result ≡ length (encode_all (sid_numbers words.now)) }
+// The numbers of restricting SIDs.
+fn sids_size(sids: &[u64]) -> usize
+    requires { length sids.now ≤ max_restricting }
+    ensures { (result ≡ sum_by sid_size sids.now) × (result ≤ 10 * max_restricting) }
 {
-    let n = row::count_in(words, RESTRICTING_COUNT, MAX_RESTRICTING);
-    let mut sum = number::size(n as u64);
-    let mut i: usize = 0;
-    while i < n {
-        sum += number::size(words[GROUPS_END + i] % WORD_32);
-        i += 1;
-    }
-    sum
+    sids.iter().map(|w| number::size(w % WORD_32)).sum()
+}
+
+fn groups_size(words: &[u64]) -> usize
+    requires { length words.now ≡ token_words }
+    ensures { RowCounted words.now 2 result }
+{
+    let groups = groups(words);
+    number::size(groups.len() as u64) + pairs_size(groups)
+}
+
+fn restricting_size(words: &[u64]) -> usize
+    requires { length words.now ≡ token_words }
+    ensures { RowCounted words.now 10 result }
+{
+    let sids = restricting(words);
+    number::size(sids.len() as u64) + sids_size(sids)
 }
 
 fn dacl_size(words: &[u64]) -> usize
@@ -79,30 +168,16 @@ fn dacl_size(words: &[u64]) -> usize
     number::size(n as u64) + n
 }
 
-fn statistics_size(words: &[u64]) -> usize
+pub fn size(words: &[u64], class: Class) -> usize
     requires { length words.now ≡ token_words }
-    ensures { result ≡ length (encode_all (statistics words.now)) }
-{
-    let fields = [
-        words[NUMBER],
-        words[SESSION],
-        words[MODIFIED],
-        words[KIND] % 256,
-        words[ROOT],
-    ];
-    number::sizes(&fields)
-}
-
-pub fn size(words: &[u64], class: u64) -> usize
-    requires { (length words.now ≡ token_words) × (1 ≤ class) × (class ≤ 13) }
-    ensures { RowCounted words.now class result }
+    ensures { RowCounted words.now (class_number class) result }
 {
     match class {
-        2 => groups_size(words),
-        3 => number::sizes(&words[PRESENT..GROUP_COUNT]),
-        6 => dacl_size(words),
-        9 => statistics_size(words),
-        10 => sids_size(words),
-        _ => number::size(one(words, class)),
+        Class::Single(single) => number::size(one(words, single)),
+        Class::Groups => groups_size(words),
+        Class::Privileges => number::sizes(&words[PRESENT..GROUP_COUNT]),
+        Class::Dacl => dacl_size(words),
+        Class::Statistics => number::sizes(&statistics(words)[1..]),
+        Class::Restricting => restricting_size(words),
     }
 }

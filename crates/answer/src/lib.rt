@@ -11,15 +11,20 @@ ghost use Rattle.rules.specs.Valid.{token_valid};
 ghost use Rattle.rules.specs.AdjustGroups.{report_words};
 ghost use Rattle.rules.specs.Query.{class_bytes};
 ghost use Rattle.number.specs.Answer.{max_fields};
-ghost use Rattle.answer.specs.Classes.{group_numbers, sid_numbers, privilege_words, statistics};
+ghost use Rattle.answer.specs.Classes.{group_numbers, sid_numbers, privilege_words};
+ghost use Rattle.answer.specs.Class.{class_number};
+ghost use Rattle.answer.specs.Refusal.{refusal_of};
 ghost use Rattle.answer.specs.Answer.{token_in, answer_of, Fit, Room, WroteFrame};
 
+use class::Class;
 use table::WORD_32;
 use token::layout::*;
 use token::row;
 
 pub mod class;
-pub mod refusal;
+mod refusal;
+
+pub use refusal::Refusal;
 
 // The status and request 6's sixteen words.
 const REPORT: usize = 17;
@@ -30,12 +35,9 @@ const MAX_NUMBERS: usize = 2 + 2 * MAX_GROUPS;
 // The status, a count and all restricting SIDs.
 const MAX_SIDS: usize = 2 + MAX_RESTRICTING;
 
-#[derive(Clone, Copy)]
+#[derive(Clone, Copy, PartialEq, Eq, Debug)]
 pub enum Answer {
-    // A refusal by its number.
-    Refused(u64),
-    // Refusal 9, with the size that the capacity is below.
-    TooSmall(u64),
+    Refused(Refusal),
     // Success, with nothing more.
     Done,
     // Success, with a new handle or request 12's level.
@@ -45,7 +47,7 @@ pub enum Answer {
     // Success, with the first of request 6's sixteen words; the others are 0, as no token has more than 64 groups.
     Report(u64),
     // Success, with a class of the token in a slot.
-    Class { slot: usize, class: u64 },
+    Class { slot: usize, class: Class },
 }
 
 // The frame of these numbers.
@@ -53,17 +55,26 @@ fn put_all(fields: &[u64], out: &mut [u8]) -> usize
     requires { (length fields.now ≤ max_fields) × Room (encode_all fields.now) out.old }
     ensures { WroteFrame (encode_all fields.now) out.old out.new result }
 {
-    let none = [0u8; 1];
-    number::answer(fields, &none[0..0], out)
+    number::answer(fields, &[], out)
 }
 
-// The frame of a status alone, with one number, or with two.
-fn put(count: usize, status: u64, first: u64, second: u64, out: &mut [u8]) -> usize
-    requires { (count ≤ 3) × (max_answer ≤ length out.old) }
-    ensures { WroteFrame (encode_all (take count (status ∷ first ∷ second ∷ []))) out.old out.new result }
+// The frame of up to three numbers.
+fn put(fields: &[u64], out: &mut [u8]) -> usize
+    requires { (length fields.now ≤ 3) × (max_answer ≤ length out.old) }
+    ensures { WroteFrame (encode_all fields.now) out.old out.new result }
 {
-    let fields = [status, first, second];
-    put_all(&fields[0..count], out)
+    put_all(fields, out)
+}
+
+// A refusal's number, and what it tells.
+fn put_refusal(r: Refusal, out: &mut [u8]) -> usize
+    requires { max_answer ≤ length out.old }
+    ensures { WroteFrame ((refusal_of r).number ∷ (refusal_of r).report) out.old out.new result }
+{
+    match r {
+        Refusal::CapacityBelow(size) => put(&[r.number(), size], out),
+        _ => put(&[r.number()], out),
+    }
 }
 
 fn put_report(word: u64, out: &mut [u8]) -> usize
@@ -91,85 +102,58 @@ fn put_privileges(words: &[u64], out: &mut [u8]) -> usize
     put_all(&fields, out)
 }
 
-fn put_statistics(words: &[u64], out: &mut [u8]) -> usize
-    requires { (length words.now ≡ token_words) × Room (encode_all (0 ∷ statistics words.now)) out.old }
-    ensures { WroteFrame (encode_all (0 ∷ statistics words.now)) out.old out.new result }
-{
-    let fields = [
-        0,
-        words[NUMBER],
-        words[SESSION],
-        words[MODIFIED],
-        words[KIND] % 256,
-        words[ROOT],
-    ];
-    put_all(&fields, out)
-}
-
 fn put_dacl(words: &[u64], dacl: &[u8], out: &mut [u8]) -> usize
     requires { (length words.now ≡ token_words) × (length dacl.now ≡ max_dacl) × Room (0 ∷ class_bytes (token_at words.now dacl.now) 6) out.old }
     ensures { WroteFrame (0 ∷ class_bytes (token_at words.now dacl.now) 6) out.old out.new result }
 {
     let n = row::count_in(words, DACL_COUNT, MAX_DACL);
-    let fields = [0, n as u64];
-    number::answer(&fields, &dacl[0..n], out)
+    number::answer(&[0, n as u64], &dacl[..n], out)
 }
 
 fn put_groups(words: &[u64], out: &mut [u8]) -> usize
     requires { (length words.now ≡ token_words) × Room (encode_all (0 ∷ group_numbers words.now)) out.old }
     ensures { WroteFrame (encode_all (0 ∷ group_numbers words.now)) out.old out.new result }
 {
-    let n = row::count_in(words, GROUP_COUNT, MAX_GROUPS);
+    let groups = class::groups(words);
     let mut fields = [0u64; MAX_NUMBERS];
-    fields[1] = n as u64;
-    let mut i: usize = 0;
-    while i < n {
-        let w = words[HEAD_WORDS + i];
+    fields[1] = groups.len() as u64;
+    for (i, w) in groups.iter().enumerate() {
         fields[2 * i + 2] = w % WORD_32;
         fields[2 * i + 3] = w / WORD_32;
-        i += 1;
     }
-    let end = 2 * n + 2;
-    put_all(&fields[0..end], out)
+    put_all(&fields[..2 * groups.len() + 2], out)
 }
 
 fn put_sids(words: &[u64], out: &mut [u8]) -> usize
     requires { (length words.now ≡ token_words) × Room (encode_all (0 ∷ sid_numbers words.now)) out.old }
     ensures { WroteFrame (encode_all (0 ∷ sid_numbers words.now)) out.old out.new result }
 {
-    let n = row::count_in(words, RESTRICTING_COUNT, MAX_RESTRICTING);
+    let sids = class::restricting(words);
     let mut fields = [0u64; MAX_SIDS];
-    fields[1] = n as u64;
-    let mut i: usize = 0;
-    while i < n {
-        fields[i + 2] = words[GROUPS_END + i] % WORD_32;
-        i += 1;
+    fields[1] = sids.len() as u64;
+    for (i, w) in sids.iter().enumerate() {
+        fields[i + 2] = w % WORD_32;
     }
-    let end = n + 2;
-    put_all(&fields[0..end], out)
+    put_all(&fields[..sids.len() + 2], out)
 }
 
-fn put_class(words: &[u64], dacl: &[u8], class: u64, out: &mut [u8]) -> usize
-    requires { (length words.now ≡ token_words) × (length dacl.now ≡ max_dacl) × (max_answer ≤ length out.old) × Room (0 ∷ class_bytes (token_at words.now dacl.now) class) out.old }
-    ensures { WroteFrame (0 ∷ class_bytes (token_at words.now dacl.now) class) out.old out.new result }
+fn put_class(words: &[u64], dacl: &[u8], class: Class, out: &mut [u8]) -> usize
+    requires { (length words.now ≡ token_words) × (length dacl.now ≡ max_dacl) × (max_answer ≤ length out.old) × Room (0 ∷ class_bytes (token_at words.now dacl.now) (class_number class)) out.old }
+    ensures { WroteFrame (0 ∷ class_bytes (token_at words.now dacl.now) (class_number class)) out.old out.new result }
 {
-    let known = (1 <= class) & (class <= 13);
-    if !known {
-        return put(1, 0, 0, 0, out);
-    }
     match class {
-        2 => put_groups(words, out),
-        3 => put_privileges(words, out),
-        6 => put_dacl(words, dacl, out),
-        9 => put_statistics(words, out),
-        10 => put_sids(words, out),
-        _ => put(2, 0, class::one(words, class), 0, out),
+        Class::Single(single) => put(&[0, class::one(words, single)], out),
+        Class::Groups => put_groups(words, out),
+        Class::Privileges => put_privileges(words, out),
+        Class::Dacl => put_dacl(words, dacl, out),
+        Class::Statistics => put_all(&class::statistics(words), out),
+        Class::Restricting => put_sids(words, out),
     }
 }
 
-fn put_class_at(slot: usize, class: u64, tokens: &[u64], dacls: &[u8], out: &mut [u8]) -> usize
+fn put_class_at(slot: usize, class: Class, tokens: &[u64], dacls: &[u8], out: &mut [u8]) -> usize
     requires { (length tokens.now ≡ token_slots * token_words) × (length dacls.now ≡ token_slots * max_dacl) × (max_answer ≤ length out.old) × (slot < token_slots) × (token_valid (token_in tokens.now dacls.now slot) ≡ true) }
-    ensures { WroteFrame (0 ∷ class_bytes (token_in tokens.now dacls.now slot) class) out.old out.new result }
+    ensures { WroteFrame (0 ∷ class_bytes (token_in tokens.now dacls.now slot) (class_number class)) out.old out.new result }
 {
     let at = slot * TOKEN_WORDS;
     let end = at + TOKEN_WORDS;
@@ -184,11 +168,10 @@ pub fn write(a: Answer, tokens: &[u64], dacls: &[u8], out: &mut [u8]) -> usize
     ensures { WroteFrame (answer_of tokens.now dacls.now a) out.old out.new result }
 {
     match a {
-        Answer::Refused(n) => put(1, n, 0, 0, out),
-        Answer::TooSmall(size) => put(2, refusal::CAPACITY_BELOW, size, 0, out),
-        Answer::Done => put(1, 0, 0, 0, out),
-        Answer::Value(v) => put(2, 0, v, 0, out),
-        Answer::Values(v, w) => put(3, 0, v, w, out),
+        Answer::Refused(r) => put_refusal(r, out),
+        Answer::Done => put(&[0], out),
+        Answer::Value(v) => put(&[0, v], out),
+        Answer::Values(v, w) => put(&[0, v, w], out),
         Answer::Report(w) => put_report(w, out),
         Answer::Class { slot, class } => put_class_at(slot, class, tokens, dacls, out),
     }

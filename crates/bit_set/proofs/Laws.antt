@@ -10,7 +10,7 @@ use lib.Bits.{bit_or}
 use lib.Dec.{eqb}
 use lib.ListN.{length, get_or, set, take, replicate, get_or-eq_default}
 use lib.Seq.{get_or-set_same, get_or-set_other, get_or-take, set_out}
-use borrow.Author.Tests.{eqb-true, eqb-false, eq-eqb, ne_eqb}
+use borrow.Author.Tests.{lt-ltb, le-ltb, eqb-true, eqb-false, eq-eqb, ne_eqb}
 use Rattle.rules.specs.Bits.{has}
 use Rattle.rules.proofs.Bits.{has_or, has_none, has_power, power_inside}
 use Rattle.rules.proofs.Logic.{either}
@@ -78,3 +78,5 @@ module _ (i j : ℕ) where
         (λ t. in_its_word h (eqb-true (j / word_bits) (i / word_bits) t))
         (λ t. in_another (eqb-false (j / word_bits) (i / word_bits) t))
         (either (eqb (j / word_bits) (i / word_bits)))
+
+pub ruleset words = (enters, enters_none, none_past, le-ltb, lt-ltb)

@@ -1,116 +1,149 @@
--- For each layout: the fields that a cursor read one after the other are those of the request. Assumes nothing.
-use Prim.Native.Nat.{ℕ, ◌*◌}
+-- Lists in a body, and the user of a create request: what was skipped is what the layout reads. Assumes nothing.
+use Prim.Native.Nat.{ℕ, ◌≤◌, max}
 use native.Mathlib.Omega.{arith}
-use mathlib.Core.Path.{◌≡◌, sym, ◌∙◌}
-use mathlib.Core.Bool.{Bool, true}
-use mathlib.Core.List.{List, []}
-use lib.ListN.{get_or, drop}
-use Rattle.rules.specs.Number.{read_number, max16, max32, max64}
-use Rattle.rules.specs.Sid.{sid_in}
-use Rattle.rules.specs.Given.{Given, by_number, by_sid}
-use Rattle.rules.specs.Request.{Request, Reader, ◌>>=◌, create, query, scope, defaults, duplicate, restrict, link, u16, u32, u64, byte, times, sid_number, packed_sid, group, entry, number_layout, entries_layout, create_layout, query_layout, scope_layout, defaults_layout, duplicate_layout, restrict_layout, link_layout, layouts, unknown, parse}
-use Rattle.number.specs.Rest.{read_from, is_end}
-use Rattle.number.specs.Meaning.{rest_of, FieldAfter, Onward}
-use Rattle.number.specs.declared.cursor.Cursor.{Cursor}
-use Rattle.number.specs.declared.cursor.Field.{Field}
-use Rattle.body.specs.Layout.{whole, Begun, NothingRead, NumberRead, values_at, Listed, EntriesRead, PackedCreateRead, RestrictRead}
-use Rattle.body.proofs.Layouts.{Onto, ◌then◌, field, thing, ended, ends, at_end, values, list_there, list_was, list_ends, pairs_onward}
-use Rattle.body.proofs.Sids.{groups_onward, sid_field, packed_only, packed_first}
+use mathlib.Core.Path.{◌≡◌, refl, sym, ap, subst, ◌∙◌}
+use mathlib.Core.Bool.{Bool, true, false}
+use mathlib.Core.List.{List, [], ◌∷◌}
+use denote.Ref.{Bor}
+use lib.ListN.{length, drop}
+use Rattle.std.specs.Prelude.{Option, Some, None, IfSome, if◌then◌else◌}
+use Rattle.std.specs.Bool.{then_some}
+use Rattle.rules.specs.Basic.{is_empty}
+use Rattle.rules.specs.Number.{Read, got, bad, read_number}
+use Rattle.rules.specs.Sid.{is_packed, sid_in}
+use Rattle.rules.specs.Given.{Given, by_sid}
+use Rattle.rules.specs.Request as rules
+use Rattle.rules.specs.Request.{Request, times, end, group, create_layout, packed_sid, ◌>>=◌, follow}
+use Rattle.number.specs.Rest.{after}
+use Rattle.number.specs.Reader.{rest_of, Onward, ReadOn, PassedOn}
+use Rattle.number.specs.declared.reader.Reader.{Reader}
+use Rattle.body.specs.declared.fields.CreateFields.{CreateFields}
+use Rattle.body.specs.Layout.{whole, listed, ListedTo, Listed, BehindUser, CreateRead, PackedCreateRead}
+use Rattle.body.proofs.Lists.{further}
+use Rattle.body.proofs.Sids.{packed_only}
+use Rattle.body.proofs.Steps.{bind_got, bind_lost, bind_list, end_at, whole_then}
 
-pub begun : (s : List ℕ) (c : Cursor) (n : Field) → (c.at ≡ 0) × (c.ok ≡ true) → FieldAfter s c max32 n → Begun s n
-unfolding parse u32 read_from
-begun s c n e p = record {
-  parsed = sym (field (λ k. get_or layouts k unknown) p).same ∙ rw (e.0, e.1);
-  inside = omega arith;
-}
+pub same_bytes : {r r' : Reader} → Onward r r' → r'.body.now ≡ r.body.now
+same_bytes o = ap (λ (b : Bor (List ℕ)). b.now) o.body
 
-module _ (s : List ℕ) (c : Cursor) (ok : Bool) where
-  pub nothing_read : ok ≡ is_end (rest_of s c) → NothingRead s c ok
-  nothing_read e = record { parsed = λ request. ended request (rest_of s c) e }
+-- where all was there, the fields are these
+pub on_some : {F : Type 0} (P : F → Type 0) {r : Option F} {ok : Bool} (f : F) → r ≡ then_some ok f → (ok ≡ true → P f) → IfSome r P
+on_some P {r} {ok} f e h = subst (λ x. IfSome x P) (sym e) (by ok h)
+  where
+    by : (b : Bool) → (b ≡ true → P f) → IfSome (then_some b f) P
+    by true k = k refl
+    by false k = tt
 
-  module _ (a : Field) (p : FieldAfter s c max32 a) where
-    pub number_read : ok ≡ is_end (rest_of s a.next) → NumberRead s c ok a.value
-    unfolding number_layout u32
-    number_read e = record { parsed = λ request. ends _ e (field _ p) }
+pub on_none : {F : Type 0} (P : F → Type 0) {r : Option F} → r ≡ None → IfSome r P
+on_none P e = subst (λ x. IfSome x P) (sym e) tt
 
-    module _ (b : Field) (q : FieldAfter s a.next max32 b) where
-      pub scope_read : ok ≡ is_end (rest_of s b.next) → whole ok (scope a.value b.value) ≡ read_from scope_layout (rest_of s c)
-      unfolding scope_layout u32
-      scope_read e = ends _ e (field _ p then field _ q)
+-- ---- lists
 
-      pub entries_read : (r : Cursor) → Onward s b.next (times (2 * b.value) (read_number max32)) r → ok ≡ is_end (rest_of s r)
-          → EntriesRead s c ok a.value b.next.at b.value
-      unfolding entries_layout u32 entry
-      entries_read r o e = record {
-        read =
-            λ request.
-            list_ends entry b.value (pairs_onward (λ k v. record { key = k; value = v }) b.value o) (request a.value) e (field _ p then field _ q);
-      }
+module _ {A : Type 0} (p : rules.Reader A) {start r r' : Reader} (n : ℕ) (o : Onward start r) (h : PassedOn (times n p) r r' (Some tt)) where
+  pub list_to : ListedTo start p r.at n (rest_of r')
+  unfolding listed after
+  list_to = record { there = by (times n p (drop r.at start.body.now)) means; inside = o.inside }
+    where
+      means : Some (rest_of r') ≡ after (times n p (drop r.at start.body.now))
+      means = h.means ∙ ap (λ (s : List ℕ). after (times n p (drop r.at s))) (same_bytes o)
 
-      pub link_read : (d : Field) → FieldAfter s b.next max64 d → ok ≡ is_end (rest_of s d.next)
-          → whole ok (link a.value b.value d.value) ≡ read_from link_layout (rest_of s c)
-      unfolding link_layout u32 u64
-      link_read d t e = ends _ e (field _ p then field _ q then field _ t)
+      by : (x : Read (List A)) → Some (rest_of r') ≡ after x → x ≡ got (listed x) (rest_of r')
+      by (got xs l) e = let k : rest_of r' ≡ l = cc in ap (got xs) (sym k)
+      by bad e = cc
 
-      module _ (d : Field) (t : FieldAfter s b.next max32 d) where
-        pub query_read : ok ≡ is_end (rest_of s d.next) → whole ok (query a.value b.value d.value) ≡ read_from query_layout (rest_of s c)
-        unfolding query_layout u32
-        query_read e = ends _ e (field _ p then field _ q then field _ t)
+  -- before another place, where the body is the same
+  pub list_before : ListedTo start p r.at n (drop r'.at start.body.now)
+  list_before = subst (ListedTo start p r.at n) (ap (drop r'.at) (same_bytes (further o h.onward))) list_to
 
-        pub duplicate_read : (f : Field) → FieldAfter s d.next max32 f → ok ≡ is_end (rest_of s f.next)
-            → whole ok (duplicate a.value b.value d.value f.value) ≡ read_from duplicate_layout (rest_of s c)
-        unfolding duplicate_layout u32
-        duplicate_read f u e = ends _ e (field _ p then field _ q then field _ t then field _ u)
+  pub list_ends : {ok : Bool} → ok ≡ is_empty (rest_of r') → ok ≡ true → Listed start p r.at n
+  unfolding is_empty
+  list_ends e d = subst (ListedTo start p r.at n) (none (rest_of r') (sym e ∙ d)) list_to
+    where
+      none : (l : List ℕ) → is_empty l ≡ true → l ≡ []
+      none [] k = refl
+      none (b ∷ l) k = cc
 
-module _ (s : List ℕ) (c : Cursor) (ok : Bool) (r : Cursor) (e : ok ≡ is_end (rest_of s r)) where
-  pub defaults_read : (h o g f n : Field) → FieldAfter s c max32 h → FieldAfter s h.next max16 o → FieldAfter s o.next max16 g
-      → FieldAfter s g.next max32 f → FieldAfter s f.next max32 n → Onward s n.next (times n.value byte) r
-      → Listed s c byte defaults_layout (defaults h.value o.value g.value f.value (values_at byte s n.next.at n.value)) ok n.next.at n.value
-  unfolding defaults_layout u16 u32
-  defaults_read h o g f n p q t u v w =
-      list_ends byte n.value w (defaults h.value o.value g.value f.value) e
-      (field _ p then field _ q then field _ t then field _ u then field _ v)
+-- ---- a layout, step by step
 
-  -- i reads a SID: x is the user, read up to a
-  create_listed : (i : Reader Given) (a : Cursor) (x : Given) (b d f g n : Field) → ((k : Given → Reader Request) → Onto s c (◌>>=◌ i k) a (k x))
-      → FieldAfter s a max64 b → FieldAfter s b.next max32 d → FieldAfter s d.next max64 f → FieldAfter s f.next max64 g
-      → FieldAfter s g.next max32 n → Onward s n.next (times n.value (group i)) r
-      → Listed s c (group i) (create_layout i) (create x b.value d.value f.value g.value (values_at (group i) s n.next.at n.value)) ok n.next.at n.value
-  unfolding create_layout u32 u64
-  create_listed i a x b d f g n p q t u v w o =
-      list_ends (group i) n.value o (create x b.value d.value f.value g.value) e
-      (p _ then field _ q then field _ t then field _ u then field _ v then field _ w)
+-- a number, and what is read behind it
+pub step : {B : Type 0} {limit : ℕ} (f : ℕ → rules.Reader B) {r r' : Reader} {v : ℕ} → ReadOn (read_number limit) limit r r' (Some v)
+    → ◌>>=◌ (read_number limit) f (rest_of r) ≡ f v (rest_of r')
+step {limit = limit} f {r} {r'} {v} h = bind_got (read_number limit) f (rest_of r) v (rest_of r') h.means
 
-  pub create_read : (a b d f g n : Field) → FieldAfter s c max32 a → FieldAfter s a.next max64 b → FieldAfter s b.next max32 d
-      → FieldAfter s d.next max64 f → FieldAfter s f.next max64 g → FieldAfter s g.next max32 n
-      → Onward s n.next (times (2 * n.value) (read_number max32)) r
-      → Listed s c (group sid_number) (create_layout sid_number) (create (by_number a.value) b.value d.value f.value g.value (values_at (group sid_number) s n.next.at n.value)) ok n.next.at n.value
-  create_read a b d f g n p q t u v w o = create_listed sid_number a.next (by_number a.value) b d f g n (λ k. sid_field k p) q t u v w (groups_onward n.value o)
+module _ {A B : Type 0} (p : rules.Reader A) (n : ℕ) (f : List A → rules.Reader B) {r r' : Reader} where
+  pub list_step : {start : Reader} → Onward start r → PassedOn (times n p) r r' (Some tt)
+      → ◌>>=◌ (times n p) f (rest_of r) ≡ f (listed (times n p (drop r.at start.body.now))) (rest_of r')
+  list_step {start} o h =
+      bind_list (times n p) f (rest_of r) (rest_of r') h.means
+      ∙ ap (λ (s : List ℕ). f (listed (times n p (drop r.at s))) (rest_of r')) (same_bytes o)
 
-  pub packed_create_read : (a : Cursor) (b d f g n : Field) → Onward s c packed_sid a → FieldAfter s a max64 b → FieldAfter s b.next max32 d
-      → FieldAfter s d.next max64 f → FieldAfter s f.next max64 g → FieldAfter s g.next max32 n
-      → Onward s n.next (times n.value (group packed_sid)) r
-      → PackedCreateRead s c ok c.at b.value d.value f.value g.value n.next.at n.value
-  unfolding create_layout
-  packed_create_read a b d f g n p q t u v w o =
-      let x = create_listed packed_sid a (by_sid (sid_in (drop c.at s))) b d f g n (λ k. thing packed_sid (packed_only (drop c.at s)) p k) q t u v w o in
-      record {
-        groups = x;
-        user = λ h. packed_first (drop c.at s) _ c.ok _ [] (rw h at x).parsed;
-        inside = omega arith;
-      }
+  pub list_lost : PassedOn (times n p) r r' None → ◌>>=◌ (times n p) f (rest_of r) ≡ bad
+  list_lost h = bind_lost (times n p) f (rest_of r) h.means
 
-  pub restrict_read : (i : Reader Given) (h m x d n : Field) (z : Cursor) → FieldAfter s c max32 h → FieldAfter s h.next max32 m → FieldAfter s m.next max64 x
-      → FieldAfter s x.next max32 d → FieldAfter s d.next max32 n → Onward s n.next (times d.value (read_number max32)) z
-      → Onward s z (times n.value i) r
-      → RestrictRead i s c ok h.value m.value x.value n.next.at d.value z.at n.value
-  unfolding restrict_layout u32 u64
-  restrict_read i h m x d n z p q t u v y w =
-      let fields = field _ p then field _ q then field _ t then field _ u then field _ v in
-      record {
-        sids =
-            list_ends i n.value w (restrict h.value m.value x.value (values_at u32 s n.next.at d.value)) e
-            (fields then values u32 d.value y _);
-        deny = λ o. list_there u32 d.value y (list_was i n.value w (at_end r.ok (drop r.at s) (sym e ∙ o)).0);
-        inside = fields.inside;
-      }
+module _ {F : Type 0} (request : F → Request) {x : Read Request} {r : Option F} where
+  pub finish : {ok : Bool} (f : F) (bytes : List ℕ) → r ≡ then_some ok f → ok ≡ is_empty bytes → x ≡ end (request f) bytes → whole request r ≡ x
+  finish {ok} f bytes e d q = whole_then request r ok f e ∙ ap (λ (b : Bool). if b then got (request f) [] else bad) d ∙ sym (end_at (request f) bytes) ∙ sym q
+
+  pub refuse : r ≡ None → x ≡ bad → whole request r ≡ x
+  refuse e q = ap (whole request) e ∙ sym q
+
+-- ---- the user
+
+module _ {U : Type 0} (p : rules.Reader Given) (of : U → Given) where
+  pub no_user : (r : Reader) → bad ≡ p (rest_of r) → (x : Option (CreateFields U)) → x ≡ None → CreateRead p of r x
+  unfolding create_layout ◌>>=◌ follow
+  no_user r e x z = subst (CreateRead p of r) (sym z) (record { parsed = rw (sym e); there = tt })
+
+  -- behind the user, the rest is read on
+  pub with_user : (user : U) {r m : Reader} → Onward r m → got (of user) (rest_of m) ≡ p (rest_of r) → (x : Option (CreateFields U)) → BehindUser p user m x → CreateRead p of r x
+  with_user user {r} {m} o e None b = record { parsed = b.parsed (rest_of r) (of user) e; there = tt }
+  with_user user {r} {m} o e (Some f) b = record {
+    parsed =
+        ap (λ (z : U × List ℕ). whole {F = CreateFields U} (λ y. rules.create (of z.0) y.session y.integrity y.present y.by_default (listed (times y.count (group p) (drop y.at z.1)))) (Some f))
+        {x = (f.user, r.body.now)} {y = (user, m.body.now)} (pair b.same (sym (same_bytes o)))
+        ∙ b.parsed (rest_of r) (of user) e;
+    there = record {
+      there = ap (λ (s : List ℕ). times f.count (group p) (drop f.at s)) (sym (same_bytes o)) ∙ b.there.there ∙ ap (λ (s : List ℕ). got (listed (times f.count (group p) (drop f.at s))) []) (same_bytes o);
+      inside = omega (arith, b.there.inside, o, ap length (same_bytes o));
+    };
+  }
+    where
+      pair : {x y : U} {s t : List ℕ} → x ≡ y → s ≡ t → ◌≡◌ {A = U × List ℕ} (x, s) (y, t)
+      pair d q = cc
+
+-- the SID of a packed user
+pub packed_there : {r m : Reader} → PassedOn packed_sid r m (Some tt) → (got (by_sid (sid_in (rest_of r))) (rest_of m) ≡ packed_sid (rest_of r)) × (is_packed (rest_of r) ≡ true)
+unfolding after
+packed_there {r} {m} h = by (packed_sid (rest_of r)) refl h.means
+  where
+    by : (x : Read Given) → packed_sid (rest_of r) ≡ x → Some (rest_of m) ≡ after x → (got (by_sid (sid_in (rest_of r))) (rest_of m) ≡ packed_sid (rest_of r)) × (is_packed (rest_of r) ≡ true)
+    by (got g l) e d =
+        let k : rest_of m ≡ l = cc in
+        let f = packed_only (rest_of r) g l e in
+        (cc (k, f.0, e), f.1)
+    by bad e d = cc
+
+pub packed_lost : {r m : Reader} → PassedOn packed_sid r m None → bad ≡ packed_sid (rest_of r)
+unfolding after
+packed_lost {r} h = by (packed_sid (rest_of r)) h.means
+  where
+    by : (x : Read Given) → None ≡ after x → bad ≡ x
+    by (got g l) d = cc
+    by bad d = refl
+
+module _ {r : Reader} where
+  pub no_packed_user : {m : Reader} → PassedOn packed_sid r m None → (x : Option (CreateFields ℕ)) → x ≡ None → PackedCreateRead r x
+  no_packed_user h x z = record {
+    read = no_user packed_sid (λ at. by_sid (sid_in (drop at r.body.now))) r (packed_lost h) x z;
+    user = on_none (λ f. (is_packed (drop f.user r.body.now) ≡ true) × (f.user ≤ max r.at (length r.body.now))) z;
+  }
+
+  pub packed_user : {m : Reader} → PassedOn packed_sid r m (Some tt) → (x : Option (CreateFields ℕ)) → BehindUser packed_sid r.at m x → PackedCreateRead r x
+  packed_user h x b = record {
+    read = with_user packed_sid (λ at. by_sid (sid_in (drop at r.body.now))) r.at h.onward (packed_there h).0 x b;
+    user = by x b.same;
+  }
+    where
+      by : (y : Option (CreateFields ℕ)) → IfSome y (λ f. f.user ≡ r.at) → IfSome y (λ f. (is_packed (drop f.user r.body.now) ≡ true) × (f.user ≤ max r.at (length r.body.now)))
+      by None e = tt
+      by (Some f) e = (ap (λ (k : ℕ). is_packed (drop k r.body.now)) e ∙ (packed_there h).1, omega (arith, e))

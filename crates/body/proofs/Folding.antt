@@ -1,5 +1,6 @@
 -- A loop that reads one thing after the other and takes a step for each: what is left gives what the whole gives. Assumes nothing.
-use Prim.Native.Nat.{ℕ, ◌-◌, ◌≤◌, ◌<◌}
+use Prim.Native.Nat.{ℕ, ◌+◌, ◌-◌, ◌≤◌, ◌<◌}
+use native.Mathlib.Omega.{arith}
 use mathlib.Core.Path.{◌≡◌, refl, sym, ap, ◌∙◌}
 use mathlib.Core.List.{List}
 use lib.ListN.{drop}
@@ -30,3 +31,17 @@ module _ {A X : Type 0} (p : Reader A) (step : A → X → X) (stop : X) where
         ∙ sym (folded_joined x a (times (left - 1) p (drop q s)))
         ∙ ap (folded step stop x) (sym (times_next p left (drop at s) (drop q s) a h e))
         ∙ inv
+
+  -- the same in a loop that counts up to n: it is at the i-th
+  module _ (s : List ℕ) (at n i : ℕ) (x z : X) (inv : folded step stop x (times (n - i) p (drop at s)) ≡ z) where
+    pub count_end : n ≤ i → x ≡ z
+    count_end h = fold_end s at (n - i) x z inv (omega arith)
+
+    pub count_lost : i < n → bad ≡ p (drop at s) → stop ≡ z
+    count_lost h = fold_lost s at (n - i) x z inv (omega arith)
+
+    pub count_next : i < n → (a : A) (q : ℕ) → got a (drop q s) ≡ p (drop at s) → (y : X) → y ≡ step a x
+        → folded step stop y (times (n - (i + 1)) p (drop q s)) ≡ z
+    count_next h a q e y f =
+        ap (λ (k : ℕ). folded step stop y (times k p (drop q s))) {x = n - (i + 1)} {y = n - i - 1} (omega arith)
+        ∙ fold_next s at (n - i) x z inv (omega arith) a q e y f

@@ -1,7 +1,8 @@
+pub mod Steps
+pub mod Lists
 pub mod Pairs
-pub mod Passes
-pub mod Layouts
-pub mod Skipping
-pub mod Sids
-pub mod Bodies
 pub mod Folding
+pub mod Passes
+pub mod Sids
+pub mod Skipping
+pub mod Bodies

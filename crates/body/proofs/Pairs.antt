@@ -3,20 +3,19 @@ use Prim.Native.Nat.{ℕ, zero, suc, ◌-◌, ◌≤◌, ◌<◌}
 use native.Mathlib.Numerals.{sub-one}
 use native.Mathlib.Omega.{arith}
 use mathlib.Core.Path.{◌≡◌, refl, sym, ap, ◌∙◌}
-use mathlib.Core.Bool.{false, ◌&&◌}
+use mathlib.Core.Bool.{Bool, false, ◌&&◌}
 use mathlib.Core.List.{List, [], ◌∷◌}
 use lib.Dec.{eqb}
 use lib.ListN.{length, drop}
 use Rattle.rules.specs.Number.{Read, got, bad, read_number, max32}
 use Rattle.rules.specs.Entry.{Entry, is_only}
 use Rattle.rules.specs.Request.{Reader, follow, ◌>>=◌, give, times, u32, entry}
+use borrow.Author.Tests.{ne_eqb}
+use Rattle.std.specs.Prelude.{Option, Some, None, MatchOption}
 use Rattle.number.specs.declared.Number.{Number}
-use Rattle.number.specs.declared.Number.TheVariants as number
 use Rattle.number.specs.Meaning.{NumberAt}
-use Rattle.number.proofs.Reading.{is_bad, is_value, bounds}
 use Rattle.body.specs.Entries.{entry_of, pair_of, PairAt, is_just}
-use Rattle.body.specs.declared.entry.Pair.{Pair}
-use Rattle.body.specs.declared.entry.Pair.TheVariants as pair
+use Rattle.body.specs.declared.entry.Entry as code
 
 -- ---- one entry
 
@@ -34,30 +33,27 @@ module _ (bytes : List ℕ) where
     unfolding entry ◌>>=◌ follow u32 give
     entry_whole v last f = rw (sym e) (rw (sym f))
 
--- a is what stands at the place, b what stands after it
-module _ (s : List ℕ) (at : ℕ) (a : Number) (f : NumberAt s at max32 a) where
-  pub no_key : a ≡ number.Bad → PairAt s at pair.Bad
-  no_key g = record { means = entry_none (drop at s) (is_bad s at max32 a f g); bounds = tt }
+module _ (s : List ℕ) (at : ℕ) where
+  pub no_key : NumberAt s at max32 None → PairAt s at None
+  no_key f = record { means = entry_none (drop at s) f.means; bounds = tt }
 
-  module _ (k m : ℕ) (g : a ≡ number.Value k m) (b : Number) (h : NumberAt s m max32 b) where
-    pub no_value : b ≡ number.Bad → PairAt s at pair.Bad
-    no_value i = record { means = entry_half (drop at s) k (drop m s) (is_value s at max32 a f k m g) (is_bad s m max32 b h i); bounds = tt }
+  -- a is what stands at the place, b what stands after it
+  module _ (a : Number) (f : NumberAt s at max32 (Some a)) where
+    pub no_value : NumberAt s a.next max32 None → PairAt s at None
+    no_value h = record { means = entry_half (drop at s) a.value (drop a.next s) f.means h.means; bounds = tt }
 
-    pub key_value : (v q : ℕ) → b ≡ number.Value v q → PairAt s at (pair.Got k v q)
-    key_value v q i =
-        let x = bounds s at max32 a f k m g in
-        let y = bounds s m max32 b h v q i in
-        record {
-          means = entry_whole (drop at s) k (drop m s) (is_value s at max32 a f k m g) v (drop q s) (is_value s m max32 b h v q i);
-          bounds = (omega (arith, x, y), omega (arith, y), omega (arith, x), omega (arith, y));
-        }
+    pub key_value : (b : Number) → NumberAt s a.next max32 (Some b) → PairAt s at (Some (record { key = a.value; value = b.value; next = b.next }))
+    key_value b h = record {
+      means = entry_whole (drop at s) a.value (drop a.next s) f.means b.value (drop b.next s) h.means;
+      bounds = (omega (arith, f.bounds, h.bounds), h.bounds.1, f.bounds.2, h.bounds.2);
+    }
 
 -- what the reader's answer says, by its case
-module _ (s : List ℕ) (at : ℕ) (r : Pair) (f : PairAt s at r) where
-  pub is_none : r ≡ pair.Bad → bad ≡ entry (drop at s)
+module _ (s : List ℕ) (at : ℕ) (r : Option code.Entry) (f : PairAt s at r) where
+  pub is_none : r ≡ None → bad ≡ entry (drop at s)
   is_none g = ap (pair_of s) (sym g) ∙ f.means
 
-  pub is_pair : (k v q : ℕ) → r ≡ pair.Got k v q → got (entry_of k v) (drop q s) ≡ entry (drop at s)
+  pub is_pair : (k v q : ℕ) → r ≡ Some (record { key = k; value = v; next = q }) → got (entry_of k v) (drop q s) ≡ entry (drop at s)
   is_pair k v q g = ap (pair_of s) (sym g) ∙ f.means
 
 -- ---- several things
@@ -111,16 +107,21 @@ other k v n (got (x ∷ y ∷ es) later) h e = refl
 other k v n bad h e = refl
 
 module _ (k v : ℕ) (s : List ℕ) (at n : ℕ) where
-  pub not_one : (n ≡ 1 → ⊥) → false ≡ is_just k v (times n entry (drop at s))
-  not_one h = other k v n (times n entry (drop at s)) h (times_long entry n (drop at s))
+  pub not_one : (n ≡ 1 → ⊥) → eqb n 1 ≡ is_just k v (times n entry (drop at s))
+  not_one h = ne_eqb n 1 h ∙ other k v n (times n entry (drop at s)) h (times_long entry n (drop at s))
 
-  module _ (r : Pair) (f : PairAt s at r) (h : n ≡ 1) where
-    pub one_bad : r ≡ pair.Bad → false ≡ is_just k v (times n entry (drop at s))
-    unfolding is_just
-    one_bad g = ap (is_just k v) (sym (times_lost entry n (drop at s) (omega arith) (is_none s at r f g)))
+  one_bad : n ≡ 1 → PairAt s at None → false ≡ is_just k v (times n entry (drop at s))
+  unfolding is_just
+  one_bad h f = ap (is_just k v) (sym (times_lost entry n (drop at s) (omega arith) f.means))
 
-    pub just_one : (x y q : ℕ) → r ≡ pair.Got x y q → (eqb x k && eqb y v) ≡ is_just k v (times n entry (drop at s))
-    unfolding is_just is_only follow give
-    just_one x y q g =
-        ap (λ (l : Read (List Entry)). is_just k v (joined entry (entry_of x y) l)) (sym (times_end entry (n - 1) (drop q s) (omega arith)))
-        ∙ ap (is_just k v) (sym (times_next entry n (drop at s) (drop q s) (entry_of x y) (omega arith) (is_pair s at r f x y q g)))
+  just_one : n ≡ 1 → (e : code.Entry) → PairAt s at (Some e) → (eqb e.key k && eqb e.value v) ≡ is_just k v (times n entry (drop at s))
+  unfolding is_just is_only follow give
+  just_one h e f =
+      ap (λ (l : Read (List Entry)). is_just k v (joined entry (entry_of e.key e.value) l)) (sym (times_end entry (n - 1) (drop e.next s) (omega arith)))
+      ∙ ap (is_just k v) (sym (times_next entry n (drop at s) (drop e.next s) (entry_of e.key e.value) (omega arith) f.means))
+
+  -- Q is what the test says of an entry
+  pub just_read : n ≡ 1 → (r : Option code.Entry) → PairAt s at r → {b : Bool} {Q : code.Entry → Type 0} → MatchOption r (b ≡ false) Q
+      → ((e : code.Entry) → Q e → b ≡ (eqb e.key k && eqb e.value v)) → b ≡ is_just k v (times n entry (drop at s))
+  just_read h None f d q = d ∙ one_bad h f
+  just_read h (Some e) f d q = q e d ∙ just_one h e f

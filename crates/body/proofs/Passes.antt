@@ -77,6 +77,10 @@ regroup false h a f m d = refl
 regroup true true a f m d = ap (λ (x : Bool). a && x) (and_assoc f m d)
 regroup true false a f m d = sym (and-false a)
 
+not_or : (v n : Bool) → not (not v || n) ≡ (v && not n)
+not_or true n = refl
+not_or false n = refl
+
 module _ {X : Type 0} (good : Entry → Bool) (make : Entry → X → X) where
   -- ---- one turn, by its test: o no entry was bad so far, v this one is good, n it is named already
   module _ (o v n : Bool) (x : X) (w k a : ℕ) (ev : v ≡ good (entry_of k a)) (en : n ≡ has k w) where
@@ -159,15 +163,30 @@ module _ {X : Type 0} (good : Entry → Bool) (make : Entry → X → X) where
       ap (λ (b : Bool). if not b then passed good make x (got (e ∷ es) later) else stopped) (ne_eqb n 0 (omega arith)) ∙ all_passed (e ∷ es) x
   not_empty n x bad l = none_left (not (eqb n 0))
 
-  -- o no entry was bad; y and w are what the pass made
-  pub pass_whole : (o : Bool) (y : X) (w : ℕ) (x : X) (n : ℕ) (bytes : List ℕ)
-      → (if o then going y w else stopped) ≡ passed good make x (times n entry bytes)
-      → (if o && not (eqb n 0) then going y w else stopped) ≡ whole x (times n entry bytes)
-  pass_whole o y w x n bytes e =
-      by o (not (eqb n 0))
-      ∙ ap (λ (g : Progress X). if not (eqb n 0) then g else stopped) e
-      ∙ not_empty n x (times n entry bytes) (times_long entry n bytes)
-    where
-      by : (a b : Bool) → (if a && b then going y w else stopped) ≡ (if b then (if a then going y w else stopped) else stopped)
-      by true b = refl
-      by false b = sym (none_left b)
+  -- ---- a loop that leaves at the first bad entry
+
+  -- v this one is good, n it is named already
+  module _ (v n : Bool) (x : X) (w k a : ℕ) (ev : v ≡ good (entry_of k a)) (en : n ≡ has k w) where
+    pub goes_on : (not v || n) ≡ false → k < 64 → (x' : X) → x' ≡ make (entry_of k a) x → (b w' : ℕ) → b ≡ 2 ^ k % 2 ^ 64 → w' ≡ bit_or w b
+        → going x' w' ≡ turned good make (entry_of k a) (going x w)
+    goes_on h = turn_good true v n x w k a ev en (sym (not_or v n) ∙ ap not h)
+
+    pub stops : (not v || n) ≡ true → stopped ≡ turned good make (entry_of k a) (going x w)
+    stops h = turn_bad true v n x w k a ev en (sym (not_or v n) ∙ ap not h)
+
+  -- what comes after is not looked at
+  stays_stopped : (r : Read (List Entry)) → folded (turned good make) stopped stopped r ≡ stopped
+  unfolding folded
+  stays_stopped (got es later) = stays es
+  stays_stopped bad = refl
+
+  pub stops_all : (r : Read (List Entry)) {z : Progress X} → folded (turned good make) stopped stopped r ≡ z → stopped ≡ z
+  stops_all r e = sym (stays_stopped r) ∙ e
+
+  pub none_whole : (x : X) (n : ℕ) (bytes : List ℕ) → n ≡ 0 → stopped ≡ whole x (times n entry bytes)
+  none_whole x n bytes h =
+      sym (ap (λ (b : Bool). if not b then passed good make x (times n entry bytes) else stopped) (eq-eqb n 0 h)) ∙ not_empty n x (times n entry bytes) (times_long entry n bytes)
+
+  pub some_whole : (x : X) (n : ℕ) (bytes : List ℕ) → (n ≡ 0 → ⊥) → passed good make x (times n entry bytes) ≡ whole x (times n entry bytes)
+  some_whole x n bytes h =
+      sym (ap (λ (b : Bool). if not b then passed good make x (times n entry bytes) else stopped) (ne_eqb n 0 h)) ∙ not_empty n x (times n entry bytes) (times_long entry n bytes)

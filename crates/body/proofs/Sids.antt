@@ -1,25 +1,24 @@
 -- SIDs and groups in a body, by number or packed: what their readers give and leave. Assumes nothing.
-use Prim.Native.Nat.{ℕ, ◌+◌, ◌*◌, ◌≤◌, ◌<◌, ◌^◌}
+use Prim.Native.Nat.{ℕ, ◌+◌, ◌*◌, ◌≤◌}
 use native.Mathlib.Omega.{arith}
 use mathlib.Core.Path.{◌≡◌, refl, sym, ap, ◌∙◌}
-use mathlib.Core.Bool.{Bool, true, false, not}
+use mathlib.Core.Bool.{Bool, true, false}
 use mathlib.Core.List.{List}
 use lib.ListN.{length, drop, length-drop}
 use lib.Seq.{drop-drop}
-use Rattle.std.specs.Prelude.{if◌then◌else◌}
+use Rattle.std.specs.Prelude.{Option, Some, None}
 use Rattle.rules.specs.Number.{Read, got, bad, read_number, max32}
 use Rattle.rules.specs.Sid.{is_packed, sid_size, sid_in, read_sid}
 use Rattle.rules.specs.Given.{Given, by_number, by_sid, GivenGroup}
-use Rattle.rules.specs.Request.{Reader, ◌>>=◌, follow, give, times, u32, sid_number, packed_sid, group}
-use Rattle.rules.proofs.Sids.{whole}
+use Rattle.rules.specs.Request as rules
+use Rattle.rules.specs.Request.{◌>>=◌, follow, give, times, u32, sid_number, packed_sid, group}
+use Rattle.rules.proofs.Sids.{whole, long_8}
 use Rattle.sid.specs.Reading.{packed_size}
-use Rattle.sid.proofs.Reading.{size_zero, size_some, size_is}
-use Rattle.number.specs.Rest.{Rest, rest, lost, read_from, after}
-use Rattle.number.specs.Meaning.{rest_of, FieldAfter, Onward}
-use Rattle.number.specs.declared.cursor.Cursor.{Cursor}
-use Rattle.number.specs.declared.cursor.Field.{Field}
-use Rattle.number.proofs.Cursors.{reads, reads_not, is_on, is_off}
-use Rattle.body.proofs.Layouts.{Onto, Only, field, pair_of, pairs_onward, alike_onward}
+use Rattle.sid.proofs.Reading.{size_none, size_some, size_is}
+use Rattle.number.specs.Rest.{after}
+use Rattle.number.specs.Reader.{rest_of, left_of, ReadOn, PassedOn}
+use Rattle.number.specs.declared.reader.Reader.{Reader}
+use Rattle.body.proofs.Lists.{further, pair_of, pairs_passed, alike_passed}
 
 abbrev pub group_of : Given → ℕ → GivenGroup
 group_of x a = record { sid = x; attributes = a }
@@ -43,9 +42,9 @@ module _ (bytes : List ℕ) where
       by (got n later) e = ap after (number_there n later e)
       by bad e = ap after (no_number_lem e)
 
-pub numbers_onward : {s : List ℕ} {c r : Cursor} (n : ℕ) → Onward s c (times n (read_number max32)) r → Onward s c (times n sid_number) r
+pub numbers_passed : {r r' : Reader} {u : Option (Unit {0})} (n : ℕ) → PassedOn (times n (read_number max32)) r r' u → PassedOn (times n sid_number) r r' u
 unfolding u32
-numbers_onward n h = alike_onward u32 sid_number number_after n h
+numbers_passed n h = alike_passed u32 sid_number number_after n h
 
 -- their groups are pairs of numbers
 abbrev numbers : ℕ → ℕ → GivenGroup
@@ -55,31 +54,15 @@ group_after : (bytes : List ℕ) → after (pair_of numbers bytes) ≡ after (gr
 unfolding group sid_number ◌>>=◌ follow give
 group_after bytes = by (u32 bytes)
   where
-    rest_of_lem : Given → Reader GivenGroup
+    rest_of_lem : Given → rules.Reader GivenGroup
     rest_of_lem x = λ l. follow (u32 l) (λ a. give (group_of x a))
 
     by : (x : Read ℕ) → after (follow x (λ n. rest_of_lem (by_number n))) ≡ after (follow (follow x (λ n. give (by_number n))) rest_of_lem)
     by (got n later) = refl
     by bad = refl
 
-pub groups_onward : {s : List ℕ} {c r : Cursor} (n : ℕ) → Onward s c (times (2 * n) (read_number max32)) r → Onward s c (times n (group sid_number)) r
-groups_onward n h = alike_onward (pair_of numbers) (group sid_number) group_after n (pairs_onward numbers n h)
-
--- a layout's field that is a SID by its number
-pub sid_field : {A : Type 0} {s : List ℕ} {c : Cursor} (f : Given → Reader A) {r : Field} → FieldAfter s c max32 r
-    → Onto s c (◌>>=◌ sid_number f) r.next (f (by_number r.value))
-unfolding read_from ◌>>=◌ sid_number u32 follow give
-sid_field {A} {s} {c} f {r} h =
-    let x = field (λ n. f (by_number n)) h in
-    record { same = from (rest_of s c) ∙ x.same; inside = x.inside }
-  where
-    by : (x : Read ℕ) → follow (follow x (λ n. give (by_number n))) f ≡ follow x (λ n. f (by_number n))
-    by (got n later) = refl
-    by bad = refl
-
-    from : (x : Rest) → read_from (◌>>=◌ sid_number f) x ≡ read_from (◌>>=◌ (read_number max32) (λ n. f (by_number n))) x
-    from (rest bytes) = by (read_number max32 bytes)
-    from lost = refl
+pub groups_passed : {r r' : Reader} {u : Option (Unit {0})} (n : ℕ) → PassedOn (times (2 * n) (read_number max32)) r r' u → PassedOn (times n (group sid_number)) r r' u
+groups_passed n h = alike_passed (pair_of numbers) (group sid_number) group_after n (pairs_passed numbers n h)
 
 -- ---- packed
 
@@ -92,85 +75,50 @@ module _ (bytes : List ℕ) where
   unfolding packed_sid ◌>>=◌ follow read_sid
   packed_none h = rw h
 
-  pub packed_only : Only packed_sid bytes (by_sid (sid_in bytes))
+  -- what begins with one, it is
+  pub packed_only : (x : Given) (l : List ℕ) → packed_sid bytes ≡ got x l → (x ≡ by_sid (sid_in bytes)) × (is_packed bytes ≡ true)
   packed_only x l e = by (is_packed bytes) refl
     where
-      by : (b : Bool) → is_packed bytes ≡ b → x ≡ by_sid (sid_in bytes)
-      by true h = let f = packed_whole h ∙ e in cc
+      by : (b : Bool) → is_packed bytes ≡ b → (x ≡ by_sid (sid_in bytes)) × (is_packed bytes ≡ true)
+      by true h = (let f = packed_whole h ∙ e in cc, h)
       by false h = let f = packed_none h ∙ e in cc
 
-  -- what begins with one and could be read
-  pub packed_first : {A : Type 0} (f : Given → Reader A) (here : Bool) (a : A) (l : List ℕ)
-      → got a l ≡ read_from (◌>>=◌ packed_sid f) (if here then rest bytes else lost) → is_packed bytes ≡ true
-  unfolding read_from ◌>>=◌ follow
-  packed_first {A} f here a l e = by (is_packed bytes) here refl e
-    where
-      by : (b o : Bool) → is_packed bytes ≡ b → got a l ≡ read_from (◌>>=◌ packed_sid f) (if o then rest bytes else lost) → is_packed bytes ≡ true
-      by true o h d = h
-      by false true h d = let z : got a l ≡ bad = d ∙ ap (λ (x : Read Given). follow x f) (sym (packed_none h)) in cc
-      by false false h d = cc
-
-  -- by its size r, 0 where none is
-  module _ (r : ℕ) (e : r ≡ packed_size bytes) where
-    size_packed : (r ≡ 0 → ⊥) → is_packed bytes ≡ true
-    size_packed ne = size_some bytes (λ z. ne (e ∙ z))
-
-    size_none : r ≡ 0 → is_packed bytes ≡ false
-    size_none z = size_zero bytes (sym e ∙ z)
-
-    size_whole : (r ≡ 0 → ⊥) → r ≡ sid_size bytes
-    size_whole ne = e ∙ size_is bytes (size_packed ne)
-
-    size_fits : (r ≡ 0 → ⊥) → r ≤ length bytes
-    size_fits ne = omega (arith, size_whole ne, whole bytes (size_packed ne))
-
 -- what stands at a place, by its size
-module _ (s : List ℕ) (at r : ℕ) (e : r ≡ packed_size (drop at s)) where
-  pub no_sid_lem : r ≡ 0 → bad ≡ packed_sid (drop at s)
-  no_sid_lem z = packed_none (drop at s) (size_none (drop at s) r e z)
+module _ (s : List ℕ) (at : ℕ) where
+  pub no_sid_lem : None ≡ packed_size (drop at s) → bad ≡ packed_sid (drop at s)
+  no_sid_lem e = packed_none (drop at s) (size_none (drop at s) e)
 
-  module _ (ne : r ≡ 0 → ⊥) where
+  module _ (n : ℕ) (e : Some n ≡ packed_size (drop at s)) where
     pub sid_packed : is_packed (drop at s) ≡ true
-    sid_packed = size_packed (drop at s) r e ne
+    sid_packed = size_some (drop at s) e
 
-    pub sid_there : got (by_sid (sid_in (drop at s))) (drop (at + r) s) ≡ packed_sid (drop at s)
+    pub sid_there : got (by_sid (sid_in (drop at s))) (drop (at + n) s) ≡ packed_sid (drop at s)
     sid_there =
-        ap (got (by_sid (sid_in (drop at s)))) (sym (drop-drop r at s) ∙ ap (λ (k : ℕ). drop k (drop at s)) (size_whole (drop at s) r e ne))
+        ap (got (by_sid (sid_in (drop at s)))) (sym (drop-drop n at s) ∙ ap (λ (k : ℕ). drop k (drop at s)) (size_is (drop at s) e))
         ∙ packed_whole (drop at s) sid_packed
 
-    pub sid_inside : at + r ≤ length s
-    sid_inside = omega (arith, size_fits (drop at s) r e ne, length-drop at s, ne)
+    pub sid_inside : at + n ≤ length s
+    sid_inside = omega (arith, whole (drop at s) sid_packed, long_8 (drop at s) sid_packed, size_is (drop at s) e, length-drop at s)
 
--- a cursor past it
-module _ (s : List ℕ) (c : Cursor) where
-  pub sid_lost : not c.ok ≡ true → Onward s c packed_sid (record { at = c.at; ok = false })
+-- a reader past it
+module _ (r : Reader) where
+  pub sid_missing : None ≡ packed_size (rest_of r) → (u : Option (Unit {0})) → u ≡ None → PassedOn packed_sid r r u
   unfolding after
-  sid_lost h = record { means = ap after (reads_not packed_sid s c (is_off c.ok h)); forward = omega arith; inside = omega arith }
+  sid_missing e u d = record {
+    means = ap (left_of r) d ∙ ap after (no_sid_lem r.body.now r.at e);
+    onward = record { body = refl; forward = omega arith; inside = omega arith };
+  }
 
-  module _ (r : ℕ) (h : not c.ok ≡ false) (e : r ≡ packed_size (drop c.at s)) where
-    pub sid_missing : r ≡ 0 → Onward s c packed_sid (record { at = c.at; ok = false })
-    unfolding after
-    sid_missing z = record {
-      means = ap after (no_sid_lem s c.at r e z ∙ reads packed_sid s c (is_on c.ok h));
-      forward = omega arith;
-      inside = omega arith;
-    }
-
-    module _ (ne : r ≡ 0 → ⊥) where
-      pub sid_room : length s < 2 ^ 64 → c.at + r < 2 ^ 64
-      sid_room l = omega (arith, sid_inside s c.at r e ne)
-
-      pub sid_onward : Onward s c packed_sid (record { at = c.at + r; ok = true })
-      unfolding after
-      sid_onward = record {
-        means = ap after (sid_there s c.at r e ne ∙ reads packed_sid s c (is_on c.ok h));
-        forward = omega arith;
-        inside = omega (arith, sid_inside s c.at r e ne);
-      }
+  pub sid_passed : (n : ℕ) → Some n ≡ packed_size (rest_of r) → PassedOn packed_sid r (record r { at = r.at + n }) (Some tt)
+  unfolding after
+  sid_passed n e = record {
+    means = ap after (sid_there r.body.now r.at n e);
+    onward = record { body = refl; forward = omega arith; inside = omega (arith, sid_inside r.body.now r.at n e) };
+  }
 
 -- ---- groups
 
-module _ (p : Reader Given) (bytes : List ℕ) where
+module _ (p : rules.Reader Given) (bytes : List ℕ) where
   pub group_none : bad ≡ p bytes → bad ≡ group p bytes
   unfolding group ◌>>=◌ follow
   group_none e = rw (sym e)
@@ -185,22 +133,28 @@ module _ (p : Reader Given) (bytes : List ℕ) where
     group_whole a last f = rw (sym e) (rw (sym f))
 
 -- past a SID and past its attributes
-pub group_onward : (p : Reader Given) {s : List ℕ} {c m : Cursor} (a : Field) → Onward s c p m → FieldAfter s m max32 a → Onward s c (group p) a.next
-unfolding group read_from after ◌>>=◌ follow give u32
-group_onward p {s} {c} {m} a h f = record {
-  means = by (rest_of s c) a.next.ok (drop a.next.at s) (rest_of s m) h.means f.means;
-  forward = omega (arith, h.forward, f.forward);
-  inside = omega (arith, h.inside, f.inside);
-}
-  where
-    on : (x : Read Given) (ok : Bool) (later : List ℕ) → (if ok then got a.value later else bad) ≡ read_from (read_number max32) (after x)
-        → (if ok then rest later else lost) ≡ after (follow x (λ g. ◌>>=◌ u32 (λ v. give (group_of g v))))
-    on (got g l) true later e = rw (sym e)
-    on (got g l) false later e = rw (sym e)
-    on bad true later e = cc
-    on bad false later e = refl
+module _ (p : rules.Reader Given) {r m : Reader} where
+  pub group_lost : PassedOn p r m None → (u : Option (Unit {0})) → u ≡ None → PassedOn (group p) r m u
+  unfolding after
+  group_lost h u z = record { means = ap (left_of m) z ∙ by (p (rest_of r)) refl h.means; onward = h.onward }
+    where
+      by : (x : Read Given) → x ≡ p (rest_of r) → None ≡ after x → None ≡ after (group p (rest_of r))
+      by bad e d = ap after (group_none p (rest_of r) e)
+      by (got g l) e d = cc
 
-    by : (x : Rest) (ok : Bool) (later : List ℕ) (y : Rest) → y ≡ after (read_from p x) → (if ok then got a.value later else bad) ≡ read_from (read_number max32) y
-        → (if ok then rest later else lost) ≡ after (read_from (group p) x)
-    by (rest bytes) ok later y d e = on (p bytes) ok later (e ∙ ap (read_from (read_number max32)) d)
-    by lost ok later y d e = on bad ok later (e ∙ ap (read_from (read_number max32)) d)
+  module _ (h : PassedOn p r m (Some tt)) {r' : Reader} where
+    pub group_short : ReadOn (read_number max32) max32 m r' None → (u : Option (Unit {0})) → u ≡ None → PassedOn (group p) r r' u
+    unfolding after
+    group_short f u z = record { means = ap (left_of r') z ∙ by (p (rest_of r)) refl h.means; onward = further h.onward f.onward }
+      where
+        by : (x : Read Given) → x ≡ p (rest_of r) → Some (rest_of m) ≡ after x → None ≡ after (group p (rest_of r))
+        by bad e d = cc
+        by (got g l) e d = let k : rest_of m ≡ l = cc in ap after (group_half p (rest_of r) g l e (f.means ∙ ap (read_number max32) k))
+
+    pub group_passed : (a : ℕ) → ReadOn (read_number max32) max32 m r' (Some a) → PassedOn (group p) r r' (Some tt)
+    unfolding after
+    group_passed a f = record { means = by (p (rest_of r)) refl h.means; onward = further h.onward f.onward }
+      where
+        by : (x : Read Given) → x ≡ p (rest_of r) → Some (rest_of m) ≡ after x → Some (rest_of r') ≡ after (group p (rest_of r))
+        by bad e d = cc
+        by (got g l) e d = let k : rest_of m ≡ l = cc in ap after (group_whole p (rest_of r) g l e a (rest_of r') (f.means ∙ ap (read_number max32) k))

@@ -1,25 +1,24 @@
 -- Entries as they stand in a body, and a pass that judges and makes them one after the other. Assumes nothing.
-use Rattle.std.specs.Prelude.{ℕ, ◌≤◌, ◌<◌, ◌^◌, ◌≡◌, Bool, false, not, ◌&&◌, List, [], ◌∷◌, length, drop, if◌then◌else◌}
+use Rattle.std.specs.Prelude.{ℕ, ◌≤◌, ◌<◌, ◌^◌, ◌≡◌, Bool, false, not, ◌&&◌, Option, Some, None, List, [], ◌∷◌, length, drop, if◌then◌else◌}
 use Rattle.std.specs.Int.Bits.{bit_or}
 use Rattle.rules.specs.Bits.{has}
 use Rattle.rules.specs.Number.{Read, got, bad, max32}
 use Rattle.rules.specs.Entry.{Entry, is_only}
 use Rattle.rules.specs.Request.{entry}
 pub use Rattle.privilege.specs.Meaning.{entry_of}
-use Rattle.body.specs.declared.entry.Pair.{Pair}
-use Rattle.body.specs.declared.entry.Pair.TheVariants as pair
+use Rattle.body.specs.declared.entry.Entry as code
 
 -- ---- one entry at a place
 
-abbrev pub pair_of : List ℕ → Pair → Read Entry
-pair_of s (pair.Got k v next) = got (entry_of k v) (drop next s)
-pair_of s pair.Bad = bad
+abbrev pub pair_of : List ℕ → Option code.Entry → Read Entry
+pair_of s (Some e) = got (entry_of e.key e.value) (drop e.next s)
+pair_of s None = bad
 
-abbrev pub Bounds : ℕ → ℕ → Pair → Type 0
-Bounds size at (pair.Got k v next) = (at < next) × (next ≤ size) × (k ≤ max32) × (v ≤ max32)
-Bounds size at pair.Bad = Unit {0}
+abbrev pub Bounds : ℕ → ℕ → Option code.Entry → Type 0
+Bounds size at (Some e) = (at < e.next) × (e.next ≤ size) × (e.key ≤ max32) × (e.value ≤ max32)
+Bounds size at None = Unit {0}
 
-pub record PairAt (s : List ℕ) (at : ℕ) (r : Pair) : Type 0 where
+pub record PairAt (s : List ℕ) (at : ℕ) (r : Option code.Entry) : Type 0 where
   pub means : pair_of s r ≡ entry (drop at s)
   pub bounds : Bounds (length s) at r
 

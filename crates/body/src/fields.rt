@@ -1,16 +1,8 @@
-// What a body says, by the layout of its request: ok if it was whole, and its fields.
-
-// Requests 1, 2, 11, 12 and 17: a mask or a handle.
-#[derive(Clone, Copy)]
-pub struct One {
-    pub ok: bool,
-    pub value: u32,
-}
+// What a whole body says, by the layout of its request.
 
 // Request 4.
 #[derive(Clone, Copy)]
 pub struct QueryFields {
-    pub ok: bool,
     pub handle: u32,
     pub class: u32,
     pub capacity: u32,
@@ -19,7 +11,6 @@ pub struct QueryFields {
 // Request 7.
 #[derive(Clone, Copy)]
 pub struct ScopeFields {
-    pub ok: bool,
     pub handle: u32,
     pub value: u32,
 }
@@ -27,7 +18,6 @@ pub struct ScopeFields {
 // Request 9; `kind` is the type.
 #[derive(Clone, Copy)]
 pub struct DuplicateFields {
-    pub ok: bool,
     pub handle: u32,
     pub kind: u32,
     pub level: u32,
@@ -37,7 +27,6 @@ pub struct DuplicateFields {
 // Request 16.
 #[derive(Clone, Copy)]
 pub struct LinkFields {
-    pub ok: bool,
     pub elevated: u32,
     pub filtered: u32,
     pub session: u64,
@@ -46,7 +35,6 @@ pub struct LinkFields {
 // Requests 5 and 6: count entries from a place on.
 #[derive(Clone, Copy)]
 pub struct EntriesFields {
-    pub ok: bool,
     pub handle: u32,
     pub count: u32,
     pub at: usize,
@@ -55,7 +43,6 @@ pub struct EntriesFields {
 // Request 8: size bytes from a place on.
 #[derive(Clone, Copy)]
 pub struct DefaultsFields {
-    pub ok: bool,
     pub handle: u32,
     pub owner: u32,
     pub group: u32,
@@ -64,24 +51,10 @@ pub struct DefaultsFields {
     pub at: usize,
 }
 
-// Request 3: count groups from a place on.
+// Requests 3 and 14: the user, by its number or by the place of its packed SID, and count groups from a place on.
 #[derive(Clone, Copy)]
-pub struct CreateFields {
-    pub ok: bool,
-    pub user: u32,
-    pub session: u64,
-    pub integrity: u32,
-    pub present: u64,
-    pub by_default: u64,
-    pub count: u32,
-    pub at: usize,
-}
-
-// Request 14: the user's packed SID and count groups, each from a place on.
-#[derive(Clone, Copy)]
-pub struct PackedCreateFields {
-    pub ok: bool,
-    pub user_at: usize,
+pub struct CreateFields<U> {
+    pub user: U,
     pub session: u64,
     pub integrity: u32,
     pub present: u64,
@@ -93,7 +66,6 @@ pub struct PackedCreateFields {
 // Requests 10 and 15: the indexes to deny and the restricting SIDs, each from a place on.
 #[derive(Clone, Copy)]
 pub struct RestrictFields {
-    pub ok: bool,
     pub handle: u32,
     pub mark: u32,
     pub removed: u64,

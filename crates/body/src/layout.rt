@@ -1,217 +1,184 @@
 // The layouts of the requests, but that of 18, whose condition is read where it is evaluated. A body is read whole before anything else is judged: numbers by value, lists by skipping them.
-ghost use Rattle.std.specs.Prelude.{◌≡◌};
+#![tactic(auto, using(crate::proofs::Steps::steps), unfolding(rules::specs::Request::u16, rules::specs::Request::u32, rules::specs::Request::u64, rules::specs::Request::parse, rules::specs::Request::number_layout, rules::specs::Request::entries_layout, rules::specs::Request::create_layout, rules::specs::Request::query_layout, rules::specs::Request::scope_layout, rules::specs::Request::defaults_layout, rules::specs::Request::duplicate_layout, rules::specs::Request::restrict_layout, rules::specs::Request::link_layout))]
+
+ghost use Rattle.std.specs.Prelude.{◌≡◌, IfSome};
 ghost use Rattle.rules.specs.Request as rules;
 ghost use Rattle.rules.specs.Given.{by_number};
-ghost use Rattle.rules.specs.Request.{sid_number, packed_sid, group, byte, create_layout, query_layout, scope_layout, defaults_layout, duplicate_layout, link_layout};
-ghost use Rattle.number.specs.Rest.{read_from};
-ghost use Rattle.number.specs.Meaning.{rest_of};
-ghost use Rattle.body.specs.Layout.{whole, Begun, NothingRead, NumberRead, values_at, Listed, EntriesRead, RestrictRead, PackedCreateRead};
+ghost use Rattle.rules.specs.Request.{sid_number, byte, query_layout, scope_layout, defaults_layout, duplicate_layout, link_layout};
+ghost use Rattle.number.specs.Reader.{rest_of};
+ghost use Rattle.body.specs.Layout.{whole, Begun, NothingRead, NumberRead, values_at, Listed, EntriesRead, BehindUser, CreateRead, RestrictRead, PackedCreateRead};
 
 use crate::fields::{
-    CreateFields, DefaultsFields, DuplicateFields, EntriesFields, LinkFields, One,
-    PackedCreateFields, QueryFields, RestrictFields, ScopeFields,
+    CreateFields, DefaultsFields, DuplicateFields, EntriesFields, LinkFields, QueryFields,
+    RestrictFields, ScopeFields,
 };
-use crate::packed;
-use number::{Cursor, Field, U16, U32, U64};
+use crate::sid_form::{Numbered, Packed, SidForm, skip_packed};
+use number::{Reader, U16, U32, U64};
 
-// The request number, and the cursor after it.
-pub fn request_number(s: &[u8]) -> Field
-    ensures { Begun s.now result }
+// The request number, and the reader after it.
+pub fn request_number(body: &[u8]) -> Option<(u64, Reader)>
+    ensures { Begun body.now result }
 {
-    Cursor::new().number(s, U32)
+    let mut rest = Reader::new(body, 0);
+    let number = rest.number(U32)?;
+    Some((number, rest))
 }
 
 // Nothing follows the request number.
-pub fn nothing(s: &[u8], c: Cursor) -> bool
-    ensures { NothingRead s.now c result }
+pub fn nothing(rest: Reader) -> bool
+    ensures { NothingRead rest.entry result }
 {
-    c.ended(s)
+    rest.is_ended()
 }
 
-pub fn number(s: &[u8], c: Cursor) -> One
-    ensures { NumberRead s.now c result.ok result.value }
+pub fn number(mut rest: Reader) -> Option<u32>
+    ensures { NumberRead rest.entry result }
 {
-    let value = c.number(s, U32);
-    One {
-        ok: value.next.ended(s),
-        value: value.value as u32,
-    }
+    let value = rest.number(U32)? as u32;
+    rest.is_ended().then_some(value)
 }
 
-pub fn query(s: &[u8], c: Cursor) -> QueryFields
-    ensures { whole result.ok (rules.query result.handle result.class result.capacity) ≡ read_from query_layout (rest_of s.now c) }
+pub fn query(mut rest: Reader) -> Option<QueryFields>
+    ensures { whole (λ f. rules.query f.handle f.class f.capacity) result ≡ query_layout (rest_of rest.entry) }
 {
-    let handle = c.number(s, U32);
-    let class = handle.next.number(s, U32);
-    let capacity = class.next.number(s, U32);
-    QueryFields {
-        ok: capacity.next.ended(s),
-        handle: handle.value as u32,
-        class: class.value as u32,
-        capacity: capacity.value as u32,
-    }
+    let handle = rest.number(U32)? as u32;
+    let class = rest.number(U32)? as u32;
+    let capacity = rest.number(U32)? as u32;
+    rest.is_ended().then_some(QueryFields {
+        handle,
+        class,
+        capacity,
+    })
 }
 
-pub fn entries(s: &[u8], c: Cursor) -> EntriesFields
-    ensures { EntriesRead s.now c result.ok result.handle result.at result.count }
+pub fn entries(mut rest: Reader) -> Option<EntriesFields>
+    ensures { EntriesRead rest.entry result }
 {
-    let handle = c.number(s, U32);
-    let count = handle.next.number(s, U32);
-    let end = count.next.numbers(s, 2 * count.value, U32);
-    EntriesFields {
-        ok: end.ended(s),
-        handle: handle.value as u32,
-        count: count.value as u32,
-        at: count.next.at,
-    }
+    let handle = rest.number(U32)? as u32;
+    let count = rest.number(U32)?;
+    let at = rest.at;
+    rest.numbers(2 * count, U32)?;
+    rest.is_ended().then_some(EntriesFields {
+        handle,
+        count: count as u32,
+        at,
+    })
 }
 
-pub fn scope(s: &[u8], c: Cursor) -> ScopeFields
-    ensures { whole result.ok (rules.scope result.handle result.value) ≡ read_from scope_layout (rest_of s.now c) }
+pub fn scope(mut rest: Reader) -> Option<ScopeFields>
+    ensures { whole (λ f. rules.scope f.handle f.value) result ≡ scope_layout (rest_of rest.entry) }
 {
-    let handle = c.number(s, U32);
-    let value = handle.next.number(s, U32);
-    ScopeFields {
-        ok: value.next.ended(s),
-        handle: handle.value as u32,
-        value: value.value as u32,
-    }
+    let handle = rest.number(U32)? as u32;
+    let value = rest.number(U32)? as u32;
+    rest.is_ended().then_some(ScopeFields { handle, value })
 }
 
-pub fn duplicate(s: &[u8], c: Cursor) -> DuplicateFields
-    ensures { whole result.ok (rules.duplicate result.handle result.kind result.level result.mask) ≡ read_from duplicate_layout (rest_of s.now c) }
+pub fn duplicate(mut rest: Reader) -> Option<DuplicateFields>
+    ensures { whole (λ f. rules.duplicate f.handle f.kind f.level f.mask) result ≡ duplicate_layout (rest_of rest.entry) }
 {
-    let handle = c.number(s, U32);
-    let kind = handle.next.number(s, U32);
-    let level = kind.next.number(s, U32);
-    let mask = level.next.number(s, U32);
-    DuplicateFields {
-        ok: mask.next.ended(s),
-        handle: handle.value as u32,
-        kind: kind.value as u32,
-        level: level.value as u32,
-        mask: mask.value as u32,
-    }
+    let handle = rest.number(U32)? as u32;
+    let kind = rest.number(U32)? as u32;
+    let level = rest.number(U32)? as u32;
+    let mask = rest.number(U32)? as u32;
+    rest.is_ended().then_some(DuplicateFields {
+        handle,
+        kind,
+        level,
+        mask,
+    })
 }
 
-pub fn link(s: &[u8], c: Cursor) -> LinkFields
-    ensures { whole result.ok (rules.link result.elevated result.filtered result.session) ≡ read_from link_layout (rest_of s.now c) }
+pub fn link(mut rest: Reader) -> Option<LinkFields>
+    ensures { whole (λ f. rules.link f.elevated f.filtered f.session) result ≡ link_layout (rest_of rest.entry) }
 {
-    let elevated = c.number(s, U32);
-    let filtered = elevated.next.number(s, U32);
-    let session = filtered.next.number(s, U64);
-    LinkFields {
-        ok: session.next.ended(s),
-        elevated: elevated.value as u32,
-        filtered: filtered.value as u32,
-        session: session.value,
-    }
+    let elevated = rest.number(U32)? as u32;
+    let filtered = rest.number(U32)? as u32;
+    let session = rest.number(U64)?;
+    rest.is_ended().then_some(LinkFields {
+        elevated,
+        filtered,
+        session,
+    })
 }
 
-pub fn defaults(s: &[u8], c: Cursor) -> DefaultsFields
-    ensures { Listed s.now c byte defaults_layout (rules.defaults result.handle result.owner result.group result.flag (values_at byte s.now result.at result.size)) result.ok result.at result.size }
+pub fn defaults(mut rest: Reader) -> Option<DefaultsFields>
+    ensures parsed { whole (λ f. rules.defaults f.handle f.owner f.group f.flag (values_at byte rest.entry.body.now f.at f.size)) result ≡ defaults_layout (rest_of rest.entry) }
+    ensures there { IfSome result (λ f. Listed rest.entry byte f.at f.size) }
 {
-    let handle = c.number(s, U32);
-    let owner = handle.next.number(s, U16);
-    let group = owner.next.number(s, U16);
-    let flag = group.next.number(s, U32);
-    let size = flag.next.number(s, U32);
-    let end = size.next.bytes(s, size.value);
-    DefaultsFields {
-        ok: end.ended(s),
-        handle: handle.value as u32,
-        owner: owner.value as u32,
-        group: group.value as u32,
-        flag: flag.value as u32,
-        size: size.value as u32,
-        at: size.next.at,
-    }
+    let handle = rest.number(U32)? as u32;
+    let owner = rest.number(U16)? as u32;
+    let group = rest.number(U16)? as u32;
+    let flag = rest.number(U32)? as u32;
+    let size = rest.number(U32)?;
+    let at = rest.at;
+    rest.bytes(size)?;
+    rest.is_ended().then_some(DefaultsFields {
+        handle,
+        owner,
+        group,
+        flag,
+        size: size as u32,
+        at,
+    })
 }
 
-pub fn create(s: &[u8], c: Cursor) -> CreateFields
-    ensures { Listed s.now c (group sid_number) (create_layout sid_number) (rules.create (by_number result.user) result.session result.integrity result.present result.by_default (values_at (group sid_number) s.now result.at result.count)) result.ok result.at result.count }
+// Requests 3 and 14 from the session on, behind a user.
+fn behind_user<U: Copy, S: SidForm>(user: U, mut rest: Reader) -> Option<CreateFields<U>>
+    ensures { BehindUser S.reader user rest.entry result }
 {
-    let user = c.number(s, U32);
-    let session = user.next.number(s, U64);
-    let integrity = session.next.number(s, U32);
-    let present = integrity.next.number(s, U64);
-    let by_default = present.next.number(s, U64);
-    let count = by_default.next.number(s, U32);
-    let end = count.next.numbers(s, 2 * count.value, U32);
-    CreateFields {
-        ok: end.ended(s),
-        user: user.value as u32,
-        session: session.value,
-        integrity: integrity.value as u32,
-        present: present.value,
-        by_default: by_default.value,
-        count: count.value as u32,
-        at: count.next.at,
-    }
+    let session = rest.number(U64)?;
+    let integrity = rest.number(U32)? as u32;
+    let present = rest.number(U64)?;
+    let by_default = rest.number(U64)?;
+    let count = rest.number(U32)? as u32;
+    let at = rest.at;
+    S::skip_groups(&mut rest, count)?;
+    rest.is_ended().then_some(CreateFields {
+        user,
+        session,
+        integrity,
+        present,
+        by_default,
+        count,
+        at,
+    })
 }
 
-pub fn create_packed(s: &[u8], c: Cursor) -> PackedCreateFields
-    ensures { PackedCreateRead s.now c result.ok result.user_at result.session result.integrity result.present result.by_default result.at result.count }
+pub fn create(mut rest: Reader) -> Option<CreateFields<u32>>
+    ensures { CreateRead sid_number by_number rest.entry result }
 {
-    let user = packed::sid(s, c);
-    let session = user.number(s, U64);
-    let integrity = session.next.number(s, U32);
-    let present = integrity.next.number(s, U64);
-    let by_default = present.next.number(s, U64);
-    let count = by_default.next.number(s, U32);
-    let end = packed::groups(s, count.next, count.value);
-    PackedCreateFields {
-        ok: end.ended(s),
-        user_at: c.at,
-        session: session.value,
-        integrity: integrity.value as u32,
-        present: present.value,
-        by_default: by_default.value,
-        count: count.value as u32,
-        at: count.next.at,
-    }
+    let user = rest.number(U32)? as u32;
+    behind_user::<u32, Numbered>(user, rest)
 }
 
-pub fn restrict(s: &[u8], c: Cursor) -> RestrictFields
-    ensures { RestrictRead sid_number s.now c result.ok result.handle result.mark result.removed result.deny_at result.deny_count result.sid_at result.sid_count }
+pub fn create_packed(mut rest: Reader) -> Option<CreateFields<usize>>
+    ensures { PackedCreateRead rest.entry result }
 {
-    let handle = c.number(s, U32);
-    let mark = handle.next.number(s, U32);
-    let removed = mark.next.number(s, U64);
-    let deny_count = removed.next.number(s, U32);
-    let sid_count = deny_count.next.number(s, U32);
-    let sids = sid_count.next.numbers(s, deny_count.value, U32);
-    let end = sids.numbers(s, sid_count.value, U32);
-    RestrictFields {
-        ok: end.ended(s),
-        handle: handle.value as u32,
-        mark: mark.value as u32,
-        removed: removed.value,
-        deny_count: deny_count.value as u32,
-        deny_at: sid_count.next.at,
-        sid_count: sid_count.value as u32,
-        sid_at: sids.at,
-    }
+    let user = rest.at;
+    skip_packed(&mut rest)?;
+    behind_user::<usize, Packed>(user, rest)
 }
 
-pub fn restrict_packed(s: &[u8], c: Cursor) -> RestrictFields
-    ensures { RestrictRead packed_sid s.now c result.ok result.handle result.mark result.removed result.deny_at result.deny_count result.sid_at result.sid_count }
+// Requests 10 and 15.
+pub fn restrict<S: SidForm>(mut rest: Reader) -> Option<RestrictFields>
+    ensures { RestrictRead S.reader rest.entry result }
 {
-    let handle = c.number(s, U32);
-    let mark = handle.next.number(s, U32);
-    let removed = mark.next.number(s, U64);
-    let deny_count = removed.next.number(s, U32);
-    let sid_count = deny_count.next.number(s, U32);
-    let sids = sid_count.next.numbers(s, deny_count.value, U32);
-    let end = packed::sids(s, sids, sid_count.value);
-    RestrictFields {
-        ok: end.ended(s),
-        handle: handle.value as u32,
-        mark: mark.value as u32,
-        removed: removed.value,
-        deny_count: deny_count.value as u32,
-        deny_at: sid_count.next.at,
-        sid_count: sid_count.value as u32,
-        sid_at: sids.at,
-    }
+    let handle = rest.number(U32)? as u32;
+    let mark = rest.number(U32)? as u32;
+    let removed = rest.number(U64)?;
+    let deny_count = rest.number(U32)?;
+    let sid_count = rest.number(U32)? as u32;
+    let deny_at = rest.at;
+    rest.numbers(deny_count, U32)?;
+    let sid_at = rest.at;
+    S::skip_sids(&mut rest, sid_count)?;
+    rest.is_ended().then_some(RestrictFields {
+        handle,
+        mark,
+        removed,
+        deny_count: deny_count as u32,
+        deny_at,
+        sid_count,
+        sid_at,
+    })
 }

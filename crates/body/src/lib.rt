@@ -4,4 +4,4 @@
 pub mod entry;
 pub mod fields;
 pub mod layout;
-pub mod packed;
+pub mod sid_form;

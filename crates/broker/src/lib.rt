@@ -9,12 +9,14 @@ ghost use Rattle.handle.specs.Loaded.{loaded};
 ghost use Rattle.valid.specs.Meaning.{memory_of};
 ghost use Rattle.control.specs.Sids.{SidWritten};
 ghost use Rattle.broker.specs.Edition.{version, layout};
+ghost use Rattle.broker.specs.Noted.{Noted};
 ghost use Rattle.start.specs.Promise.{StartPromise, ReconnectPromise};
 ghost use Rattle.calls.specs.Promise.{FeedPromise};
 
 use calls::Fed;
 use control::sids;
-use handle::{Handle, list};
+use handle::{Handle, SLOTS, list};
+use state::handles::Change;
 
 // The start's memory, over any memory of the right sizes; else 13.
 pub fn obriska_start(
@@ -26,9 +28,26 @@ pub fn obriska_start(
 ) -> u32
     ensures { StartPromise (memory_of tokens.old dacls.old handles.old control.old pending.old) (memory_of tokens.new dacls.new handles.new control.new pending.new) result }
 {
-    let s = start::start(tokens, dacls, handles.len(), control, pending);
-    list::clear_first(handles, s.freed);
-    s.refusal
+    match start::start(tokens, dacls, handles.len(), control, pending) {
+        Ok(()) => {
+            list::clear_first(handles, SLOTS);
+            0
+        }
+        Err(refusal) => refusal.number(),
+    }
+}
+
+// A changed handle stands in its slot; one of number 0 frees it.
+fn note(handles: &mut [Handle], change: Option<Change>)
+    ensures { Noted change handles.old handles.new }
+{
+    if let Some(change) = change {
+        if change.handle.number == 0 {
+            list::clear(handles, change.slot);
+        } else {
+            list::place(handles, change.slot, change.handle);
+        }
+    }
 }
 
 // A station's chunk: its bytes up to the end of the first request or break, or all.
@@ -49,12 +68,10 @@ pub fn obriska_feed(
     let turn = calls::feed(
         station, chunk, answer, tokens, dacls, count, held, control, pending,
     );
-    if turn.change.handle.number == 0 {
-        list::clear(handles, turn.change.slot);
-    } else {
-        list::place(handles, turn.change.slot, turn.change.handle);
+    if let Ok(turn) = turn {
+        note(handles, turn.change);
     }
-    turn.fed
+    Fed::of(turn)
 }
 
 // A station's part request and its break are dropped.
@@ -69,7 +86,7 @@ pub fn obriska_reconnect(
     ensures { ReconnectPromise (memory_of tokens.now dacls.now handles.now control.old pending.old) station (memory_of tokens.now dacls.now handles.now control.new pending.new) result }
 {
     let held = list::load(handles);
-    start::reconnect(
+    match start::reconnect(
         station,
         tokens,
         dacls,
@@ -77,14 +94,17 @@ pub fn obriska_reconnect(
         held,
         control,
         pending,
-    )
+    ) {
+        Ok(()) => 0,
+        Err(refusal) => refusal.number(),
+    }
 }
 
 // The slot of a station's live handle of that number, front to back among the first 32; 32 if there is none. It changes nothing.
 pub fn obriska_find(handles: &[Handle], station: u32, number: u32) -> usize
     ensures { result ≡ found_index (is_handle station number) (slots_of (loaded handles.now)) }
 {
-    list::find(handles, station, number)
+    list::find(handles, station, number).unwrap_or(SLOTS)
 }
 
 // The packed form of the SID that has a number in the SID table, and its size; 0, and nothing written, where there is none or no room for
@@ -92,7 +112,7 @@ pub fn obriska_find(handles: &[Handle], station: u32, number: u32) -> usize
 pub fn obriska_sid(control: &[u64], number: u32, out: &mut [u8]) -> usize
     ensures { SidWritten control.now number out.old out.new result }
 {
-    sids::write(control, number, out)
+    sids::write(control, number, out).unwrap_or(0)
 }
 
 // The edition that is linked: major, minor and patch, a byte each.

@@ -4,8 +4,9 @@ use native.Mathlib.Omega.{arith}
 use mathlib.Core.Path.{◌≡◌, refl, sym, ap, ap₂, subst, ◌∙◌}
 use mathlib.Core.Bool.{Bool, true, false}
 use mathlib.Core.List.{List, [], ◌∷◌, ◌++◌}
-use lib.ListN.{length, take, drop, get_or, set, replicate, length-map}
-use lib.Seq.{set_out, length-take-le}
+use lib.ListN.{length, take, drop, get_or, replicate}
+use lib.Seq.{length-take-le}
+use Rattle.std.specs.Prelude.{None}
 use Rattle.table.specs.Lists.{pad, take_pad}
 use Rattle.table.specs.Table.{flat, nth_record, put_record, record_flat, put_back, part_at, put_lent}
 use Rattle.rules.specs.Basic.{all, implies, is_empty}
@@ -14,7 +15,7 @@ use Rattle.rules.specs.Frame as Frame
 use Rattle.rules.specs.Frame.{frame, framed, framed_by, length_of}
 use Rattle.rules.specs.Refusal.{stream_broken}
 use Rattle.rules.specs.Station.{Station, start_station, with_pending, cleared, broken_off}
-use Rattle.rules.specs.State.{State, handle_slots, station_count, with_stations, station_at, change_station}
+use Rattle.rules.specs.State.{State, station_count, with_stations, station_at, change_station}
 use Rattle.rules.specs.Valid.{is_part, stream_valid, valid}
 use Rattle.rules.specs.Memory as Memory
 use Rattle.rules.specs.Memory.{pending_bytes, slot_handle, station_row, pending_row, decode}
@@ -26,11 +27,11 @@ use Rattle.rules.proofs.Changes.{only_cleared, stream_facts}
 use Rattle.rules.proofs.Memory.{valid_state}
 use Rattle.rules.proofs.Rows.{length_pending_row, part_short}
 use Rattle.rules.proofs.Control.{row_put}
-use Rattle.handle.specs.Meaning.{none, handle_of}
+use Rattle.handle.specs.Words.{records_in}
 use Rattle.handle.specs.declared.Handle.{Handle}
 use Rattle.control.specs.Stations.{StreamGiven, stream_row, StreamSet}
 use Rattle.control.specs.declared.stations.Stream.{Stream}
-use Rattle.state.specs.Parts.{HandlesIn}
+use Rattle.state.specs.declared.parts.Parts.{Parts}
 use Rattle.state.specs.HandleFacts.{changed}
 use Rattle.state.specs.ReleaseFacts.{PartsIn}
 use Rattle.stream.specs.Join.{Stop, stopped}
@@ -74,11 +75,10 @@ held_cleared {s} w k = record { state = change_station s cleared k.state; is_val
 
 -- ---- a frame's body is served
 
-pub frame_served : (s start count used : ℕ) (hs : List Handle) {cs ts ds row out cs₁ cs' ts' ds' row' out' : List ℕ} (r : Reply) → StreamSet s 0 false cs cs₁
-    → BodyServed s (take (count - start) (drop start row)) ts ds hs cs₁ ts' ds' cs' out out' r → row' ≡ zeroed count row
-    → FrameServed s start count used ts ds hs cs row out ts' ds' cs' row' out' (record { fed = record { refusal = 0; used = used; answered = r.written }; change = r.change })
-frame_served s start count used hs r w b e = record {
-  refusal = refl;
+pub frame_served : {s start count used : ℕ} {p q : Parts} {cs row out row' out' : List ℕ} {r : Reply} → StreamSet s 0 false cs p.control.now
+    → BodyServed s (take (count - start) (drop start row)) p q out out' r → row' ≡ zeroed count row
+    → FrameServed s start count used p.tokens.now p.dacls.now (records_in p.handles.now) cs row out q.tokens.now q.dacls.now q.control.now row' out' (record { used = used; answered = r.written; change = r.change })
+frame_served {s} w b e = record {
   used = refl;
   emptied = e;
   parts = λ σ v p. b.parts (change_station s cleared σ) (cleared_valid σ s v) (parts_cleared w σ p);
@@ -87,11 +87,11 @@ frame_served s start count used hs r w b e = record {
 
 -- ---- the stream breaks
 
-pub broken_off_lem : (s count used n : ℕ) {cs row out cs' row' out' : List ℕ} → row' ≡ zeroed count row → StreamSet s 0 true cs cs' → WroteFrame (stream_broken ∷ []) out out' n
-    → BrokenOff s count used cs row out cs' row' out' (record { fed = record { refusal = 0; used = used; answered = n }; change = record { slot = handle_slots; handle = none } })
+pub broken_off_lem : {s count used n : ℕ} {cs row out cs' row' out' : List ℕ} → row' ≡ zeroed count row → StreamSet s 0 true cs cs' → WroteFrame (stream_broken ∷ []) out out' n
+    → BrokenOff s count used cs row out cs' row' out' (record { used = used; answered = n; change = None })
 unfolding frame encode encode_in low_first
-broken_off_lem s count used n e w a = record {
-  turn = ap (λ (k : ℕ). record { fed = record { refusal = 0; used = used; answered = k }; change = record { slot = handle_slots; handle = none } }) a.size;
+broken_off_lem {used = used} e w a = record {
+  turn = ap (λ (k : ℕ). record { used = used; answered = k; change = None }) a.size;
   control = w;
   emptied = e;
   answer = a.bytes;
@@ -102,14 +102,6 @@ broken_off_lem s count used n e w a = record {
 module _ (σ : State) (v : valid σ ≡ true) where
   station_count_lem : length σ.stations ≡ station_count
   station_count_lem = (valid_facts σ v).loose.stations
-
-  none_changed : {hs : List Handle} → HandlesIn σ hs → set hs handle_slots none ≡ hs
-  none_changed {hs} i =
-      set_out hs handle_slots none
-      (omega (arith, length-map hs handle_of, ap length i.records, length-map σ.handles.slots slot_handle, (valid_facts σ v).loose.handles.sized))
-
-  parts_kept : {hs : List Handle} {cs ts ds : List ℕ} → PartsIn σ ts ds hs cs → PartsIn σ ts ds (set hs handle_slots none) cs
-  parts_kept p = rw (none_changed p.handles) p
 
   module _ (s : ℕ) (h : s < station_count) where
     inside : s < length σ.stations
@@ -155,7 +147,7 @@ module _ {chunk row row₁ : List ℕ} {n : ℕ} {r : Stopped} (j : Joined chunk
 
 module _ (s : ℕ) (chunk : List ℕ) {hs : List Handle} {cs ts ds row : List ℕ} (g : Stream) (h : s < station_count) (i : StreamGiven s cs g) where
   -- the stream is broken
-  pub chunk_eaten : {out : List ℕ} {u : Turn} → g.broken ≡ true → u ≡ quiet 0 (length chunk) handle_slots → RowFed s chunk ts ds hs cs row out ts ds cs row out u
+  pub chunk_eaten : {out : List ℕ} {u : Turn} → g.broken ≡ true → u ≡ quiet (length chunk) → RowFed s chunk ts ds hs cs row out ts ds cs row out u
   unfolding buffer
   chunk_eaten b q = record {
     fed = λ σ v p e. rw (stream_eaten σ s chunk (sym (i.broken σ p.control) ∙ b), q) (record {
@@ -163,7 +155,7 @@ module _ (s : ℕ) (chunk : List ℕ) {hs : List Handle} {cs ts ds row : List �
       used = refl;
       answered = refl;
       answer = refl;
-      parts = parts_kept σ v p;
+      parts = p;
       pending = ap (λ (r : List ℕ). put_record pending_bytes s r (flat pending_row σ.stations)) e ∙ row_back σ v s h;
     });
   }
@@ -207,7 +199,7 @@ module _ (s : ℕ) (chunk : List ℕ) {hs : List Handle} {cs ts ds row : List �
             used = d ∙ ap (λ x. x.used) t;
             answered = refl;
             answer = refl;
-            parts = parts_set w.control σ (with_pending (stop_at σ s chunk).joined) (λ x. ap (λ (n : ℕ). stream_row n false (station_row x)) (joined_count σ v p e)) (parts_kept σ v p);
+            parts = parts_set w.control σ (with_pending (stop_at σ s chunk).joined) (λ x. ap (λ (n : ℕ). stream_row n false (station_row x)) (joined_count σ v p e)) p;
             pending =
                 ap (λ (x : List ℕ). put_record pending_bytes s x (flat pending_row σ.stations)) (joined_row σ v p e)
                 ∙ row_put pending_row pending_bytes length_pending_row σ s (with_pending (stop_at σ s chunk).joined) (inside σ v s h);
@@ -225,7 +217,7 @@ module _ (s : ℕ) (chunk : List ℕ) {hs : List Handle} {cs ts ds row : List �
             used = ap (λ x. x.used) t;
             answered = refl;
             answer = w.answer;
-            parts = parts_set w.control σ broken_off (λ x. refl) (parts_kept σ v p);
+            parts = parts_set w.control σ broken_off (λ x. refl) p;
             pending =
                 ap (λ (x : List ℕ). put_record pending_bytes s x (flat pending_row σ.stations)) (w.emptied ∙ zeroed_row σ v p e)
                 ∙ row_emptied σ v s h broken_off (λ x. refl);
@@ -241,7 +233,7 @@ module _ (s : ℕ) (chunk : List ℕ) {hs : List Handle} {cs ts ds row : List �
           let t = stop σ v p e in
           let b : (stop_at σ s chunk).what ≡ Frame.whole (body start r.count row₁) = sym (ap (λ x. x.what) t) ∙ ap (framed_of row₁ r.count) q ∙ ap Frame.whole (drop_take start r.count row₁) in
           rw (fed_whole σ s (inside σ v s h) (unbroken σ v p e) chunk (body start r.count row₁) b) (record {
-            refusal = w.refusal;
+            refusal = refl;
             used = w.used ∙ ap (λ x. x.used) t;
             answered = (w.answer σ v p).size;
             answer = (w.answer σ v p).bytes;

@@ -20,6 +20,7 @@ use Rattle.rules.specs.Calls.{written}
 use Rattle.rules.proofs.Facts.{valid_facts, facts_valid}
 use Rattle.rules.proofs.Memory.{valid_state, valid_written, written_valid}
 use Rattle.rules.proofs.WholeList.{call_valid}
+use Rattle.std.specs.Prelude.{Option, None, Some, IfSome}
 use Rattle.handle.specs.Meaning.{none, handle_of}
 use Rattle.handle.specs.declared.Handle.{Handle}
 use Rattle.state.specs.HandleFacts.{changed}
@@ -53,20 +54,26 @@ record_free m v i z =
     ∙ ap slot_handle (get_or-map handle_at m.handles i rules.no_handle)
     ∙ rw z
 
-module _ (ts ds : List ℕ) (hs : List Handle) (cs ps : List ℕ) (c : Change) (v : valid (memory_of ts ds (changed hs c) cs ps) ≡ true) (z : c.handle.number ≡ 0) where
-  placed : c.slot < length hs → get_or (map handle_of (changed hs c)) c.slot rules.no_handle ≡ handle_of c.handle
+module _ (ts ds : List ℕ) (hs : List Handle) (cs ps : List ℕ) (c : Change) (v : valid (memory_of ts ds (changed hs (Some c)) cs ps) ≡ true) (z : c.handle.number ≡ 0) where
+  placed : c.slot < length hs → get_or (map handle_of (changed hs (Some c))) c.slot rules.no_handle ≡ handle_of c.handle
   unfolding rules.no_handle
-  placed l = get_or-map handle_of (changed hs c) c.slot none ∙ ap handle_of (get_or-set_same hs c.slot c.handle none l)
+  placed l = get_or-map handle_of (changed hs (Some c)) c.slot none ∙ ap handle_of (get_or-set_same hs c.slot c.handle none l)
 
   is_none : c.slot < length hs → c.handle ≡ none
   unfolding rules.no_handle
   is_none l =
-      let e : handle_of c.handle ≡ rules.no_handle = sym (placed l) ∙ record_free (memory_of ts ds (changed hs c) cs ps) v c.slot (ap (λ (x : rules.Handle). x.number) (placed l) ∙ z) in
+      let e : handle_of c.handle ≡ rules.no_handle = sym (placed l) ∙ record_free (memory_of ts ds (changed hs (Some c)) cs ps) v c.slot (ap (λ (x : rules.Handle). x.number) (placed l) ∙ z) in
       ap (λ (x : rules.Handle). record { station = x.station; number = x.number; token = x.token; mask = x.mask }) e
 
-  pub slot_freed : changed hs c ≡ set hs c.slot none
+  pub slot_freed : changed hs (Some c) ≡ set hs c.slot none
   slot_freed = by (ltb c.slot (length hs)) refl
     where
-      by : (b : Bool) → ltb c.slot (length hs) ≡ b → changed hs c ≡ set hs c.slot none
+      by : (b : Bool) → ltb c.slot (length hs) ≡ b → changed hs (Some c) ≡ set hs c.slot none
       by true e = ap (set hs c.slot) (is_none (ltb-true c.slot (length hs) e))
       by false e = let l = ltb-false c.slot (length hs) e in set_out hs c.slot c.handle l ∙ sym (set_out hs c.slot none l)
+
+-- the change, if any
+pub change_freed : (ts ds : List ℕ) (hs : List Handle) (cs ps : List ℕ) (o : Option Change) → valid (memory_of ts ds (changed hs o) cs ps) ≡ true
+    → IfSome o (λ c. c.handle.number ≡ 0 → changed hs (Some c) ≡ set hs c.slot none)
+change_freed ts ds hs cs ps None v = tt
+change_freed ts ds hs cs ps (Some c) v = slot_freed ts ds hs cs ps c v

@@ -1,22 +1,22 @@
 // Feed with the handle list by value: what the call over the lent list wraps, and what the program uses.
 #![tactic(auto)]
 
+ghost use Rattle.std.specs.Prelude.{◌≡◌};
 ghost use Rattle.handle.specs.Words.{records_in};
-ghost use Rattle.calls.specs.Promise.{FeedsWith};
+ghost use Rattle.calls.specs.Promise.{FeedsWith, fed_as};
 
+use control::stations::Station;
 use handle::Handles;
-use start::{INVALID_MEMORY, NO_STATION, STATIONS};
+use start::CallRefusal;
 use state::handles::Change;
+use state::parts::Parts;
 
 mod accept;
-
-// The refusal of a feed alone, with document 01's number.
-const SHORT_BUFFER: u32 = 12;
 
 // No answer is longer.
 pub const MAX_ANSWER: usize = 1024;
 
-// What a feed returns: the refusal (0, or 11 to 13), the bytes used, the whole answer's length.
+// What the call for hosts returns: the refusal (0, or 11 to 13), the bytes used, the whole answer's length.
 #[repr(C)]
 #[derive(Clone, Copy)]
 pub struct Fed {
@@ -25,11 +25,32 @@ pub struct Fed {
     pub answered: usize,
 }
 
-// What feed returns, and the one handle that changes: a slot past the end of the lent list is none.
+// The bytes used, the whole answer's length, and the one handle that changes.
 #[derive(Clone, Copy)]
 pub struct Turn {
-    pub fed: Fed,
-    pub change: Change,
+    pub used: usize,
+    pub answered: usize,
+    pub change: Option<Change>,
+}
+
+impl Fed {
+    // A refused chunk is not used, and has no answer.
+    pub fn of(turn: Result<Turn, CallRefusal>) -> Fed
+        ensures { result ≡ fed_as turn }
+    {
+        match turn {
+            Ok(turn) => Fed {
+                refusal: 0,
+                used: turn.used,
+                answered: turn.answered,
+            },
+            Err(refusal) => Fed {
+                refusal: refusal.number(),
+                used: 0,
+                answered: 0,
+            },
+        }
+    }
 }
 
 pub fn feed(
@@ -42,26 +63,24 @@ pub fn feed(
     handles: Handles,
     control: &mut [u64],
     pending: &mut [u8],
-) -> Turn
+) -> Result<Turn, CallRefusal>
     ensures { FeedsWith station chunk.now count (records_in handles.words) tokens.old dacls.old control.old pending.old out.old tokens.new dacls.new control.new pending.new out.new result }
 {
-    if STATIONS <= station {
-        return accept::unanswered(NO_STATION, 0, count);
-    }
+    let Some(there) = Station::new(station) else {
+        return Err(CallRefusal::NoStation);
+    };
     if out.len() < MAX_ANSWER {
-        return accept::unanswered(SHORT_BUFFER, 0, count);
+        return Err(CallRefusal::ShortBuffer);
     }
     if !valid::valid(tokens, dacls, count, &handles.words, control, pending) {
-        return accept::unanswered(INVALID_MEMORY, 0, count);
+        return Err(CallRefusal::InvalidMemory);
     }
-    accept::accept(
-        station,
-        chunk,
-        &handles.words,
+    let mut parts = Parts {
+        handles: &handles.words,
         tokens,
         dacls,
         control,
-        pending,
-        out,
-    )
+    };
+    let turn = accept::accept(&mut parts, there, chunk, pending, out);
+    Ok(turn)
 }

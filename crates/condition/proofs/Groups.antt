@@ -1,37 +1,16 @@
--- The groups from a place on. Assumes nothing.
-use Prim.Native.Nat.{ℕ, suc, ◌-◌, ◌≤◌, ◌<◌}
-use native.Mathlib.Nat.{le_refl}
-use native.Mathlib.Omega.{arith}
-use mathlib.Core.Path.{◌≡◌, refl, sym, ap, ap₂, ◌∙◌}
-use mathlib.Core.Bool.{Bool, false, ◌||◌}
-use mathlib.Core.List.{List, ◌∷◌, map}
-use lib.ListN.{length, get_or, drop, drop_of_length-le}
-use lib.Seq.{drop-cons}
+-- Some group of that SID is enabled, by the groups' words. Assumes nothing.
+use Rattle.std.proofs.Common.{ℕ, ◌≡◌, sym, ◌∙◌, Bool, false, ◌||◌, List, [], ◌∷◌, map}
+use mathlib.Core.Bool.{or-false, or_assoc}
+use Rattle.std.specs.List.{fold}
 use Rattle.rules.specs.Memory.{unpack}
 use Rattle.rules.specs.Condition.{has_group}
 use Rattle.condition.specs.Told.{is_of}
 
--- some word's group has that SID and is enabled
-abbrev pub has_word : ℕ → List ℕ → Bool
-has_word sid ws = has_group sid (map unpack ws)
-
-head : (sid w : ℕ) (ws : List ℕ) → has_word sid (w ∷ ws) ≡ (is_of sid w || has_word sid ws)
+or_some : (sid : ℕ) (found : Bool) (ws : List ℕ) → fold (λ b w. b || is_of sid w) found ws ≡ (found || has_group sid (map unpack ws))
 unfolding has_group is_of
-head sid w ws = refl
+or_some sid found [] = sym (or-false found)
+or_some sid found (w ∷ ws) = or_some sid (found || is_of sid w) ws ∙ or_assoc found (is_of sid w) (has_group sid (map unpack ws))
 
-module _ (sid : ℕ) (ws : List ℕ) where
-  pub group_none : false ≡ has_word sid (drop (length ws) ws)
-  unfolding has_group
-  group_none = sym (ap (has_word sid) (drop_of_length-le ws (le_refl (length ws))))
-
-  module _ (i : ℕ) (found : Bool) (e : found ≡ has_word sid (drop i ws)) where
-    pub group_more : (here : Bool) → 0 < i → i ≤ length ws → here ≡ is_of sid (get_or ws (i - 1) 0) → (here || found) ≡ has_word sid (drop (i - 1) ws)
-    group_more here h l f =
-        let inside : i - 1 < length ws = omega arith in
-        let next : i ≡ suc (i - 1) = omega arith in
-        ap₂ ◌||◌ f (e ∙ ap (λ (n : ℕ). has_word sid (drop n ws)) next)
-        ∙ sym (head sid (get_or ws (i - 1) 0) (drop (suc (i - 1)) ws))
-        ∙ ap (has_word sid) (sym (drop-cons ws (i - 1) 0 inside))
-
-    pub group_all : i ≤ 0 → found ≡ has_word sid ws
-    group_all h = let none : i ≡ 0 = omega arith in e ∙ ap (λ (n : ℕ). has_word sid (drop n ws)) none
+-- the words' groups were gathered
+pub some_word : (sid : ℕ) {r : Bool} (ws : List ℕ) → r ≡ fold (λ b w. b || is_of sid w) false ws → r ≡ has_group sid (map unpack ws)
+some_word sid ws e = e ∙ or_some sid false ws

@@ -1,11 +1,8 @@
--- What is told of the condition, or of the conditions, at a place, by what was read there. Assumes nothing.
-use Prim.Native.Nat.{ℕ, zero, suc, ◌-◌, ◌≤◌, ◌<◌}
+-- What is told of the condition, or of the conditions, that are read next, by what was read there. Assumes nothing.
+use Rattle.std.proofs.Common.{ℕ, zero, suc, ◌+◌, ◌-◌, ◌≤◌, ◌<◌, ◌≡◌, refl, sym, ap, ◌∙◌, Bool, true, false, not, ◌&&◌, List, map, get_or, arith, ◌⊎◌, inl, inr}
 use native.Mathlib.Numerals.{sub-one}
-use native.Mathlib.Omega.{arith}
-use mathlib.Core.Path.{◌≡◌, refl, sym, ap, ◌∙◌}
-use mathlib.Core.Bool.{Bool, true, false, not, ◌&&◌, and-true, or-false, and_assoc, or_assoc}
-use mathlib.Core.List.{List, map}
-use lib.ListN.{get_or, drop, get_or-eq_default}
+use mathlib.Core.Bool.{and-true, or-false, and_assoc, or_assoc}
+use lib.ListN.{get_or-eq_default}
 use Rattle.rules.specs.Bits.{has}
 use Rattle.rules.specs.Number.{Read, got, bad, read_number, max32}
 use Rattle.rules.specs.Privileges.{exists, is_enabled, granted}
@@ -13,224 +10,250 @@ use Rattle.rules.specs.Token.{Token, new_token}
 use Rattle.rules.specs.Memory.{unpack}
 use Rattle.rules.specs.Condition.{Condition, all_of, any_of, negated, privilege_enabled, group_enabled, Conditions, more, has_group, holds, all_hold, any_holds, known, all_known}
 use Rattle.rules.specs.Request.{Reader, follow, ◌>>=◌, give, u32, unknown, conditions, list_layout, negated_layout, named_layout, kinds, condition}
-use Rattle.number.specs.declared.Number.{Number}
-use Rattle.number.specs.declared.Number.TheVariants as number
-use Rattle.number.specs.Meaning.{NumberAt}
-use Rattle.number.proofs.Reading.{is_bad, is_value}
 use Rattle.condition.specs.declared.Told.{Told}
-use Rattle.condition.specs.declared.Told.TheVariants as told
-use Rattle.condition.specs.Told.{asked, Outcome, outcome, list_outcome, tell, told_of, turned, joined, ConditionAt, ConditionsAt}
-
--- ---- of what stands inside
-
-turned_read : Read Outcome → Read Outcome
-turned_read bad = bad
-turned_read (got o after) = got (record { value = not o.value; known = o.known }) after
-
-turned_is : (s : List ℕ) (r : Told) → told_of s (turned r) ≡ turned_read (told_of s r)
-unfolding turned_read
-turned_is s (told.Value v k next) = refl
-turned_is s told.Bad = refl
-
-module _ (t : Token) where
-  tell_negated : (r : Read Condition) → turned_read (tell (outcome t) r) ≡ tell (outcome t) (follow r (λ c. give (negated c)))
-  unfolding turned_read tell outcome follow give holds known
-  tell_negated bad = refl
-  tell_negated (got c after) = refl
-
-  tell_list : (make : Conditions → Condition) (all : Bool) → ((cs : Conditions) → list_outcome all t cs ≡ outcome t (make cs))
-      → (r : Read Conditions) → tell (list_outcome all t) r ≡ tell (outcome t) (follow r (λ cs. give (make cs)))
-  unfolding tell follow give
-  tell_list make all same bad = refl
-  tell_list make all same (got cs after) = ap (λ (o : Outcome). got o after) (same cs)
-
--- ---- of what follows a kind
+use Rattle.condition.specs.declared.Asked.{Asked}
+use Rattle.condition.specs.Told.{asked, asked_of, outcome, list_outcome, tell, joined, counted}
 
 -- its layout, in a condition at most d deep
 abbrev of_kind : ℕ → ℕ → Reader Condition
 of_kind d k = get_or (kinds (condition (d - 1))) k unknown
 
-deeper : (d : ℕ) (bytes : List ℕ) → (d ≡ 0 → ⊥) → condition d bytes ≡ follow (read_number max32 bytes) (of_kind d)
-unfolding condition ◌>>=◌ u32
-deeper zero bytes f = absurd (f refl)
-deeper (suc d) bytes f = ap (λ (n : ℕ). follow (read_number max32 bytes) (λ k. get_or (kinds (condition n)) k unknown)) (sym (sub-one (suc d)))
-
-module _ (d : ℕ) (bytes : List ℕ) where
-  -- with no number behind it no kind but 3 is read
-  short : bad ≡ read_number max32 bytes → (k : ℕ) → (k ≡ 3 → ⊥) → of_kind d k bytes ≡ bad
-  unfolding kinds list_layout named_layout ◌>>=◌ u32 follow unknown
-  short e zero h = refl
-  short e (suc zero) h = rw (sym e)
-  short e (suc (suc zero)) h = rw (sym e)
-  short e (suc (suc (suc zero))) h = absurd (h refl)
-  short e (suc (suc (suc (suc zero)))) h = rw (sym e)
-  short e (suc (suc (suc (suc (suc zero))))) h = rw (sym e)
-  short e (suc (suc (suc (suc (suc (suc k)))))) h = refl
-
-  no_kind_at : (k : ℕ) → (k ≡ 1 → ⊥) → (k ≡ 2 → ⊥) → (k ≡ 3 → ⊥) → (k ≡ 4 → ⊥) → (k ≡ 5 → ⊥) → of_kind d k bytes ≡ bad
-  unfolding kinds unknown
-  no_kind_at zero n1 n2 n3 n4 n5 = refl
-  no_kind_at (suc k) n1 n2 n3 n4 n5 =
-      let past : 6 ≤ suc k = omega arith in
-      ap (λ (p : Reader Condition). p bytes) (get_or-eq_default (kinds (condition (d - 1))) unknown {n = suc k} past)
-
--- ---- a condition at a place
-
-module _ (s : List ℕ) (at d w : ℕ) (ws : List ℕ) where
-  pub none_deep : d ≡ 0 → ConditionAt s at d w ws told.Bad
+module _ (t : Token) (known0 : Bool) (d : ℕ) (bytes : List ℕ) where
+  pub none_deep : d ≡ 0 → bad ≡ tell known0 (outcome t) (condition d bytes)
   unfolding condition unknown tell
   none_deep e = rw e
 
-  module _ (below : d ≡ 0 → ⊥) (r : Number) (f : NumberAt s at max32 r) where
-    pub no_kind : r ≡ number.Bad → ConditionAt s at d w ws told.Bad
+  module _ (below : d ≡ 0 → ⊥) where
+    deeper : condition d bytes ≡ follow (read_number max32 bytes) (of_kind d)
+    unfolding condition ◌>>=◌ u32
+    deeper = by d below
+      where
+        by : (n : ℕ) → (n ≡ 0 → ⊥) → condition n bytes ≡ follow (read_number max32 bytes) (of_kind n)
+        by zero f = absurd (f refl)
+        by (suc n) f = ap (λ (m : ℕ). follow (read_number max32 bytes) (λ k. get_or (kinds (condition m)) k unknown)) (sym (sub-one (suc n)))
+
+    pub no_kind : bad ≡ read_number max32 bytes → bad ≡ tell known0 (outcome t) (condition d bytes)
     unfolding tell follow
-    no_kind g = rw (deeper d (drop at s) below, sym (is_bad s at max32 r f g))
+    no_kind e = rw (deeper, sym e)
 
-    module _ (k q : ℕ) (g : r ≡ number.Value k q) where
-      of_kind_lem : (j : ℕ) → k ≡ j → tell (outcome (asked w ws)) (of_kind d j (drop q s)) ≡ tell (outcome (asked w ws)) (condition d (drop at s))
+    module _ (k : ℕ) (after : List ℕ) (e : got k after ≡ read_number max32 bytes) where
+      -- what is told of what follows the kind is told of the condition
+      kind_is : (j : ℕ) → k ≡ j → tell known0 (outcome t) (of_kind d j after) ≡ tell known0 (outcome t) (condition d bytes)
       unfolding follow
-      of_kind_lem j e =
-          ap (tell (outcome (asked w ws)))
-          (ap (λ (i : ℕ). of_kind d i (drop q s)) (sym e) ∙ ap (λ (x : Read ℕ). follow x (of_kind d)) (is_value s at max32 r f k q g) ∙ sym (deeper d (drop at s) below))
+      kind_is j q =
+          ap (λ (i : ℕ). tell known0 (outcome t) (of_kind d i after)) (sym q)
+          ∙ ap (tell known0 (outcome t)) (ap (λ (x : Read ℕ). follow x (of_kind d)) e ∙ sym deeper)
 
-      not_read : of_kind d k (drop q s) ≡ bad → ConditionAt s at d w ws told.Bad
-      unfolding tell
-      not_read e = ap (tell (outcome (asked w ws))) (sym e) ∙ of_kind_lem k refl
+      pub no_such_kind : (k ≡ 1 → ⊥) → (k ≡ 2 → ⊥) → (k ≡ 3 → ⊥) → (k ≡ 4 → ⊥) → (k ≡ 5 → ⊥) → bad ≡ tell known0 (outcome t) (condition d bytes)
+      unfolding tell kinds unknown
+      no_such_kind n1 n2 n3 n4 n5 = ap (tell known0 (outcome t)) (sym (none k n1 n2 n3 n4 n5)) ∙ kind_is k refl
+        where
+          none : (j : ℕ) → (j ≡ 1 → ⊥) → (j ≡ 2 → ⊥) → (j ≡ 3 → ⊥) → (j ≡ 4 → ⊥) → (j ≡ 5 → ⊥) → of_kind d j after ≡ bad
+          none zero n1 n2 n3 n4 n5 = refl
+          none (suc j) n1 n2 n3 n4 n5 =
+              let past : 6 ≤ suc j = omega arith in
+              ap (λ (p : Reader Condition). p after) (get_or-eq_default (kinds (condition (d - 1))) unknown {n = suc j} past)
 
-      pub no_such_kind : (k ≡ 1 → ⊥) → (k ≡ 2 → ⊥) → (k ≡ 3 → ⊥) → (k ≡ 4 → ⊥) → (k ≡ 5 → ⊥) → ConditionAt s at d w ws told.Bad
-      no_such_kind n1 n2 n3 n4 n5 = not_read (no_kind_at d (drop q s) k n1 n2 n3 n4 n5)
+      -- ---- a list
 
-      pub negation : k ≡ 3 → (i o : Told) → ConditionAt s q (d - 1) w ws i → o ≡ turned i → ConditionAt s at d w ws o
-      unfolding kinds negated_layout ◌>>=◌
-      negation e i o h x = ap (told_of s) x ∙ turned_is s i ∙ ap turned_read h ∙ tell_negated (asked w ws) (condition (d - 1) (drop q s)) ∙ of_kind_lem 3 e
+      listed : (make : Conditions → Condition) (all : Bool) → ((cs : Conditions) → list_outcome all t cs ≡ outcome t (make cs))
+          → tell known0 (list_outcome all t) (counted (d - 1) after) ≡ tell known0 (outcome t) (list_layout make (condition (d - 1)) after)
+      unfolding tell counted list_layout ◌>>=◌ follow give
+      listed make all same = by (u32 after)
+        where
+          told : (r : Read Conditions) → tell known0 (list_outcome all t) r ≡ tell known0 (outcome t) (follow r (λ cs. give (make cs)))
+          told bad = refl
+          told (got cs later) = ap (λ (x : Told). got (record { value = x.value; known = known0 && x.known }) later) (same cs)
 
-      module _ (m : Number) (h : NumberAt s q max32 m) where
-        pub no_number_lem : (k ≡ 3 → ⊥) → m ≡ number.Bad → ConditionAt s at d w ws told.Bad
-        no_number_lem n3 b = not_read (short d (drop q s) (is_bad s q max32 m h b) k n3)
+          by : (r : Read ℕ) → tell known0 (list_outcome all t) (follow r (λ n. conditions n (condition (d - 1))))
+              ≡ tell known0 (outcome t) (follow r (λ n. ◌>>=◌ (conditions n (condition (d - 1))) (λ cs. give (make cs))))
+          by bad = refl
+          by (got n later) = told (conditions n (condition (d - 1)) later)
 
-        module _ (n a : ℕ) (b : m ≡ number.Value n a) where
-          listed : (make : Conditions → Condition) (all : Bool) → ((cs : Conditions) → list_outcome all (asked w ws) cs ≡ outcome (asked w ws) (make cs))
-              → (o : Told) → ConditionsAt s a (d - 1) n all w ws o → told_of s o ≡ tell (outcome (asked w ws)) (list_layout make (condition (d - 1)) (drop q s))
-          unfolding list_layout ◌>>=◌ u32 follow
-          listed make all same o x = rw (sym (is_value s q max32 m h n a b)) (x ∙ tell_list (asked w ws) make all same (conditions n (condition (d - 1)) (drop a s)))
+      module _ (r : Read Told) where
+        pub every : k ≡ 1 → r ≡ tell known0 (list_outcome true t) (counted (d - 1) after) → r ≡ tell known0 (outcome t) (condition d bytes)
+        unfolding kinds outcome list_outcome holds known
+        every q x = x ∙ listed all_of true (λ cs. refl) ∙ kind_is 1 q
 
-          pub every : k ≡ 1 → (o : Told) → ConditionsAt s a (d - 1) n true w ws o → ConditionAt s at d w ws o
-          unfolding kinds outcome list_outcome holds known
-          every e o x = listed all_of true (λ cs. refl) o x ∙ of_kind_lem 1 e
+        pub some : k ≡ 2 → r ≡ tell known0 (list_outcome false t) (counted (d - 1) after) → r ≡ tell known0 (outcome t) (condition d bytes)
+        unfolding kinds outcome list_outcome holds known
+        some q x = x ∙ listed any_of false (λ cs. refl) ∙ kind_is 2 q
 
-          pub some : k ≡ 2 → (o : Told) → ConditionsAt s a (d - 1) n false w ws o → ConditionAt s at d w ws o
-          unfolding kinds outcome list_outcome holds known
-          some e o x = listed any_of false (λ cs. refl) o x ∙ of_kind_lem 2 e
+      -- ---- a negation
 
-          named : (make : ℕ → Condition) → got (outcome (asked w ws) (make n)) (drop a s) ≡ tell (outcome (asked w ws)) (named_layout make (drop q s))
-          unfolding named_layout ◌>>=◌ u32 follow give tell
-          named make = rw (sym (is_value s q max32 m h n a b))
+      not_told : Read Told → Read Told
+      not_told bad = bad
+      not_told (got x later) = got (record { value = not x.value; known = x.known }) later
 
-          pub one_privilege : k ≡ 4 → (v l : Bool) → v ≡ has n w → l ≡ exists n → ConditionAt s at d w ws (told.Value v l a)
-          unfolding kinds outcome holds known asked new_token granted is_enabled
-          one_privilege e v l ev el = rw (ev, el) (named privilege_enabled ∙ of_kind_lem 4 e)
+      negation : k ≡ 3 → (r : Read Told) → r ≡ tell known0 (outcome t) (condition (d - 1) after) → not_told r ≡ tell known0 (outcome t) (condition d bytes)
+      unfolding kinds negated_layout ◌>>=◌ not_told tell outcome follow give holds known
+      negation q r x = ap not_told x ∙ by (condition (d - 1) after) ∙ kind_is 3 q
+        where
+          by : (c : Read Condition) → not_told (tell known0 (outcome t) c) ≡ tell known0 (outcome t) (follow c (λ x. give (negated x)))
+          by bad = refl
+          by (got c later) = refl
 
-          pub one_group : k ≡ 5 → (v : Bool) → v ≡ has_group n (map unpack ws) → ConditionAt s at d w ws (told.Value v true a)
-          unfolding kinds outcome holds known asked new_token
-          one_group e v ev = rw ev (named group_enabled ∙ of_kind_lem 5 e)
+      pub negation_bad : k ≡ 3 → bad ≡ tell known0 (outcome t) (condition (d - 1) after) → bad ≡ tell known0 (outcome t) (condition d bytes)
+      unfolding not_told
+      negation_bad q x = negation q bad x
 
--- ---- conditions from a place on
+      pub negation_told : k ≡ 3 → (v l : Bool) (later : List ℕ) → got (record { value = v; known = l }) later ≡ tell known0 (outcome t) (condition (d - 1) after)
+          → got (record { value = not v; known = l }) later ≡ tell known0 (outcome t) (condition d bytes)
+      unfolding not_told
+      negation_told q v l later y = negation q (got (record { value = v; known = l }) later) y
+
+      -- ---- a number
+
+      named : (make : ℕ → Condition) (r : Read ℕ) → r ≡ read_number max32 after → tell known0 (outcome t) (follow r (λ n. give (make n))) ≡ tell known0 (outcome t) (named_layout make after)
+      unfolding named_layout ◌>>=◌ u32
+      named make r x = ap (λ (y : Read ℕ). tell known0 (outcome t) (follow y (λ n. give (make n)))) x
+
+      pub not_named : (k ≡ 4) ⊎ (k ≡ 5) → bad ≡ read_number max32 after → bad ≡ tell known0 (outcome t) (condition d bytes)
+      unfolding kinds tell follow
+      not_named (inl q) x = named privilege_enabled bad x ∙ kind_is 4 q
+      not_named (inr q) x = named group_enabled bad x ∙ kind_is 5 q
+
+module _ (a : Asked) (known0 : Bool) (d : ℕ) (bytes : List ℕ) (below : d ≡ 0 → ⊥) (k : ℕ) (after : List ℕ) (e : got k after ≡ read_number max32 bytes)
+    (n : ℕ) (later : List ℕ) (x : got n later ≡ read_number max32 after) where
+  pub one_privilege : k ≡ 4 → (v l : Bool) → v ≡ has n a.enabled → l ≡ exists n
+      → got (record { value = v; known = known0 && l }) later ≡ tell known0 (outcome (asked a)) (condition d bytes)
+  unfolding kinds outcome holds known asked_of new_token granted is_enabled tell follow give
+  one_privilege q v l ev el = rw (ev, el) (named (asked a) known0 d bytes below k after e privilege_enabled (got n later) x ∙ kind_is (asked a) known0 d bytes below k after e 4 q)
+
+  pub one_group : k ≡ 5 → (v : Bool) → v ≡ has_group n (map unpack a.groups.now)
+      → got (record { value = v; known = known0 }) later ≡ tell known0 (outcome (asked a)) (condition d bytes)
+  unfolding kinds outcome holds known asked_of new_token tell follow give
+  one_group q v ev =
+      ap (λ (l : Bool). got (record { value = v; known = l }) later) (sym (and-true known0))
+      ∙ rw ev (named (asked a) known0 d bytes below k after e group_enabled (got n later) x ∙ kind_is (asked a) known0 d bytes below k after e 5 q)
+
+-- ---- conditions behind their count
 
 -- one outcome in front of the others'
-pub front : Bool → Outcome → Read Outcome → Read Outcome
+pub front : Bool → Told → Read Told → Read Told
 front all o bad = bad
 front all o (got x after) = got (record { value = joined all o.value x.value; known = o.known && x.known }) after
 
 joined_first : (all x : Bool) → joined all all x ≡ x
-unfolding joined
 joined_first true x = refl
 joined_first false x = refl
 
 joined_last : (all x : Bool) → joined all x all ≡ x
-unfolding joined
 joined_last true x = and-true x
 joined_last false x = or-false x
 
 joined_assoc : (all a b c : Bool) → joined all (joined all a b) c ≡ joined all a (joined all b c)
-unfolding joined
 joined_assoc true a b c = and_assoc a b c
 joined_assoc false a b c = or_assoc a b c
 
-front_first : (all : Bool) (r : Read Outcome) → front all (record { value = all; known = true }) r ≡ r
+front_last : (all : Bool) (o : Told) (bytes : List ℕ) → front all o (got (record { value = all; known = true }) bytes) ≡ got o bytes
 unfolding front
-front_first all bad = refl
-front_first all (got x after) = rw (joined_first all x.value)
+front_last all o bytes = rw (joined_last all o.value, and-true o.known)
 
-front_last : (all v k : Bool) (bytes : List ℕ) → front all (record { value = v; known = k }) (got (record { value = all; known = true }) bytes) ≡ got (record { value = v; known = k }) bytes
+front_front : (all : Bool) (o x : Told) (r : Read Told)
+    → front all (record { value = joined all o.value x.value; known = o.known && x.known }) r ≡ front all o (front all x r)
 unfolding front
-front_last all v k bytes = rw (joined_last all v, and-true k)
+front_front all o x bad = refl
+front_front all o x (got y after) = rw (joined_assoc all o.value x.value y.value, and_assoc o.known x.known y.known)
 
-front_front : (all v k x y : Bool) (r : Read Outcome)
-    → front all (record { value = joined all v x; known = k && y }) r ≡ front all (record { value = v; known = k }) (front all (record { value = x; known = y }) r)
-unfolding front
-front_front all v k x y bad = refl
-front_front all v k x y (got o after) = rw (joined_assoc all v x o.value, and_assoc k y o.known)
+module _ (all : Bool) (t : Token) where
+  -- what is told of the conditions that were read, by themselves
+  abbrev told_list : Read Conditions → Read Told
+  told_list r = tell true (list_outcome all t) r
 
-tell_none : (all : Bool) (t : Token) (p : Reader Condition) (bytes : List ℕ) → got (record { value = all; known = true }) bytes ≡ tell (list_outcome all t) (conditions 0 p bytes)
-unfolding tell list_outcome conditions give all_hold any_holds all_known
-tell_none true t p bytes = refl
-tell_none false t p bytes = refl
+  front_first : (k : Bool) (r : Read Conditions) → front all (record { value = all; known = k }) (told_list r) ≡ tell k (list_outcome all t) r
+  unfolding front tell
+  front_first k bad = refl
+  front_first k (got cs after) = rw (joined_first all (list_outcome all t cs).value)
 
-tell_more : (all : Bool) (t : Token) (c : Condition) (r : Read Conditions)
-    → front all (outcome t c) (tell (list_outcome all t) r) ≡ tell (list_outcome all t) (follow r (λ cs. give (more c cs)))
-unfolding front tell outcome list_outcome follow give joined all_hold any_holds all_known
-tell_more all t c bad = refl
-tell_more true t c (got cs after) = refl
-tell_more false t c (got cs after) = refl
+  tell_none : (p : Reader Condition) (bytes : List ℕ) → got (record { value = all; known = true }) bytes ≡ told_list (conditions 0 p bytes)
+  unfolding tell list_outcome conditions give all_hold any_holds all_known
+  tell_none p bytes = by all
+    where
+      by : (b : Bool) → got (record { value = b; known = true }) bytes ≡ tell true (list_outcome b t) (conditions 0 p bytes)
+      by true = refl
+      by false = refl
 
-module _ (all : Bool) (t : Token) (p : Reader Condition) where
-  -- one that is told, in front of n more
-  front_of : ℕ → Read Outcome → Read Outcome
-  front_of n bad = bad
-  front_of n (got o after) = front all o (tell (list_outcome all t) (conditions n p after))
+  tell_more : (c : Condition) (r : Read Conditions) → front all (outcome t c) (told_list r) ≡ told_list (follow r (λ cs. give (more c cs)))
+  unfolding front tell outcome list_outcome follow give all_hold any_holds all_known
+  tell_more c bad = refl
+  tell_more c (got cs after) = by all
+    where
+      by : (b : Bool) → front b (outcome t c) (tell true (list_outcome b t) (got cs after)) ≡ tell true (list_outcome b t) (got (more c cs) after)
+      by true = refl
+      by false = refl
 
-  spread : (n : ℕ) (r : Read Condition) → front_of n (tell (outcome t) r) ≡ tell (list_outcome all t) (follow r (λ c after. follow (conditions n p after) (λ cs. give (more c cs))))
-  unfolding front_of tell follow
-  spread n bad = refl
-  spread n (got c after) = tell_more all t c (conditions n p after)
+  module _ (p : Reader Condition) where
+    -- one that was read, in front of n more
+    front_of : ℕ → Read Condition → Read Told
+    front_of n bad = bad
+    front_of n (got c after) = front all (outcome t c) (told_list (conditions n p after))
 
-  tell_next : (n : ℕ) (bytes : List ℕ) → 0 < n → front_of (n - 1) (tell (outcome t) (p bytes)) ≡ tell (list_outcome all t) (conditions n p bytes)
-  unfolding conditions
-  tell_next zero bytes h = absurd (omega arith)
-  tell_next (suc n) bytes h = ap (λ (m : ℕ). front_of m (tell (outcome t) (p bytes))) (sub-one (suc n)) ∙ spread n (p bytes)
+    tell_next : (n : ℕ) (bytes : List ℕ) → 0 < n → front_of (n - 1) (p bytes) ≡ told_list (conditions n p bytes)
+    unfolding conditions front_of tell follow
+    tell_next zero bytes h = absurd (omega arith)
+    tell_next (suc n) bytes h = ap (λ (m : ℕ). front_of m (p bytes)) (sub-one (suc n)) ∙ by (p bytes)
+      where
+        by : (r : Read Condition) → front_of n r ≡ told_list (follow r (λ c after. follow (conditions n p after) (λ cs. give (more c cs))))
+        by bad = refl
+        by (got c after) = tell_more c (conditions n p after)
 
-module _ (s : List ℕ) (at d left : ℕ) (all : Bool) (w : ℕ) (ws : List ℕ) where
-  -- what is told of the conditions left, behind what the first ones came to
-  abbrev pub Rest : Bool → Bool → Read Outcome
-  Rest value known = front all (record { value = value; known = known }) (tell (list_outcome all (asked w ws)) (conditions left (condition d) (drop at s)))
+  module _ (k : Bool) (d : ℕ) (bytes : List ℕ) where
+    pub no_count : bad ≡ read_number max32 bytes → bad ≡ tell k (list_outcome all t) (counted d bytes)
+    unfolding tell counted ◌>>=◌ u32 follow
+    no_count e = rw (sym e)
 
-  pub list_begins : Rest all true ≡ tell (list_outcome all (asked w ws)) (conditions left (condition d) (drop at s))
-  list_begins = front_first all _
+    pub list_begins : (n : ℕ) (after : List ℕ) → got n after ≡ read_number max32 bytes
+        → front all (record { value = all; known = k }) (told_list (conditions n (condition d) after)) ≡ tell k (list_outcome all t) (counted d bytes)
+    unfolding counted ◌>>=◌ u32 follow
+    list_begins n after e = front_first k _ ∙ ap (λ (r : Read ℕ). tell k (list_outcome all t) (follow r (λ m. conditions m (condition d)))) e
 
-module _ (s : List ℕ) (at d left : ℕ) (all : Bool) (w : ℕ) (ws : List ℕ) (value known : Bool) (total : Read Outcome) (inv : Rest s at d left all w ws value known ≡ total) where
-  pub list_ends : left ≤ 0 → got (record { value = value; known = known }) (drop at s) ≡ total
-  list_ends h =
-      let e : left ≡ 0 = omega arith in
-      sym (front_last all value known (drop at s))
-      ∙ ap (front all (record { value = value; known = known })) (tell_none all (asked w ws) (condition d) (drop at s))
-      ∙ ap (λ (n : ℕ). Rest s at d n all w ws value known) (sym e)
-      ∙ inv
+  -- what the conditions left come to, behind what the first ones came to
+  abbrev pub Rest : ℕ → ℕ → List ℕ → Told → Read Told
+  Rest d left bytes o = front all o (told_list (conditions left (condition d) bytes))
 
-  module _ (h : 0 < left) (r : Told) (f : ConditionAt s at d w ws r) where
-    -- by what is told of the next one
-    turn : (x : Told) → r ≡ x → front all (record { value = value; known = known }) (front_of all (asked w ws) (condition d) (left - 1) (told_of s x)) ≡ total
-    turn x g =
-        ap (λ (y : Read Outcome). front all (record { value = value; known = known }) (front_of all (asked w ws) (condition d) (left - 1) y)) (ap (told_of s) (sym g) ∙ f)
-        ∙ ap (front all (record { value = value; known = known })) (tell_next all (asked w ws) (condition d) left (drop at s) h)
+  module _ (d count i : ℕ) (bytes : List ℕ) (v k : Bool) (total : Read Told) (inv : Rest d (count - i) bytes (record { value = v; known = k }) ≡ total) where
+    abbrev so_far : Told
+    so_far = record { value = v; known = k }
+
+    pub list_ends : count ≤ i → got (record { value = v; known = k }) bytes ≡ total
+    list_ends h =
+        let e : count - i ≡ 0 = omega arith in
+        sym (front_last all so_far bytes)
+        ∙ ap (front all so_far) (tell_none (condition d) bytes)
+        ∙ ap (λ (n : ℕ). Rest d n bytes so_far) (sym e)
         ∙ inv
 
-    pub list_bad : r ≡ told.Bad → bad ≡ total
-    unfolding front front_of
-    list_bad g = turn told.Bad g
+    module _ (h : i < count) where
+      next : front all so_far (front_of (condition d) (count - (i + 1)) (condition d bytes)) ≡ total
+      next =
+          let e : count - (i + 1) ≡ count - i - 1 = omega arith in
+          ap (λ (n : ℕ). front all so_far (front_of (condition d) n (condition d bytes))) e
+          ∙ ap (front all so_far) (tell_next (condition d) (count - i) bytes (omega arith))
+          ∙ inv
 
-    pub list_goes_on : (v k : Bool) (q : ℕ) → r ≡ told.Value v k q → (b : Bool) → b ≡ joined all value v → Rest s q d (left - 1) all w ws b (known && k) ≡ total
-    unfolding front_of
-    list_goes_on v k q g b e =
-        ap (λ (x : Bool). Rest s q d (left - 1) all w ws x (known && k)) e
-        ∙ front_front all value known v k (tell (list_outcome all (asked w ws)) (conditions (left - 1) (condition d) (drop q s)))
-        ∙ turn (told.Value v k q) g
+      pub list_bad : bad ≡ tell k (outcome t) (condition d bytes) → bad ≡ total
+      unfolding front front_of tell
+      list_bad f = by (condition d bytes) f next
+        where
+          by : (r : Read Condition) → bad ≡ tell k (outcome t) r → front all so_far (front_of (condition d) (count - (i + 1)) r) ≡ total → bad ≡ total
+          by bad g e = e
+          by (got c after) g e = cc
+
+      -- the list's rest behind one more outcome
+      step : Read Told → Read Told
+      step bad = bad
+      step (got o later) = Rest d (count - (i + 1)) later (record { value = joined all v o.value; known = o.known })
+
+      pub list_goes_on : (x l : Bool) (later : List ℕ) → got (record { value = x; known = l }) later ≡ tell k (outcome t) (condition d bytes) → (b : Bool) → b ≡ joined all v x
+          → Rest d (count - (i + 1)) later (record { value = b; known = l }) ≡ total
+      unfolding front_of tell step
+      list_goes_on x l later f b e =
+          ap (λ (y : Bool). Rest d (count - (i + 1)) later (record { value = y; known = l })) e ∙ ap step f ∙ by (condition d bytes) f next
+        where
+          by : (r : Read Condition) → got (record { value = x; known = l }) later ≡ tell k (outcome t) r → front all so_far (front_of (condition d) (count - (i + 1)) r) ≡ total
+              → step (tell k (outcome t) r) ≡ total
+          by bad g w = cc
+          by (got c after) g w = front_front all so_far (outcome t c) (told_list (conditions (count - (i + 1)) (condition d) after)) ∙ w
+
+pub ruleset tellings = (none_deep, no_kind, no_such_kind, every, some, negation_bad, negation_told, not_named, no_count, list_begins, list_bad, list_goes_on, list_ends)

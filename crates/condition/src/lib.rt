@@ -1,57 +1,54 @@
 // Conditions on a token (request 18): two functions that call each other read one and evaluate it, in one pass over its bytes.
 #![tactic(auto)]
 
-ghost use Rattle.std.specs.Prelude.{◌≡◌, map, drop};
+ghost use Rattle.std.specs.Prelude.{◌≡◌, map};
 ghost use Rattle.rules.specs.Condition.{has_group};
 ghost use Rattle.rules.specs.Memory.{unpack};
-ghost use Rattle.condition.specs.Told.{is_of, joined, turned, asked, ConditionAt, ConditionsAt, verdict_of, read_whole};
+ghost use Rattle.number.specs.Reader.{rest_of};
+ghost use Rattle.condition.specs.Told.{is_of, joined, asked, ConditionRead, ConditionsRead, verdict_of, read_whole};
 
-use number::{Number, U32, number_at};
+use number::{Reader, U32};
 use privilege::privileges::Privileges;
 use privilege::words::has;
-use table::WORD_32;
-use token::words::is_enabled;
+use token::Group;
 
 const MAX_DEPTH: u64 = 8;
 
-// What is told of a condition: its value, whether every privilege that it names exists, and the place after it.
+// What a condition is asked of: a token's enabled privileges, and its groups' words.
 #[derive(Clone, Copy)]
-pub enum Told {
-    Value {
-        value: bool,
-        known: bool,
-        next: usize,
-    },
-    Bad,
+pub struct Asked<'a> {
+    pub enabled: u64,
+    pub groups: &'a [u64],
 }
 
-// Of all bytes from a place on: no condition, one that names a privilege that does not exist, or its value.
+// What is told of a condition: its value, and whether every privilege that it names exists.
 #[derive(Clone, Copy)]
-pub enum Verdict {
-    Bad,
-    Unknown,
-    Value(bool),
+pub struct Told {
+    pub value: bool,
+    pub known: bool,
+}
+
+// A condition that is being read: the bytes that are left, and whether every privilege that was named exists.
+#[derive(Clone, Copy)]
+struct Reading<'a> {
+    rest: Reader<'a>,
+    known: bool,
 }
 
 // A group's word has that SID and is enabled.
+#[tactic(auto, unfolding(crate::specs::Told::is_of, rules::specs::Memory::unpack))]
 fn is_of(w: u64, sid: u64) -> bool
     ensures { result ≡ is_of sid w }
 {
-    (w % WORD_32 == sid) & is_enabled(w)
+    let g = Group::from(w);
+    (u64::from(g.sid) == sid) & g.is_enabled()
 }
 
-// Some group of that SID is enabled.
+// Some group of that SID is enabled. Each is looked at, with no early exit as any has, so that the compiler takes many at once.
 fn has_group(groups: &[u64], sid: u64) -> bool
     ensures { result ≡ has_group sid (map unpack groups.now) }
 {
-    let mut i = groups.len();
-    let mut found = false;
-    while 0 < i {
-        i -= 1;
-        let here = is_of(groups[i], sid);
-        found = here | found;
-    }
-    found
+    groups.iter().fold(false, |found, w| found | is_of(*w, sid))
 }
 
 // Both for all-of, either for any-of.
@@ -61,122 +58,56 @@ fn joined(all: bool, a: bool, b: bool) -> bool
     if all { a & b } else { a | b }
 }
 
-// The other value.
-fn negated(r: Told) -> Told
-    ensures { result ≡ turned r }
-{
-    match r {
-        Told::Bad => Told::Bad,
-        Told::Value { value, known, next } => Told::Value {
-            value: !value,
-            known,
-            next,
-        },
-    }
-}
-
-// The condition at a place, at most so deep, on a token's enabled privileges and its groups' words.
+// A condition at most so deep: its value. Its kind is matched as it stands on the line: an enum of the five would be made here and matched here, and nowhere else.
 #[cycle(condition_conditions)]
-fn condition(s: &[u8], at: usize, depth: u64, enabled: u64, groups: &[u64]) -> Told
-    ensures { ConditionAt s.now at depth enabled groups.now result }
+#[tactic(auto, using(crate::proofs::Telling::tellings))]
+fn condition(r: &mut Reading, depth: u64, token: &Asked) -> Option<bool>
+    ensures { ConditionRead depth token.now r.old r.new result }
 {
     if depth == 0 {
-        return Told::Bad;
+        return None;
     }
-    let Number::Value { value: kind, next } = number_at(s, at, U32) else {
-        return Told::Bad;
-    };
-    if kind == 3 {
-        let inner = condition(s, next, depth - 1, enabled, groups);
-        return negated(inner);
+    match r.rest.number(U32)? {
+        1 => conditions(r, depth - 1, true, token),
+        2 => conditions(r, depth - 1, false, token),
+        3 => Some(!condition(r, depth - 1, token)?),
+        4 => {
+            let n = r.rest.number(U32)?;
+            r.known &= Privileges::exists(n);
+            Some(has(token.enabled, n))
+        }
+        5 => {
+            let sid = r.rest.number(U32)?;
+            Some(has_group(token.groups, sid))
+        }
+        _ => None,
     }
-    let Number::Value {
-        value: n,
-        next: after,
-    } = number_at(s, next, U32)
-    else {
-        return Told::Bad;
-    };
-    if kind == 1 {
-        return conditions(s, after, depth - 1, n, true, enabled, groups);
-    }
-    if kind == 2 {
-        return conditions(s, after, depth - 1, n, false, enabled, groups);
-    }
-    if kind == 4 {
-        return Told::Value {
-            value: has(enabled, n),
-            known: Privileges::exists(n),
-            next: after,
-        };
-    }
-    if kind == 5 {
-        return Told::Value {
-            value: has_group(groups, n),
-            known: true,
-            next: after,
-        };
-    }
-    Told::Bad
 }
 
-// So many conditions from a place on, each at most so deep: all of them, or any.
+// A count and so many conditions, each at most so deep: all of them, or any.
 #[cycle(condition_conditions)]
-fn conditions(
-    s: &[u8],
-    from: usize,
-    depth: u64,
-    count: u64,
-    all: bool,
-    enabled: u64,
-    groups: &[u64],
-) -> Told
-    ensures { ConditionsAt s.now from depth count all enabled groups.now result }
+#[tactic(auto, using(crate::proofs::Telling::tellings))]
+fn conditions(r: &mut Reading, depth: u64, all: bool, token: &Asked) -> Option<bool>
+    ensures { ConditionsRead depth all token.now r.old r.new result }
 {
-    let mut at = from;
-    let mut left = count;
+    let count = r.rest.number(U32)?;
     let mut value = all;
-    let mut known = true;
-    while 0 < left {
-        match condition(s, at, depth, enabled, groups) {
-            Told::Bad => {
-                return Told::Bad;
-            }
-            Told::Value {
-                value: v,
-                known: k,
-                next,
-            } => {
-                let both = joined(all, value, v);
-                value = both;
-                known = known & k;
-                at = next;
-                left -= 1;
-            }
-        }
+    for _ in 0..count {
+        let next = condition(r, depth, token)?;
+        value = joined(all, value, next);
     }
-    Told::Value {
-        value,
-        known,
-        next: at,
-    }
+    Some(value)
 }
 
-// The condition that all bytes from a place on are.
-pub fn evaluate(s: &[u8], from: usize, enabled: u64, groups: &[u64]) -> Verdict
-    ensures { result ≡ verdict_of (asked enabled groups.now) (read_whole (drop from s.now)) }
+// The condition that the rest of a body is, to its last byte.
+#[tactic(auto, using(crate::proofs::Whole::whole))]
+pub fn evaluate(rest: Reader, token: Asked) -> Option<Told>
+    ensures { result ≡ verdict_of (asked token.entry) (read_whole (rest_of rest.entry)) }
 {
-    match condition(s, from, MAX_DEPTH, enabled, groups) {
-        Told::Bad => Verdict::Bad,
-        Told::Value { value, known, next } => {
-            if next < s.len() {
-                return Verdict::Bad;
-            }
-            if known {
-                Verdict::Value(value)
-            } else {
-                Verdict::Unknown
-            }
-        }
-    }
+    let mut r = Reading { rest, known: true };
+    let value = condition(&mut r, MAX_DEPTH, &token)?;
+    r.rest.is_ended().then_some(Told {
+        value,
+        known: r.known,
+    })
 }

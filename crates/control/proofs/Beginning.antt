@@ -36,11 +36,12 @@ pub record Begun (ws : List ℕ) (i : ℕ) : Type 0 where
   pub long : length ws ≡ control_words
   pub held : ControlIn (begun i) ws
 
+-- the words cleared
+pub cleared : (ws : List ℕ) {zs : List ℕ} → length ws ≡ control_words → zs ≡ replicate (length ws) 0 → zs ≡ replicate control_words 0
+cleared ws l e = e ∙ ap (λ (n : ℕ). replicate n 0) l
+
 -- what the table is written over
 module _ {zs : List ℕ} (z : zs ≡ replicate control_words 0) where
-  pub words_in : control_words ≤ length (set (set zs token_counter 2) handle_counter 1)
-  words_in = rw z (omega arith)
-
   pub sids_zero : take (control_words - place_of control_sizes sid_section) (drop (place_of control_sizes sid_section) (set (set zs token_counter 2) handle_counter 1)) ≡ replicate sid_words 0
   sids_zero = rw z
 

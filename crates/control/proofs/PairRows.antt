@@ -1,17 +1,16 @@
 -- The linked pairs' rows: a place read and stored, and the loops over places. Assumes nothing.
-use Prim.Native.Nat.{ℕ, zero, suc, ◌+◌, ◌*◌, ◌≤◌, ◌<◌}
+use Prim.Native.Nat.{ℕ, zero, suc, ◌+◌, ◌*◌, ◌<◌}
 use native.Mathlib.Omega.{arith}
-use mathlib.Core.Path.{◌≡◌, refl, sym, ap, ap₂, ◌∙◌}
+use mathlib.Core.Path.{◌≡◌, refl, sym, ap, ◌∙◌}
 use mathlib.Core.Bool.{Bool, true, false, not, ◌&&◌}
 use mathlib.Core.List.{List, [], ◌∷◌}
-use lib.Dec.{eqb, ltb}
+use lib.Dec.{eqb}
 use lib.ListN.{length, drop, get_or, set}
 use lib.Seq.{get_or-take, get_or-drop}
-use borrow.Author.Tests.{eq-eqb, ne_eqb, lt-ltb, le-ltb}
 use Rattle.table.specs.Table.{flat, nth_record, record_element, length_flat, record_flat, put_flat}
 use Rattle.table.specs.Rows.{rows_at, length_rows}
 use Rattle.table.specs.Sections.{place_of, section_long, section_word}
-use Rattle.std.specs.Prelude.{if◌then◌else◌}
+use Rattle.std.specs.Prelude.{if◌then◌else◌, Option, unwrap_or}
 use Rattle.rules.specs.Table.{Slot, free, live, or_else}
 use Rattle.rules.specs.Pair as rules
 use Rattle.rules.specs.Pair.{is_of}
@@ -19,9 +18,10 @@ use Rattle.rules.specs.State.{State, pair_slots, with_pairs}
 use Rattle.rules.specs.Index.{free_index, found_index}
 use Rattle.rules.specs.Memory.{pair_words, session_word, elevated_word, filtered_word, pair_section, control_sizes, pair_word_at, pairs_in, pair_at, pair_row, slot_pair, sections}
 use Rattle.rules.proofs.Rows.{length_slot_pair}
-use Rattle.handle.proofs.Rest.{First, Seeking, seek_more, seek_here, seek_end}
+use Rattle.handle.specs.First.{FirstOf}
+use Rattle.handle.proofs.Rest.{First, first_index, first_within}
 use Rattle.control.specs.Control.{ControlIn}
-use Rattle.control.specs.Pairs.{pairs_of, pair_of, RowGiven, PairFound, PlaceFree, place_for, PlaceGiven, PairSet}
+use Rattle.control.specs.Pairs.{pairs_of, pair_of, row_in, RowGiven, PairFound, PlaceFree, PairSet}
 use Rattle.control.specs.declared.pairs.Pair.{Pair}
 use Rattle.control.proofs.SectionRows.{own_row, row_stored}
 
@@ -61,7 +61,7 @@ module _ (ws : List ℕ) (place : ℕ) (h : place < pair_slots) where
 at_place : {ws : List ℕ} {i : ℕ} {r : Pair} → i < pair_slots → RowGiven i ws r → slot_of r.session r.elevated r.filtered ≡ get_or (pairs_of ws) i free
 at_place {ws} {i} h g = rw (g.session, g.elevated, g.filtered) (sym (place_read ws i h))
 
--- ---- looking: the loops over places ask a test of what stands there
+-- ---- looking: what a test of the row at a place says of what stands there
 
 unfoldable pub passes : (rules.Pair → Bool) → Slot rules.Pair → Bool
 passes f free = false
@@ -87,32 +87,6 @@ first_free = record { none = refl; step = by }
     by free ys = refl
     by (live p) ys = refl
 
--- no place before i passes
-pub record Looking (test : Slot rules.Pair → Bool) (value : List (Slot rules.Pair) → ℕ) (ws : List ℕ) (i : ℕ) : Type 0 where
-  pub seek : Seeking test value free (pairs_of ws) pair_slots (value (pairs_of ws)) i
-
-module _ {test : Slot rules.Pair → Bool} {value : List (Slot rules.Pair) → ℕ} {ws : List ℕ} where
-  looking_none : First test value → Looking test value ws 0
-  looking_none f = record {
-    seek = record {
-      first = f;
-      rest = record { long = length_rows pair_at pair_words 0 pair_slots (pairs_in ws) []; within = omega arith; whole = omega arith };
-    };
-  }
-
-  module _ {i : ℕ} {r : Pair} (h : i < pair_slots) (l : Looking test value ws i) (g : RowGiven i ws r) where
-    looking_more : test (slot_of r.session r.elevated r.filtered) ≡ false → Looking test value ws (i + 1)
-    looking_more t = record { seek = seek_more l.seek h (at_place h g) refl t }
-
-    looking_here : test (slot_of r.session r.elevated r.filtered) ≡ true → (i ≡ value (pairs_of ws)) × (i ≤ pair_slots)
-    looking_here t = (seek_here l.seek h (at_place h g) refl t, omega arith)
-
-  looking_end : {i : ℕ} → Looking test value ws i → pair_slots ≤ i → (i ≡ value (pairs_of ws)) × (i ≤ pair_slots)
-  looking_end {i} l h =
-      let w = l.seek.rest.within in
-      let e = seek_end l.seek h in
-      (omega arith, w)
-
 passes_slot : (f : rules.Pair → Bool) (s e t : ℕ) → passes f (slot_of s e t) ≡ (not (eqb e 0) && f (pair_of s e t))
 unfolding passes
 passes_slot f s e t = by (eqb e 0)
@@ -131,46 +105,24 @@ free_slot_lem s e t = by (eqb e 0)
 
 -- ---- the pair that passes a test, and the lowest free place
 
-module _ {ws : List ℕ} where
-  pub finding_none : (f : rules.Pair → Bool) → Looking (passes f) (found_index f) ws 0
-  finding_none f = looking_none (first_found f)
+module _ {test : Slot rules.Pair → Bool} {value : List (Slot rules.Pair) → ℕ} (f : First test value) (ws : List ℕ) {says : ℕ → Bool → Type 0}
+    (asks : (k : ℕ) (b : Bool) → says k b → b ≡ test (slot_of (row_in ws k).session (row_in ws k).elevated (row_in ws k).filtered)) where
+  place_found : {r : Option ℕ} → FirstOf says pair_slots r → unwrap_or r pair_slots ≡ value (pairs_of ws)
+  place_found t = first_index f free (pairs_of ws) (length_rows pair_at pair_words 0 pair_slots (pairs_in ws) []) (λ k b l s. asks k b s ∙ ap test (sym (place_read ws k l))) t
 
-  pub freeing_none : Looking is_free free_index ws 0
-  freeing_none = looking_none first_free
+module _ (ws : List ℕ) {says : ℕ → Bool → Type 0} where
+  pub pair_found : (f : rules.Pair → Bool) → ((k : ℕ) (b : Bool) → says k b → b ≡ (not (eqb (row_in ws k).elevated 0) && f (pair_of (row_in ws k).session (row_in ws k).elevated (row_in ws k).filtered)))
+      → {r : Option ℕ} → FirstOf says pair_slots r → PairFound f ws r
+  pair_found f asks t = record {
+    index = place_found (first_found f) ws (λ k b s. asks k b s ∙ sym (passes_slot f (row_in ws k).session (row_in ws k).elevated (row_in ws k).filtered)) t;
+    within = first_within t;
+  }
 
-  module _ {i : ℕ} {r : Pair} (h : i < pair_slots) (g : RowGiven i ws r) where
-    pub finding_more : (f : rules.Pair → Bool) → Looking (passes f) (found_index f) ws i → (not (eqb r.elevated 0) && f (pair_of r.session r.elevated r.filtered)) ≡ false
-        → Looking (passes f) (found_index f) ws (i + 1)
-    finding_more f l t = looking_more h l g (passes_slot f r.session r.elevated r.filtered ∙ t)
-
-    pub finding_here : {f : rules.Pair → Bool} → Looking (passes f) (found_index f) ws i → (not (eqb r.elevated 0) && f (pair_of r.session r.elevated r.filtered)) ≡ true
-        → PairFound f ws i
-    finding_here {f} l t =
-        let e = looking_here h l g (passes_slot f r.session r.elevated r.filtered ∙ t) in record { index = e.0; within = e.1 }
-
-    pub freeing_more : Looking is_free free_index ws i → (r.elevated ≡ 0 → ⊥) → Looking is_free free_index ws (i + 1)
-    freeing_more l t = looking_more h l g (free_slot_lem r.session r.elevated r.filtered ∙ ne_eqb r.elevated 0 t)
-
-    pub freeing_here : Looking is_free free_index ws i → r.elevated ≡ 0 → PlaceFree ws i
-    freeing_here l t =
-        let e = looking_here h l g (free_slot_lem r.session r.elevated r.filtered ∙ eq-eqb r.elevated 0 t) in record { index = e.0; within = e.1 }
-
-  pub finding_end : {f : rules.Pair → Bool} {i : ℕ} → Looking (passes f) (found_index f) ws i → pair_slots ≤ i → PairFound f ws i
-  finding_end l h = let e = looking_end l h in record { index = e.0; within = e.1 }
-
-  pub freeing_end : {i : ℕ} → Looking is_free free_index ws i → pair_slots ≤ i → PlaceFree ws i
-  freeing_end l h = let e = looking_end l h in record { index = e.0; within = e.1 }
-
--- the session's place, or else the lowest free one
-module _ (session : ℕ) {ws : List ℕ} {a : ℕ} (f : PairFound (is_of session) ws a) where
-  chosen : {c : Bool} → ltb a pair_slots ≡ c → place_for session (pairs_of ws) ≡ (if c then a else free_index (pairs_of ws))
-  chosen e = ap₂ (λ (t : Bool) (n : ℕ). if t then n else free_index (pairs_of ws)) (ap (λ (n : ℕ). ltb n pair_slots) (sym f.index) ∙ e) (sym f.index)
-
-  pub place_old : a < pair_slots → PlaceGiven session ws a
-  place_old h = record { index = sym (chosen (lt-ltb a pair_slots h)); within = f.within }
-
-  pub place_new : {b : ℕ} → pair_slots ≤ a → PlaceFree ws b → PlaceGiven session ws b
-  place_new h g = record { index = g.index ∙ sym (chosen (le-ltb a pair_slots h)); within = g.within }
+  pub place_free : ((k : ℕ) (b : Bool) → says k b → b ≡ eqb (row_in ws k).elevated 0) → {r : Option ℕ} → FirstOf says pair_slots r → PlaceFree ws r
+  place_free asks t = record {
+    index = place_found first_free ws (λ k b s. asks k b s ∙ sym (free_slot_lem (row_in ws k).session (row_in ws k).elevated (row_in ws k).filtered)) t;
+    within = first_within t;
+  }
 
 -- ---- a state that the words hold
 
@@ -199,20 +151,20 @@ module _ {ws : List ℕ} (σ : State) (i : ControlIn σ ws) where
 
 -- ---- storing
 
-module _ (place session elevated filtered : ℕ) (h : place < pair_slots) where
-  new_row : (q : Slot rules.Pair) → set (set (set (slot_pair q) session_word session) elevated_word elevated) filtered_word filtered ≡ slot_pair (live (pair_of session elevated filtered))
+module _ (place : ℕ) (p : Pair) (h : place < pair_slots) where
+  new_row : (q : Slot rules.Pair) → set (set (set (slot_pair q) session_word p.session) elevated_word p.elevated) filtered_word p.filtered ≡ slot_pair (live (pair_of p.session p.elevated p.filtered))
   unfolding slot_pair pair_row
   new_row free = refl
-  new_row (live p) = refl
+  new_row (live q) = refl
 
-  pub pair_set : {ws ws₁ ws₂ ws₃ : List ℕ} → ws₁ ≡ set ws (pair_word_at place session_word) session → ws₂ ≡ set ws₁ (pair_word_at place elevated_word) elevated
-      → ws₃ ≡ set ws₂ (pair_word_at place filtered_word) filtered → PairSet place session elevated filtered ws ws₃
+  pub pair_set : {ws ws₁ ws₂ ws₃ : List ℕ} → ws₁ ≡ set ws (pair_word_at place session_word) p.session → ws₂ ≡ set ws₁ (pair_word_at place elevated_word) p.elevated
+      → ws₃ ≡ set ws₂ (pair_word_at place filtered_word) p.filtered → PairSet place p ws ws₃
   unfolding sections with_pairs
   pair_set {ws} {ws₃ = ws₃} a b c = record {
     control = λ σ i.
         let long = length_flat slot_pair pair_words length_slot_pair σ.pairs in
         let count = pair_count σ i in
         let own = own_row slot_pair pair_words length_slot_pair pair_section σ.pairs place free i.words refl (omega arith) (omega arith) (omega arith) (omega arith) in
-        let r = row_stored filtered_word filtered (omega arith) (row_stored elevated_word elevated (omega arith) (row_stored session_word session (omega arith) own)) in
-        record { words = rw (c, b, a) (rw (new_row (get_or σ.pairs place free), put_flat slot_pair pair_words length_slot_pair place (live (pair_of session elevated filtered)) σ.pairs (omega arith)) at r.words) };
+        let r = row_stored filtered_word p.filtered (omega arith) (row_stored elevated_word p.elevated (omega arith) (row_stored session_word p.session (omega arith) own)) in
+        record { words = rw (c, b, a) (rw (new_row (get_or σ.pairs place free), put_flat slot_pair pair_words length_slot_pair place (live (pair_of p.session p.elevated p.filtered)) σ.pairs (omega arith)) at r.words) };
   }

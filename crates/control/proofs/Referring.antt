@@ -6,9 +6,9 @@ use mathlib.Core.Bool.{Bool, true, false, not, ◌&&◌, ◌||◌, or-true}
 use mathlib.Core.List.{List, [], ◌∷◌, ◌++◌, map, append_assoc}
 use lib.Dec.{eqb, ltb, leb-suc-suc}
 use lib.ListN.{length, get_or, length-map}
-use borrow.Author.Tests.{eqb-true, eqb-false, eq-eqb, ne_eqb, lt-ltb}
+use borrow.Author.Tests.{eqb-true, eqb-false, eq-eqb, ne_eqb, lt-ltb, le-ltb}
 use Rattle.table.specs.Rows.{length_rows}
-use Rattle.std.specs.Prelude.{if◌then◌else◌}
+use Rattle.std.specs.Prelude.{if◌then◌else◌, Option, Some, None, unwrap_or, is_some, IfSome}
 use Rattle.rules.specs.Basic.{member, non_zero}
 use Rattle.rules.specs.Table.{Slot, free, live, lives}
 use Rattle.rules.specs.Pair.{Pair, has}
@@ -17,7 +17,7 @@ use Rattle.rules.specs.Station.{Station, start_station}
 use Rattle.rules.specs.State.{State, station_count, pair_slots, station_at, station_token, client_token, elevated_token, filtered_token}
 use Rattle.rules.specs.Memory.{primary_word, client_word, pair_words, station_row, pairs_in, pair_at}
 use Rattle.rules.proofs.Logic.{member_append, member_filter}
-use Rattle.handle.proofs.Rest.{Gathering, gather_more, gather_done}
+use Rattle.handle.proofs.Rest.{Gathering, gather_more}
 use Rattle.control.specs.Control.{ControlIn}
 use Rattle.control.specs.Stations.{WordGiven, column, StationsHave, StationsRefer}
 use Rattle.control.specs.Pairs.{pairs_of, PairFound, PairsRefer}
@@ -53,9 +53,6 @@ module _ (n k : ℕ) where
     of = λ σ c. gather_more (a.of σ c) h (ap (eqb n) (g.word σ c ∙ sym (word_at σ.stations i (omega (arith, station_count_lem σ c)))));
   }
 
-  pub asking_done : {ws : List ℕ} {got : Bool} {i : ℕ} → Asking ws got i → station_count ≤ i → StationsHave n k ws got
-  asking_done a h = record { have = λ σ c. gather_done (a.of σ c) h }
-
 pub refers : (token : ℕ) {ws : List ℕ} {p c : Bool} → StationsHave token primary_word ws p → StationsHave token client_word ws c
     → StationsRefer token ws (p || (not (eqb token 0) && c))
 unfolding station_row station_token client_token non_zero
@@ -88,12 +85,17 @@ refer_below token (live p ∷ ps) =
     by false true e f q = lt-ltb zero (suc (length ps)) (omega arith) ∙ sym (or-true e)
     by false false e f q = leb-suc-suc (suc (found_index (has token) ps)) (length ps) ∙ q
 
-pub pairs_refer : (token : ℕ) {ws : List ℕ} {r : ℕ} → PairFound (has token) ws r → PairsRefer token ws (ltb r pair_slots)
-pairs_refer token {ws} f =
+is_below : (n : ℕ) (r : Option ℕ) → IfSome r (λ k. k < n) → is_some r ≡ ltb (unwrap_or r n) n
+is_below n None h = sym (le-ltb n n (omega arith))
+is_below n (Some k) h = sym (lt-ltb k n h)
+
+pub pairs_refer : (token : ℕ) {ws : List ℕ} {r : Option ℕ} {b : Bool} → PairFound (has token) ws r → b ≡ is_some r → PairsRefer token ws b
+pairs_refer token {ws} {r} f e =
     let ps = pairs_of ws in
     record {
       refer =
-          ap₂ ltb f.index (sym (length_rows pair_at pair_words 0 pair_slots (pairs_in ws) [])) ∙ refer_below token ps
+          e ∙ is_below pair_slots r f.within
+          ∙ ap₂ ltb f.index (sym (length_rows pair_at pair_words 0 pair_slots (pairs_in ws) [])) ∙ refer_below token ps
           ∙ sym (member_append token (map elevated_token (lives ps)) (map filtered_token (lives ps)));
     }
 

@@ -10,7 +10,7 @@ use borrow.Author.Tests.{eq-eqb, ne_eqb}
 use lib.Seq.{drop_at, take-append-add, drop-append-add}
 use Rattle.table.specs.Table.{flat}
 use Rattle.table.specs.Sections.{place_of, joined, section_part, section_word, sections_long}
-use Rattle.std.specs.Prelude.{if◌then◌else◌}
+use Rattle.std.specs.Prelude.{if◌then◌else◌, Option, Some, None, unwrap_or, IfSome}
 use Rattle.rules.specs.Number.{got}
 use Rattle.rules.specs.Sid.{Sid, packed}
 use Rattle.rules.specs.SidTable.{max_sids, is_number, place_of_number, sid_of, sids_valid}
@@ -24,7 +24,7 @@ use Rattle.sid.specs.Reading.{can_write}
 use Rattle.sid.specs.Numbers.{has_number, number_row, can_write_number, WroteNumber}
 use Rattle.sid.proofs.Numbers.{sized, written, reads_back}
 use Rattle.control.specs.Control.{ControlIn}
-use Rattle.control.specs.Sids.{SidCount, SidsCopied, SidsSet, Gives, SidWritten}
+use Rattle.control.specs.Sids.{SidCount, SidsCopied, SidsSet, sid_bytes, Gives, SidWritten}
 
 -- where the table begins
 abbrev at : ℕ
@@ -80,7 +80,7 @@ module _ (ws : List ℕ) (n : ℕ) (out : List ℕ) where
         none = λ σ v i. absurd (ne (sections_long i.words));
       }
 
-  module _ (l : length ws ≡ control_words) {out' : List ℕ} {r : ℕ} (w : WroteNumber (take (control_words - at) (drop at ws)) n out out' r) where
+  module _ (l : length ws ≡ control_words) {out' : List ℕ} {r : Option ℕ} (w : WroteNumber (take (control_words - at) (drop at ws)) n out out' r) where
     its_words : (σ : State) → ControlIn σ ws → sids_in ws ≡ write_sids σ.sids
     unfolding sections
     its_words σ i = section_part i.words sid_section
@@ -95,15 +95,17 @@ module _ (ws : List ℕ) (n : ℕ) (out : List ℕ) where
       sound : sid_words_valid (sids_in ws) ≡ true
       sound = ap sid_words_valid (its_words σ i) ∙ written_valid σ.sids ok
 
-      gives_it : is_number σ.sids n ≡ true → length (packed (sid_of σ.sids n)) ≤ length out → Gives σ n out out' r
+      gives_it : is_number σ.sids n ≡ true → length (packed (sid_of σ.sids n)) ≤ length out → Gives σ n out out' (unwrap_or r 0)
       gives_it h room =
           let k : is_number (sids_at (sids_in ws)) n ≡ true = ap (λ (t : List Sid). is_number t n) back ∙ h in
           let few : length (packed (sid_of (sids_at (sids_in ws)) n)) ≤ length out = subst (λ (t : List Sid). length (packed (sid_of t n)) ≤ length out) (sym back) room in
-          record {
-            size = sized (sids_in ws) n out sound k few w ∙ ap (λ (t : List Sid). length (packed (sid_of t n))) back;
-            bytes = written (sids_in ws) n out sound k few w ∙ ap (λ (t : List Sid). packed (sid_of t n) ++ drop r out) back;
-            back = reads_back (sids_in ws) n out sound k few w ∙ ap (λ (t : List Sid). got (sid_of t n) (drop r out)) back;
-          }
+          let size : r ≡ Some (length (packed (sid_of σ.sids n))) = sized (sids_in ws) n out sound k few w ∙ ap (λ (t : List Sid). Some (length (packed (sid_of t n)))) back in
+          rw size
+          (record {
+            size = refl;
+            bytes = written (sids_in ws) n out sound k few w ∙ ap (λ (t : List Sid). packed (sid_of t n) ++ drop (length (packed (sid_of t n))) out) back;
+            back = reads_back (sids_in ws) n out sound k few w ∙ ap (λ (t : List Sid). got (sid_of t n) (drop (length (packed (sid_of t n))) out)) back;
+          })
 
       -- can_write_number asks that it is a number
       cannot : is_number σ.sids n ≡ false → can_write_number (sids_in ws) n out ≡ false
@@ -111,16 +113,39 @@ module _ (ws : List ℕ) (n : ℕ) (out : List ℕ) where
       cannot h = ap (λ (b : Bool). eqb (length (sids_in ws)) sid_words && leb (get_or (sids_in ws) 0 0) max_sids && b && ltb (place_of_number n) (get_or (sids_in ws) 0 0) && can_write (number_row (sids_in ws) n) out) (ap (λ (t : List Sid). is_number t n) back ∙ h)
           ∙ ap (λ (b : Bool). b && ltb (place_of_number n) (get_or (sids_in ws) 0 0) && can_write (number_row (sids_in ws) n) out) (and-false (eqb (length (sids_in ws)) sid_words && leb (get_or (sids_in ws) 0 0) max_sids))
 
-      none_there : is_number σ.sids n ≡ false → (r ≡ 0) × (out' ≡ out)
-      none_there h = (
-        w.size ∙ ap (λ (b : Bool). if b then length (packed (row_sid (number_row (sids_in ws) n))) else 0) (cannot h),
-        w.bytes ∙ ap (λ (b : Bool). if b then packed (row_sid (number_row (sids_in ws) n)) ++ drop r out else out) (cannot h),
-      )
+      none_there : is_number σ.sids n ≡ false → (unwrap_or r 0 ≡ 0) × (out' ≡ out)
+      none_there h =
+          let none : r ≡ None = w.size ∙ rw (cannot h) in
+          let same : out' ≡ out = w.bytes ∙ rw (cannot h) in
+          (ap (λ (o : Option ℕ). unwrap_or o 0) none, same)
 
-    pub right_size : SidWritten ws n out out' r
+    size_or : (b : Bool) (k : ℕ) → unwrap_or (if b then Some k else None) 0 ≡ (if b then k else 0)
+    size_or true k = refl
+    size_or false k = refl
+
+    bytes_or : (b : Bool) (l : List ℕ) → (if b then l ++ drop (length l) out else out) ≡ (if b then l ++ drop (if b then length l else 0) out else out)
+    bytes_or true l = refl
+    bytes_or false l = refl
+
+    its_size : unwrap_or r 0 ≡ (if can_write_number (sids_in ws) n out then length (sid_bytes ws n) else 0)
+    its_size = ap (λ (o : Option ℕ). unwrap_or o 0) w.size ∙ size_or (can_write_number (sids_in ws) n out) (length (sid_bytes ws n))
+
+    pub right_size : SidWritten ws n out out' (unwrap_or r 0)
     right_size = record {
-      size = rw (eq-eqb (length ws) control_words l) w.size;
-      bytes = rw (eq-eqb (length ws) control_words l) w.bytes;
+      size = rw (eq-eqb (length ws) control_words l) its_size;
+      bytes =
+          rw (eq-eqb (length ws) control_words l)
+          (w.bytes ∙ bytes_or (can_write_number (sids_in ws) n out) (sid_bytes ws n)
+          ∙ ap (λ (k : ℕ). if can_write_number (sids_in ws) n out then sid_bytes ws n ++ drop k out else out) (sym its_size));
       gives = gives_it;
       none = none_there;
     }
+
+-- a SID has bytes
+pub some_bytes : (ws : List ℕ) (n : ℕ) {out out' : List ℕ} {r : Option ℕ} → WroteNumber ws n out out' r → IfSome r (λ size. 0 < size)
+unfolding packed
+some_bytes ws n {out} w = rw w.size (by (can_write_number ws n out))
+  where
+    by : (b : Bool) → IfSome (if b then Some (length (packed (row_sid (number_row ws n)))) else None) (λ size. 0 < size)
+    by true = omega arith
+    by false = tt

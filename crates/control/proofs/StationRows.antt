@@ -58,9 +58,6 @@ stream_given s c d e = record {
 
 -- ---- storing
 
-pub stored_at : (ws : List ℕ) (v : ℕ) {at k : ℕ} → at ≡ k → set ws at v ≡ set ws k v
-stored_at ws v e = ap (λ (j : ℕ). set ws j v) e
-
 -- the words of a state, with another row for station s
 abbrev RowOf : State → ℕ → List ℕ → List ℕ → Type 0
 RowOf σ s row ws = RowIn station_row station_words control_sizes (sections σ) station_section σ.stations s row ws

@@ -1,6 +1,6 @@
 -- What the functions over the linked pairs' rows give: of the pairs that are read from the words, and, where they are stored, of every state
 -- that the words hold. Assumes nothing.
-use Rattle.std.specs.Prelude.{ℕ, ◌≤◌, ◌≡◌, Bool, List, [], ◌++◌, map, ltb, get_or, set, if◌then◌else◌}
+use Rattle.std.specs.Prelude.{ℕ, ◌<◌, ◌≡◌, Option, unwrap_or, IfSome, Bool, List, [], ◌++◌, map, ltb, get_or, set, if◌then◌else◌}
 use Rattle.table.specs.Rows.{read_rows}
 use Rattle.rules.specs.Basic.{member}
 use Rattle.rules.specs.Table.{Slot, free, live, lives}
@@ -28,26 +28,30 @@ pub record RowGiven (place : ℕ) (ws : List ℕ) (r : Pair) : Type 0 where
   -- a pair that is read there
   pub pair : (p : rules.Pair) → get_or (pairs_of ws) place free ≡ live p → pair_of r.session r.elevated r.filtered ≡ p
 
-pub record PairFound (f : rules.Pair → Bool) (ws : List ℕ) (r : ℕ) : Type 0 where
-  pub index : r ≡ found_index f (pairs_of ws)
-  pub within : r ≤ pair_slots
+-- the row at a place, as the code reads it
+abbrev pub row_in : List ℕ → ℕ → Pair
+row_in ws place = record { session = get_or ws (pair_word_at place session_word) 0; elevated = get_or ws (pair_word_at place elevated_word) 0; filtered = get_or ws (pair_word_at place filtered_word) 0 }
 
-pub record PlaceFree (ws : List ℕ) (r : ℕ) : Type 0 where
-  pub index : r ≡ free_index (pairs_of ws)
-  pub within : r ≤ pair_slots
+pub record PairFound (f : rules.Pair → Bool) (ws : List ℕ) (r : Option ℕ) : Type 0 where
+  pub index : unwrap_or r pair_slots ≡ found_index f (pairs_of ws)
+  pub within : IfSome r (λ k. k < pair_slots)
+
+pub record PlaceFree (ws : List ℕ) (r : Option ℕ) : Type 0 where
+  pub index : unwrap_or r pair_slots ≡ free_index (pairs_of ws)
+  pub within : IfSome r (λ k. k < pair_slots)
 
 -- the place of the session's pair, or the lowest free one
 abbrev pub place_for : ℕ → List (Slot rules.Pair) → ℕ
 place_for session ps = if ltb (found_index (is_of session) ps) pair_slots then found_index (is_of session) ps else free_index ps
 
-pub record PlaceGiven (session : ℕ) (ws : List ℕ) (r : ℕ) : Type 0 where
-  pub index : r ≡ place_for session (pairs_of ws)
-  pub within : r ≤ pair_slots
+pub record PlaceGiven (session : ℕ) (ws : List ℕ) (r : Option ℕ) : Type 0 where
+  pub index : unwrap_or r pair_slots ≡ place_for session (pairs_of ws)
+  pub within : IfSome r (λ k. k < pair_slots)
 
 -- ---- storing
 
-pub record PairSet (place session elevated filtered : ℕ) (ws ws' : List ℕ) : Type 0 where
-  pub control : (σ : State) → ControlIn σ ws → ControlIn (with_pairs (set σ.pairs place (live (pair_of session elevated filtered))) σ) ws'
+pub record PairSet (place : ℕ) (p : Pair) (ws ws' : List ℕ) : Type 0 where
+  pub control : (σ : State) → ControlIn σ ws → ControlIn (with_pairs (set σ.pairs place (live (pair_of p.session p.elevated p.filtered))) σ) ws'
 
 -- ---- references
 

@@ -7,12 +7,8 @@ ghost use Rattle.rules.specs.Memory.{control_words};
 ghost use Rattle.control.specs.Control.{ControlIn};
 
 use crate::layout::*;
-use crate::stations::set_token;
-use sid::layout::{PLACES, ROW_WORDS, ROWS};
-use table::slices;
-
-// The first word of the rows of S-1-5-7 and S-1-5-18.
-const NT_HEADER: u64 = 0x0500_0000_0000_0101;
+use crate::stations::{Station, set_token};
+use sid::layout::{NT_HEADER, PLACES, ROW_WORDS, ROWS};
 
 const SECOND_PLACE: usize = PLACES + 1;
 
@@ -41,13 +37,11 @@ pub fn write(control: &mut [u64])
     requires { length control.old ≡ control_words }
     ensures { ControlIn start control.new }
 {
-    slices::zero_words(CONTROL_WORDS, control);
+    control.fill(0);
     control[NEXT_TOKEN] = 2;
     control[NEXT_HANDLE] = 1;
     write_sids(&mut control[SIDS_AT..SIDS_END]);
-    let mut i: u32 = 0;
-    while i < STATIONS as u32 {
-        set_token(i, 1, control);
-        i += 1;
+    for number in 0..STATIONS as u32 {
+        set_token(Station { number }, 1, control);
     }
 }

@@ -3,7 +3,8 @@ ghost use Rattle.std.specs.Prelude.{◌≡◌, ◌<◌, length, set};
 ghost use Rattle.rules.specs.Pair.{is_of, has};
 ghost use Rattle.rules.specs.State.{pair_slots};
 ghost use Rattle.rules.specs.Memory.{pair_words, pair_word_at, control_words};
-ghost use Rattle.control.specs.Pairs.{PairFound, PlaceFree, PlaceGiven, RowGiven, PairSet, PairsRefer};
+ghost use Rattle.handle.specs.First.{FirstOf};
+ghost use Rattle.control.specs.Pairs.{row_in, PairFound, PlaceFree, PlaceGiven, RowGiven, PairSet, PairsRefer};
 
 use crate::layout::*;
 
@@ -43,75 +44,65 @@ pub fn row(place: usize, control: &[u64]) -> Pair
 
 // ---- looking
 
-// The place of the session's pair; past the last one where it has none.
-fn place_of(session: u64, control: &[u64]) -> usize
+// The first place whose row passes.
+fn position<F: Fn(Pair) -> bool>(control: &[u64], passes: F) -> Option<usize>
+    requires long { length control.now ≡ control_words }
+    requires callable { F.IsAlwaysCallable passes }
+    ensures { FirstOf (λ k. F.post passes (row_in control.now k)) pair_slots result }
+{
+    for place in 0..PAIRS {
+        if passes(row(place, control)) {
+            return Some(place);
+        }
+    }
+    None
+}
+
+// The place of the session's pair.
+fn place_of(session: u64, control: &[u64]) -> Option<usize>
     requires { length control.now ≡ control_words }
     ensures { PairFound (is_of session) control.now result }
 {
-    let mut i: usize = 0;
-    while i < PAIRS {
-        let p = row(i, control);
-        if (p.elevated != 0) & (p.session == session) {
-            return i;
-        }
-        i += 1;
-    }
-    i
+    position(control, |p| (p.elevated != 0) & (p.session == session))
 }
 
-// The place of the pair that the token is in; past the last one where it is in none.
-pub fn place_with(token: u64, control: &[u64]) -> usize
+// The place of the pair that the token is in.
+pub fn place_with(token: u64, control: &[u64]) -> Option<usize>
     requires { length control.now ≡ control_words }
     ensures { PairFound (has token) control.now result }
 {
-    let mut i: usize = 0;
-    while i < PAIRS {
-        let p = row(i, control);
-        if (p.elevated != 0) & ((p.elevated == token) | (p.filtered == token)) {
-            return i;
-        }
-        i += 1;
-    }
-    i
+    position(
+        control,
+        |p| (p.elevated != 0) & ((p.elevated == token) | (p.filtered == token)),
+    )
 }
 
-// The lowest free place; past the last one where there is none.
-fn free_place(control: &[u64]) -> usize
+// The lowest free place.
+fn free_place(control: &[u64]) -> Option<usize>
     requires { length control.now ≡ control_words }
     ensures { PlaceFree control.now result }
 {
-    let mut i: usize = 0;
-    while i < PAIRS {
-        let p = row(i, control);
-        if p.elevated == 0 {
-            return i;
-        }
-        i += 1;
-    }
-    i
+    position(control, |p| p.elevated == 0)
 }
 
-// Where the session's pair goes: the place of its old one, else the lowest free one; past the last one where there is none.
-pub fn place_for(session: u64, control: &[u64]) -> usize
+// Where the session's pair goes: the place of its old one, else the lowest free one.
+pub fn place_for(session: u64, control: &[u64]) -> Option<usize>
     requires { length control.now ≡ control_words }
     ensures { PlaceGiven session control.now result }
 {
     let place = place_of(session, control);
-    if place < PAIRS {
-        return place;
-    }
-    free_place(control)
+    place.or_else(|| free_place(control))
 }
 
 // ---- storing
 
-pub fn set_pair(place: usize, session: u64, elevated: u64, filtered: u64, control: &mut [u64])
+pub fn set_pair(place: usize, pair: Pair, control: &mut [u64])
     requires { (place < pair_slots) × (length control.old ≡ control_words) }
-    ensures { PairSet place session elevated filtered control.old control.new }
+    ensures { PairSet place pair control.old control.new }
 {
-    set_word(place, SESSION_WORD, session, control);
-    set_word(place, ELEVATED_WORD, elevated, control);
-    set_word(place, FILTERED_WORD, filtered, control);
+    set_word(place, SESSION_WORD, pair.session, control);
+    set_word(place, ELEVATED_WORD, pair.elevated, control);
+    set_word(place, FILTERED_WORD, pair.filtered, control);
 }
 
 // ---- references
@@ -121,5 +112,5 @@ pub fn refer(token: u64, control: &[u64]) -> bool
     requires { length control.now ≡ control_words }
     ensures { PairsRefer token control.now result }
 {
-    place_with(token, control) < PAIRS
+    place_with(token, control).is_some()
 }

@@ -1,65 +1,44 @@
 -- What the SIDs of request 10 are asked for: each is a number in the table, and none is new. Assumes nothing.
-use Prim.Native.Nat.{ℕ, zero, suc, ◌-◌, ◌≤◌, ◌<◌}
+use Prim.Native.Nat.{ℕ, zero, suc}
 use native.Mathlib.Omega.{arith}
-use mathlib.Core.Path.{◌≡◌, refl, sym, ap, ap₂, ◌∙◌}
-use mathlib.Core.Bool.{Bool, true, ◌&&◌, and_assoc, and-true}
-use mathlib.Core.List.{List, [], ◌∷◌, ◌++◌, map}
-use lib.ListN.{length}
+use mathlib.Core.Path.{◌≡◌, refl, sym, ap, ◌∙◌}
+use mathlib.Core.Bool.{Bool, true, ◌&&◌}
+use mathlib.Core.List.{List, [], ◌∷◌, map}
+use lib.ListN.{length, drop}
+use Rattle.std.specs.List.{list_all}
 use Rattle.rules.specs.Basic.{all}
-use Rattle.rules.specs.Number.{Read, got, bad, max32}
+use Rattle.rules.specs.Number.{Read, got, bad}
 use Rattle.rules.specs.Sid.{Sid}
-use Rattle.rules.specs.SidTable.{max_sids, is_number}
+use Rattle.rules.specs.SidTable.{is_number}
 use Rattle.rules.specs.Given.{Given, by_number, entered_all, number_in}
 use Rattle.rules.specs.Request.{follow, give, ◌>>=◌, times, u32, sid_number}
 use Rattle.rules.proofs.Facts.{valid_facts}
 use Rattle.rules.proofs.SidNumbers.{sids_fit, sids_few, is_by_number, numbers_enter_none}
-use Rattle.number.specs.declared.Number.{Number}
-use Rattle.number.specs.declared.Number.TheVariants as number
-use Rattle.number.specs.Meaning.{NumberAt}
 use Rattle.sid.specs.Numbers.{NumberIn}
 use Rattle.control.specs.Sids.{SidCount}
 use Rattle.copy.specs.Asked.{NumbersJudged, NumbersAsked}
-use Rattle.copy.proofs.Numbers.{Walk, walk_begin, walk_end, walk_lost, walk_next}
+use Rattle.copy.specs.declared.restricting.Sids.{Sids}
+use Rattle.copy.specs.Numbers.{numbers_in}
+use Rattle.copy.proofs.NumbersRead.{numbers_got}
 
--- ---- the loop
+-- ---- by the table's size
 
-pub all_more : {A : Type 0} (f : A → Bool) (xs : List A) (x : A) → all f (xs ++ (x ∷ [])) ≡ (all f xs && f x)
+pub numbered : (n count : ℕ) (b : Bool) → NumberIn n count b → (sids : List Sid) → length sids ≡ count → b ≡ is_number sids n
+numbered n count b d sids l = d.is sids l
+
+pub list_all_lem : {A : Type 0} (f : A → Bool) (xs : List A) → list_all f xs ≡ all f xs
 unfolding all
-all_more f [] x = and-true (f x)
-all_more f (y ∷ ys) x = ap (λ (b : Bool). f y && b) (all_more f ys x) ∙ sym (and_assoc (f y) (all f ys) (f x))
-
--- so far
-abbrev pub Judging : (s : List ℕ) (at count size : ℕ) (known : Bool) (from left : ℕ) → Type 0
-Judging s at count size known from left = Walk (λ xs. (sids : List Sid) → length sids ≡ size → known ≡ all (is_number sids) xs) s at count from left
-
-module _ (s : List ℕ) (at count size : ℕ) where
-  -- no table has so many
-  pub judge_many : {r : Bool} → max_sids < size → NumbersJudged s at count size r
-  judge_many h = record { judged = λ given later e sids l few. absurd (omega arith) }
-
-  pub judge_begin : Judging s at count size true at count
-  unfolding all
-  judge_begin = walk_begin (λ xs. (sids : List Sid) → length sids ≡ size → true ≡ all (is_number sids) xs) s at count (λ sids l. refl)
-
-  module _ {known : Bool} {from left : ℕ} (k : Judging s at count size known from left) where
-    pub judge_end : left ≤ 0 → NumbersJudged s at count size known
-    judge_end h = record { judged = λ given later e sids l few. walk_end k e h sids l }
-
-    module _ (h : 0 < left) (n : Number) (f : NumberAt s from max32 n) where
-      pub judge_lost : {r : Bool} → n ≡ number.Bad → NumbersJudged s at count size r
-      judge_lost b = record { judged = λ given later e sids l few. absurd (walk_lost k e h n f b) }
-
-      pub judge_next : (sid q : ℕ) → n ≡ number.Value sid q → {b : Bool} → NumberIn sid size b → Judging s at count size (known && b) q (left - 1)
-      judge_next sid q v {b} d = walk_next k h n f sid q v (λ xs. (sids : List Sid) → length sids ≡ size → (known && b) ≡ all (is_number sids) xs)
-          (λ xs w sids l. ap₂ ◌&&◌ (w sids l) (d.is sids l) ∙ sym (all_more (is_number sids) xs sid))
+list_all_lem f [] = refl
+list_all_lem f (x ∷ xs) = ap (λ (b : Bool). f x && b) (list_all_lem f xs)
 
 -- ---- in a state
 
-pub asks_numbers : (listed : ℕ) {s : List ℕ} {at count size : ℕ} {cs : List ℕ} {known : Bool} → SidCount cs size → NumbersJudged s at count size known
-    → NumbersAsked listed s at count cs (record { listed = listed; known = known; fits = true })
-asks_numbers listed n j = record {
-  size = refl;
-  known = λ given later e σ v c. j.judged given later e σ.sids (sym (n.count σ c)) (omega (arith, n.count σ c, sids_few σ.sids (valid_facts σ v).loose.sids));
+pub asks_numbers : (list : Sids) {s : List ℕ} {at count size : ℕ} {cs ns : List ℕ} {known : Bool} → SidCount cs size → ns ≡ numbers_in count (drop at s) → NumbersJudged ns size known
+    → NumbersAsked list s at count cs (record { list = list; known = known; fits = true })
+asks_numbers list {s} {at} {count} n all_of j = record {
+  same = refl;
+  known = λ given later e σ v c.
+      j.judged σ.sids (sym (n.count σ c)) (omega (arith, n.count σ c, sids_few σ.sids (valid_facts σ v).loose.sids)) ∙ ap (all (is_number σ.sids)) (all_of ∙ numbers_got count (drop at s) e);
   fits = λ σ v. sym (sids_fit σ.sids (valid_facts σ v).loose.sids);
 }
 

@@ -1,108 +1,103 @@
 -- Request 10's indexes of groups, as the rule judges them, and a step in the row for each. Assumes nothing.
-use Prim.Native.Nat.{ℕ, ◌-◌, ◌^◌, ◌%◌, ◌≤◌, ◌<◌}
+use Prim.Native.Nat.{ℕ, ◌+◌, ◌^◌, ◌%◌, ◌≤◌, ◌<◌}
 use native.Mathlib.Omega.{arith}
-use mathlib.Core.Path.{◌≡◌, refl, ap, ap₂, ◌∙◌, subst}
-use mathlib.Core.Bool.{Bool, true, false, not, ◌&&◌}
-use mathlib.Core.List.{List, [], ◌∷◌, ◌++◌, map}
-use mathlib.Core.Logic.{⊎_elim}
+use mathlib.Core.Path.{◌≡◌, refl, sym, ap, ap₂, ◌∙◌, subst}
+use mathlib.Core.Bool.{Bool, true, false, not, ◌&&◌, ◌||◌, and-false, and_assoc, or-true, or-false}
+use mathlib.Core.List.{List, [], ◌∷◌, ◌++◌}
+use mathlib.Core.Logic.{◌⊎◌, inl, inr, ⊎_elim}
 use lib.Bits.{bit_or}
-use lib.Dec.{ltb}
-use lib.ListN.{length, drop}
-use borrow.Author.Tests.{ltb-true}
-use Rattle.std.specs.Prelude.{if◌then◌else◌}
-use Rattle.rules.specs.Basic.{all, distinct, change_at, is_below}
+use lib.Dec.{eqb, leb}
+use lib.ListN.{length, take, drop, get_or}
+use borrow.Author.Tests.{lt-ltb, le-ltb, leb-true, not-true, eqb-true, eqb-false, ne_eqb}
+use Rattle.std.proofs.lemmas.Bool.{leb-false}
+use Rattle.std.proofs.lemmas.List.{take-append-drop, drop_more}
+use Rattle.rules.specs.Basic.{all, member, distinct, change_at, is_below}
 use Rattle.rules.specs.Bits.{has}
-use Rattle.rules.specs.Number.{max32}
-use Rattle.rules.specs.Entry.{Entry, key_of, apply_all}
-use Rattle.rules.specs.AdjustPrivileges.{named}
 use Rattle.rules.specs.Group.{Group, denied}
 use Rattle.rules.specs.Token.{Token, max_groups, with_groups}
 use Rattle.rules.specs.Memory.{token_words, token_row}
-use Rattle.rules.specs.Request.{times, u32}
 use Rattle.rules.specs.Restrict.{denied_all}
-use Rattle.rules.proofs.Logic.{and_l, and_r, length_change_at, mem_change_at}
-use Rattle.number.specs.declared.Number.{Number}
-use Rattle.number.specs.declared.Number.TheVariants as number
-use Rattle.number.specs.Meaning.{NumberAt}
-use Rattle.body.specs.Entries.{entry_of, Progress, going, stopped, turned, fold_all, folded}
-use Rattle.body.proofs.Passes.{turn_good, turn_bad, all_passed}
-use Rattle.body.proofs.Folding.{fold_end, fold_lost, fold_next}
-use Rattle.copy.specs.DeniedGroups.{marks_of, in_range, kept, marked, IndexesJudged, Packed, deny_in, DeniedAt, GroupsDenied}
-use Rattle.copy.specs.declared.denied_groups.Marks.{Marks}
-use Rattle.copy.proofs.Numbers.{no_number_lem, one_number_lem, Walk, walk_begin, walk_end, walk_lost, walk_next}
+use Rattle.rules.proofs.Bits.{has_or, has_power, has_none, power_inside}
+use Rattle.rules.proofs.Logic.{and_i, and_l, and_r, or_e, or_no, either, member_append, length_change_at, mem_change_at}
+use Rattle.copy.specs.DeniedGroups.{Packed, deny_in, DeniedAt, GroupsDenied}
 
--- ---- one index more, judged
+-- ---- the indexes, judged
 
-module _ (o n : Bool) (size index w : ℕ) (en : n ≡ has index w) where
-  pub mark_good : size ≤ max_groups → (o && ltb index size && not n) ≡ true → (b w' : ℕ) → b ≡ 2 ^ index % 2 ^ 64 → w' ≡ bit_or w b
-      → going tt w' ≡ marked size index (if o then going tt w else stopped)
+-- those named so far are good, and their bits are the word's
+pub record Named (size : ℕ) (is : List ℕ) (w : ℕ) : Type 0 where
+  pub below : all (is_below size) is ≡ true
+  pub apart : distinct is ≡ true
+  pub bits : (k : ℕ) → has k w ≡ member k is
+
+pub none_named : (size : ℕ) → Named size [] 0
+unfolding all distinct member
+none_named size = record { below = refl; apart = refl; bits = has_none }
+
+all_last : {A : Type 0} (f : A → Bool) (xs : List A) (x : A) (ys : List A) → all f (xs ++ (x ∷ ys)) ≡ (all f xs && (f x && all f ys))
+unfolding all
+all_last f [] x ys = refl
+all_last f (z ∷ xs) x ys = ap (λ (b : Bool). f z && b) (all_last f xs x ys) ∙ sym (and_assoc (f z) (all f xs) (f x && all f ys))
+
+swap : (m n : ℕ) → eqb m n ≡ eqb n m
+swap m n = ⊎_elim (λ e. ap₂ eqb (eqb-true m n e) (sym (eqb-true m n e))) (λ e. e ∙ sym (ne_eqb n m (λ h. eqb-false m n e (sym h)))) (either (eqb m n))
+
+-- one more that is none of them
+apart_last : (xs : List ℕ) (x : ℕ) → distinct xs ≡ true → member x xs ≡ false → distinct (xs ++ (x ∷ [])) ≡ true
+unfolding distinct member
+apart_last [] x d m = refl
+apart_last (y ∷ ys) x d m =
+    let none = or_no (eqb x y) (member x ys) m in
+    ap₂ (λ (a b : Bool). not a && b)
+    (member_append y ys (x ∷ []) ∙ ap₂ (λ (a b : Bool). a || (b || false)) (not-true (member y ys) (and_l (not (member y ys)) (distinct ys) d)) (swap y x ∙ none.0))
+    (apart_last ys x (and_r (not (member y ys)) (distinct ys) d) none.1)
+
+-- one that is one of them
+not_apart : (xs : List ℕ) (x : ℕ) (ys : List ℕ) → member x xs ≡ true → distinct (xs ++ (x ∷ ys)) ≡ false
+unfolding distinct member
+not_apart [] x ys m = cc
+not_apart (y ∷ xs) x ys m = by (λ h. not_apart xs x ys h) (or_e (eqb x y) (member x xs) m)
+  where
+    by : (member x xs ≡ true → distinct (xs ++ (x ∷ ys)) ≡ false) → (eqb x y ≡ true) ⊎ (member x xs ≡ true)
+        → (not (member y (xs ++ (x ∷ ys))) && distinct (xs ++ (x ∷ ys))) ≡ false
+    by ih (inl e) = ap (λ (b : Bool). not b && distinct (xs ++ (x ∷ ys)))
+        (member_append y xs (x ∷ ys) ∙ ap (λ (b : Bool). member y xs || (b || member y ys)) (swap y x ∙ e) ∙ or-true (member y xs))
+    by ih (inr h) = ap (λ (b : Bool). not (member y (xs ++ (x ∷ ys))) && b) (ih h) ∙ and-false (not (member y (xs ++ (x ∷ ys))))
+
+module _ (size : ℕ) (is : List ℕ) (w : ℕ) (n : Named size is w) (few : size ≤ max_groups) (i : ℕ) where
+  pub named_next : (leb size i || has i w) ≡ false → (w' : ℕ) → w' ≡ bit_or w (2 ^ i % 2 ^ 64) → Named size (is ++ (i ∷ [])) w'
+  unfolding member is_below all
+  named_next f w' e =
+      let good = or_no (leb size i) (has i w) f in
+      let low : i < size = leb-false size i good.0 in
+      record {
+        below = all_last (is_below size) is i [] ∙ ap₂ (λ (a b : Bool). a && (b && true)) n.below (lt-ltb i size low);
+        apart = apart_last is i n.apart (sym (n.bits i) ∙ good.1);
+        bits = λ k.
+            ap (has k) (e ∙ ap (bit_or w) (power_inside 64 i (omega arith)))
+            ∙ has_or k w (2 ^ i) ∙ ap₂ ◌||◌ (n.bits k) (has_power k i ∙ sym (or-false (eqb k i))) ∙ sym (member_append k is (i ∷ []));
+      }
+
+  -- one that is not good, wherever it stands
+  pub named_bad : (leb size i || has i w) ≡ true → (later : List ℕ) → (all (is_below size) (is ++ (i ∷ later)) && distinct (is ++ (i ∷ later))) ≡ false
   unfolding is_below
-  mark_good h t b w' eb ew =
-      let below = ltb-true index size (and_r o (ltb index size) (and_l (o && ltb index size) (not n) t)) in
-      turn_good (in_range size) kept o (ltb index size) n tt w index 0 refl en t (omega arith) tt refl b w' eb ew
+  named_bad t later = by (or_e (leb size i) (has i w) t)
+    where
+      by : (leb size i ≡ true) ⊎ (has i w ≡ true) → (all (is_below size) (is ++ (i ∷ later)) && distinct (is ++ (i ∷ later))) ≡ false
+      by (inl h) = ap (λ (b : Bool). b && distinct (is ++ (i ∷ later)))
+          (all_last (is_below size) is i later ∙ ap (λ (b : Bool). all (is_below size) is && (b && all (is_below size) later)) (le-ltb i size (leb-true size i h)) ∙ and-false (all (is_below size) is))
+      by (inr h) = ap (λ (b : Bool). all (is_below size) (is ++ (i ∷ later)) && b) (not_apart is i later (sym (n.bits i) ∙ h)) ∙ and-false (all (is_below size) (is ++ (i ∷ later)))
 
-  pub mark_bad : (o && ltb index size && not n) ≡ false → stopped ≡ marked size index (if o then going tt w else stopped)
-  unfolding is_below
-  mark_bad t = turn_bad (in_range size) kept o (ltb index size) n tt w index 0 refl en t
+-- the judgement, where those so far are all, or one that is not good comes
+module _ (all_of : List ℕ) {size : ℕ} {is : List ℕ} {w : ℕ} (n : Named size is w) where
+  pub indexes_good : is ≡ all_of → true ≡ (all (is_below size) all_of && distinct all_of)
+  indexes_good e = sym (subst (λ (l : List ℕ). (all (is_below size) l && distinct l) ≡ true) e (and_i n.below n.apart))
 
--- ---- all of them, judged
-
-abbrev as_entry : ℕ → Entry
-as_entry i = entry_of i 0
-
-module _ (size : ℕ) where
-  as_entries : (is : List ℕ) (x : Progress (Unit {0})) → fold_all (marked size) is x ≡ fold_all (turned (in_range size) kept) (map as_entry is) x
-  unfolding fold_all
-  as_entries [] x = refl
-  as_entries (i ∷ is) x = as_entries is (marked size i x)
-
-  all_below_lem : (is : List ℕ) → all (in_range size) (map as_entry is) ≡ all (is_below size) is
-  unfolding all
-  all_below_lem [] = refl
-  all_below_lem (i ∷ is) = ap (λ (b : Bool). is_below size i && b) (all_below_lem is)
-
-  keys : (is : List ℕ) → map key_of (map as_entry is) ≡ is
-  unfolding key_of
-  keys [] = refl
-  keys (i ∷ is) = ap (λ (l : List ℕ). i ∷ l) (keys is)
-
-  all_marked : (is : List ℕ)
-      → fold_all (marked size) is (going tt 0)
-      ≡ (if all (is_below size) is && distinct is then going (apply_all kept (map as_entry is) tt) (named (map as_entry is)) else stopped)
-  all_marked is =
-      as_entries is (going tt 0) ∙ all_passed (in_range size) kept (map as_entry is) tt
-      ∙ ap (λ (b : Bool). if b then going (apply_all kept (map as_entry is) tt) (named (map as_entry is)) else stopped)
-      (ap₂ (λ (b : Bool) (ks : List ℕ). b && distinct ks) (all_below_lem is) (keys is))
-
-same_end : (x y : Unit {0}) (v w : ℕ) (a b : Bool) → (if a then going x v else stopped) ≡ (if b then going y w else stopped) → a ≡ b
-same_end x y v w true true e = refl
-same_end x y v w true false e = cc
-same_end x y v w false true e = cc
-same_end x y v w false false e = refl
-
-module _ (size : ℕ) (s : List ℕ) (at count : ℕ) where
-  abbrev pub marking : Progress (Unit {0})
-  marking = folded (marked size) stopped (going tt 0) (times count u32 (drop at s))
-
-  judged_as : (ok : Bool) (w : ℕ) → (if ok then going tt w else stopped) ≡ marking → IndexesJudged size s at count ok
-  unfolding folded
-  judged_as ok w e = record {
-    judged = λ is later g. same_end tt (apply_all kept (map as_entry is) tt) w (named (map as_entry is)) ok (all (is_below size) is && distinct is)
-        (e ∙ ap (folded (marked size) stopped (going tt 0)) g ∙ all_marked size is);
-  }
-
-  module _ (m : Marks) (from left : ℕ) (inv : folded (marked size) stopped (marks_of m) (times left u32 (drop from s)) ≡ marking) where
-    pub marks_end : left ≤ 0 → IndexesJudged size s at count m.ok
-    marks_end h = judged_as m.ok m.named (fold_end u32 (marked size) stopped s from left (marks_of m) marking inv h)
-
-    module _ (h : 0 < left) (n : Number) (f : NumberAt s from max32 n) where
-      pub marks_lost : n ≡ number.Bad → IndexesJudged size s at count false
-      marks_lost g = judged_as false 0 (fold_lost u32 (marked size) stopped s from left (marks_of m) marking inv h (no_number_lem s from n f g))
-
-      pub marks_next : (i q : ℕ) → n ≡ number.Value i q → (m' : Marks) → marks_of m' ≡ marked size i (marks_of m)
-          → folded (marked size) stopped (marks_of m') (times (left - 1) u32 (drop q s)) ≡ marking
-      marks_next i q g m' e =
-          fold_next u32 (marked size) stopped s from left (marks_of m) marking inv h i q (one_number_lem s from n f i q g) (marks_of m') e
+  pub indexes_bad : size ≤ max_groups → (i : ℕ) → is ≡ take (length is) all_of → (length is < length all_of) × (i ≡ get_or all_of (length is) i)
+      → (leb size i || has i w) ≡ true → false ≡ (all (is_below size) all_of && distinct all_of)
+  indexes_bad few i e h t =
+      let parts : is ++ (i ∷ drop (length is + 1) all_of) ≡ all_of =
+      ap₂ (λ (l r : List ℕ). l ++ r) e (ap (λ (x : ℕ). x ∷ drop (length is + 1) all_of) h.1 ∙ sym (drop_more all_of (length is) i h.0)) ∙ take-append-drop (length is) all_of in
+      sym (subst (λ (l : List ℕ). (all (is_below size) l && distinct l) ≡ false) parts (named_bad size is w n few i t (drop (length is + 1) all_of)))
 
 -- ---- the groups
 
@@ -130,29 +125,25 @@ abbrev Denied : (size : ℕ) (ws₀ ws : List ℕ) → List ℕ → Type 0
 Denied size ws₀ ws is = (t : Token) → Sized size t → ws₀ ≡ token_row t → (ws ≡ token_row (denied_of is t)) × Sized size (denied_of is t)
 
 -- so far in the loop
-pub record Denying (size : ℕ) (s : List ℕ) (at count : ℕ) (ws₀ : List ℕ) (from left : ℕ) (ws : List ℕ) : Type 0 where
+pub record Denying (size : ℕ) (ws₀ : List ℕ) (is : List ℕ) (ws : List ℕ) : Type 0 where
   pub long : length ws ≡ token_words
-  pub walk : Walk (Denied size ws₀ ws) s at count from left
+  pub row : Denied size ws₀ ws is
 
-pub deny_begin : (size : ℕ) (s : List ℕ) (at count : ℕ) {ws : List ℕ} → length ws ≡ token_words → Denying size s at count ws at count ws
+pub deny_begin : (size : ℕ) {ws : List ℕ} → length ws ≡ token_words → Denying size ws [] ws
 unfolding denied_all with_groups
-deny_begin size s at count {ws} long = record { long = long; walk = walk_begin (Denied size ws ws) s at count (λ t z e. (e, z)) }
+deny_begin size long = record { long = long; row = λ t z e. (e, z) }
 
-module _ {size : ℕ} {s : List ℕ} {at count : ℕ} {ws₀ : List ℕ} {from left : ℕ} {ws : List ℕ} (k : Denying size s at count ws₀ from left ws) where
-  pub deny_end : left ≤ 0 → GroupsDenied size s at count ws₀ ws
-  deny_end h = record { long = k.long; made = λ is later g t n p e. (walk_end k.walk g h t (n, p) e).0 }
+module _ {size : ℕ} {ws₀ is ws : List ℕ} (k : Denying size ws₀ is ws) where
+  pub deny_end : {all_of : List ℕ} → is ≡ all_of → GroupsDenied size all_of ws₀ ws
+  deny_end e = record { long = k.long; made = λ t n p q. subst (λ (l : List ℕ). ws ≡ token_row (denied_of l t)) e (k.row t (n, p) q).0 }
 
-  module _ (h : 0 < left) (n : Number) (f : NumberAt s from max32 n) where
-    pub deny_lost : n ≡ number.Bad → GroupsDenied size s at count ws₀ ws
-    deny_lost b = record { long = k.long; made = λ is later g t m p e. absurd (walk_lost k.walk g h n f b) }
-
-    pub deny_next : (i q : ℕ) → n ≡ number.Value i q → {ws' : List ℕ} → DeniedAt size i ws ws' → Denying size s at count ws₀ q (left - 1) ws'
-    unfolding deny_in with_groups
-    deny_next i q v {ws'} d = record {
-      long = d.long;
-      walk = walk_next k.walk h n f i q v (Denied size ws₀ ws') (λ is so_far t z e.
-          let u = so_far t z e in
-          let t₁ = denied_of is t in
-          subst (λ (gs : List Group). (ws' ≡ token_row (with_groups gs t)) × Sized size (with_groups gs t)) (denied_last is i t.groups)
-          (d.made t₁ u.1.0 u.1.1 u.0, deny_sized size i t₁ u.1));
-    }
+  pub deny_next : (i : ℕ) {ws' : List ℕ} → DeniedAt size i ws ws' → Denying size ws₀ (is ++ (i ∷ [])) ws'
+  unfolding deny_in with_groups
+  deny_next i {ws'} d = record {
+    long = d.long;
+    row = λ t z e.
+        let u = k.row t z e in
+        let t₁ = denied_of is t in
+        subst (λ (gs : List Group). (ws' ≡ token_row (with_groups gs t)) × Sized size (with_groups gs t)) (denied_last is i t.groups)
+        (d.made t₁ u.1.0 u.1.1 u.0, deny_sized size i t₁ u.1);
+  }

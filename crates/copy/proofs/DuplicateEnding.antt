@@ -1,14 +1,15 @@
 -- Request 9: the copy, the test, and how it ends. Assumes nothing.
-use Prim.Native.Nat.{ℕ, ◌<◌}
+use Prim.Native.Nat.{ℕ, ◌+◌, ◌*◌, ◌<◌}
 use native.Mathlib.Omega.{arith}
 use mathlib.Core.Path.{◌≡◌, refl, sym, ap, ◌∙◌}
 use mathlib.Core.Bool.{Bool, true, false, not, ◌&&◌, ◌||◌}
 use mathlib.Core.List.{List}
 use lib.Dec.{eqb, leb}
-use lib.ListN.{length, set, replicate, length-set}
-use borrow.Author.Tests.{eq-eqb, ne_eqb, not-true}
+use lib.ListN.{length, get_or, set, replicate, length-set}
+use borrow.Author.Tests.{eq-eqb, ne_eqb}
+use Rattle.std.specs.Prelude.{Ok, Err}
 use Rattle.table.specs.Lists.{pad}
-use Rattle.table.specs.Table.{part_at}
+use Rattle.table.specs.Table.{record_element}
 use Rattle.rules.specs.Bits.{within}
 use Rattle.rules.specs.Mask as Mask
 use Rattle.rules.specs.Privileges.{only_used}
@@ -25,21 +26,22 @@ use Rattle.rules.specs.Decision.{Decision, carried_out, need◌else◌then◌, c
 use Rattle.rules.specs.Duplicate.{retyped, copied, nobody, anonymous_copy, duplicated, valid_level, valid_duplicate, duplicate}
 use Rattle.rules.proofs.Logic.{and_l, and_r}
 use Rattle.handle.specs.declared.Handle.{Handle}
-use Rattle.privilege.specs.declared.privileges.Privileges.{Privileges}
-use Rattle.token.specs.Row.{privileges_in}
+use Rattle.handle.specs.Meaning.{handle_of}
 use Rattle.token.specs.declared.Identity.{Identity}
 use Rattle.control.specs.Counters.{NextGiven}
 use Rattle.state.specs.TokenCalls.{IdentityAt}
 use Rattle.state.specs.ReleaseFacts.{PartsIn}
-use Rattle.state.proofs.InPlace.{lent}
-use Rattle.answer.specs.declared.Answer.TheVariants as answers
+use Rattle.answer.specs.declared.refusal.Refusal.{Refusal}
+use Rattle.answer.specs.declared.refusal.Refusal.TheVariants as refusals
 use Rattle.decide.specs.declared.located.Located.{Located}
 use Rattle.decide.specs.declared.outcome.Outcome.{Outcome}
-use Rattle.decide.specs.Carried.{Ends, Carried}
+use Rattle.decide.specs.Carried.{Carried}
 use Rattle.decide.specs.Issue.{IssueRoom, RowIssued}
 use Rattle.decide.proofs.Deciding.{fails, holds, refuses, carried_as}
 use Rattle.decide.proofs.LookupLaws.{mask_narrow}
-use Rattle.decide.proofs.Locating.{TokenLocated, not_located}
+use Rattle.decide.specs.Located.{LocatedBy}
+use Rattle.decide.proofs.Locating.{locating_refuses}
+use Rattle.decide.proofs.Issuing.{room_refuses}
 use Rattle.copy.specs.Copies.{RowCopied, Remade, CopyIssued}
 use Rattle.copy.specs.Duplicate.{DuplicateJudged, copied_as, duplicated_as}
 use Rattle.copy.proofs.Copies.{issues_made, on_located}
@@ -62,11 +64,11 @@ module _ {n i s mask : ℕ} {hs : List Handle} {cs ts ds cs' ts' ds' : List ℕ}
   unfolding copied_as copied dacl_row
   issues_copy type level w c b e = issues_made (copied_as type level) w.inside k (λ t v q. c.made.row t (w.row ∙ q)) (λ t q. b.row ∙ q) e
 
-  pub issues_anonymous : (p : Privileges) → i < token_slots → p ≡ privileges_in (lent i ts)
-      → RowIssued s mask (anonymous_row n p.used) (replicate max_dacl 0) ts ds hs cs ts' ds' cs' r → CopyIssued anonymous_copy i s mask ts ds hs cs ts' ds' cs' r
+  pub issues_anonymous : i < token_slots → {used : ℕ} → used ≡ get_or ts (i * token_words + Head.used) 0
+      → RowIssued s mask (anonymous_row n used) (replicate max_dacl 0) ts ds hs cs ts' ds' cs' r → CopyIssued anonymous_copy i s mask ts ds hs cs ts' ds' cs' r
   unfolding anonymous_copy new_token no_limits no_defaults only_used nobody token_row head dacl_row mark pad
-  issues_anonymous p l ep e = issues_made anonymous_copy l k
-      (λ t v q. ap (anonymous_row n) (ap (λ (x : Privileges). x.used) ep ∙ ap (λ (w : List ℕ). (privileges_in w).used) (part_at token_words i ts ∙ q))) (λ t q. refl) e
+  issues_anonymous l eu e = issues_made anonymous_copy l k
+      (λ t v q. ap (anonymous_row n) (eu ∙ record_element token_words i Head.used ts 0 (omega arith) ∙ ap (λ (w : List ℕ). get_or w Head.used 0) q)) (λ t q. refl) e
 
 module _ (kind level : ℕ) {i s mask : ℕ} {hs : List Handle} {cs ts ds cs' ts' ds' : List ℕ} {r : Outcome} where
   same_copy : (f : ℕ → rules.Token → rules.Token) → ((m : ℕ) (t : rules.Token) → duplicated_as kind level m t ≡ f m t)
@@ -77,17 +79,14 @@ module _ (kind level : ℕ) {i s mask : ℕ} {hs : List Handle} {cs ts ds cs' ts
   unfolding copied_as duplicated_as duplicated
   to_primary k c = same_copy (copied_as 1 0) (λ m t. rw (eq-eqb kind 1 k)) c
 
-  pub to_anonymous : not (eqb kind 1) ≡ true → eqb level 0 ≡ true → CopyIssued anonymous_copy i s mask ts ds hs cs ts' ds' cs' r
-      → CopyIssued (duplicated_as kind level) i s mask ts ds hs cs ts' ds' cs' r
-  unfolding copied_as duplicated_as duplicated
-  to_anonymous k l c = same_copy anonymous_copy (λ m t. rw (not-true (eqb kind 1) k, l)) c
+  module _ (k : kind ≡ 1 → ⊥) where
+    pub to_anonymous : level ≡ 0 → CopyIssued anonymous_copy i s mask ts ds hs cs ts' ds' cs' r → CopyIssued (duplicated_as kind level) i s mask ts ds hs cs ts' ds' cs' r
+    unfolding copied_as duplicated_as duplicated
+    to_anonymous l c = same_copy anonymous_copy (λ m t. rw (ne_eqb kind 1 k, eq-eqb level 0 l)) c
 
-  pub to_impersonation : (kind ≡ 1 → ⊥) → (not (eqb kind 1) && eqb level 0) ≡ false → CopyIssued (copied_as 2 level) i s mask ts ds hs cs ts' ds' cs' r
-      → CopyIssued (duplicated_as kind level) i s mask ts ds hs cs ts' ds' cs' r
-  unfolding copied_as duplicated_as duplicated
-  to_impersonation k b c =
-      let f = ne_eqb kind 1 k in
-      same_copy (copied_as 2 level) (λ m t. rw (f, sym (ap (λ (x : Bool). not x && eqb level 0) f) ∙ b)) c
+    pub to_impersonation : (level ≡ 0 → ⊥) → CopyIssued (copied_as 2 level) i s mask ts ds hs cs ts' ds' cs' r → CopyIssued (duplicated_as kind level) i s mask ts ds hs cs ts' ds' cs' r
+    unfolding copied_as duplicated_as duplicated
+    to_impersonation l c = same_copy (copied_as 2 level) (λ m t. rw (ne_eqb kind 1 k, ne_eqb level 0 l)) c
 
 -- ---- the test
 
@@ -114,31 +113,34 @@ go kind level mask s σ h t =
     need can_issue σ else table_full then
     issued s mask (duplicated σ.tokens.next kind level t) σ
 
-module _ (kind level mask : ℕ) {s n : ℕ} {hs : List Handle} {cs ts ds : List ℕ} {token held : ℕ} {x : Located} (g : TokenLocated s n Mask.duplicate hs ts token held x) where
-  pub duplicate_unknown : {r : Outcome} → (x.refusal ≡ 0 → ⊥) → Ends (answers.Refused x.refusal) r → Carried (λ σ. duplicate σ s n kind level mask) ts ds hs cs ts ds cs r
+module _ (kind level mask : ℕ) {s n : ℕ} {hs : List Handle} {ts : List ℕ} where
+  pub duplicate_unknown : {e : Refusal} → LocatedBy s n Mask.duplicate hs ts (Err e) → {cs ds : List ℕ} → Carried (λ σ. duplicate σ s n kind level mask) ts ds hs cs ts ds cs (Err e)
   unfolding duplicate
-  duplicate_unknown {r} f e = not_located g (go kind level mask s) r e f
+  duplicate_unknown g = locating_refuses g (go kind level mask s)
 
-  module _ (z : x.refusal ≡ 0) (who : Identity) (is : IdentityAt x.slot ts who) {own : ℕ} (same : own ≡ held) {ok : Bool} (q : DuplicateJudged own who kind level mask ok) where
+  module _ {x : Located} (g : LocatedBy s n Mask.duplicate hs ts (Ok x)) (who : Identity) (is : IdentityAt x.slot ts who) {ok : Bool} (q : DuplicateJudged x.handle.mask who kind level mask ok) where
+    abbrev rest : State → Decision
+    rest σ = go kind level mask s σ (handle_of x.handle) (state.token_of σ x.handle.token)
+
     -- the test, in the state
-    judged : (σ : State) (h : rules-handle.Handle) → held ≡ h.mask → valid σ ≡ true → PartsIn σ ts ds hs cs → ok ≡ valid_duplicate h (state.token_of σ token) kind level mask
-    judged σ h m v p = q.judged h (state.token_of σ token) (same ∙ m) ((is.given token (g.slot z)).identity σ v p.tokens)
+    judged : {cs ds : List ℕ} (σ : State) → valid σ ≡ true → PartsIn σ ts ds hs cs → ok ≡ valid_duplicate (handle_of x.handle) (state.token_of σ x.handle.token) kind level mask
+    judged σ v p = q.judged (handle_of x.handle) (state.token_of σ x.handle.token) refl ((is.given x.handle.token g.there.slot).identity σ v p.tokens)
 
-    pub duplicate_bad : {r : Outcome} → not ok ≡ true → Ends (answers.Refused 5) r → Carried (λ σ. duplicate σ s n kind level mask) ts ds hs cs ts ds cs r
+    pub duplicate_bad : not ok ≡ true → {cs ds : List ℕ} → Carried (λ σ. duplicate σ s n kind level mask) ts ds hs cs ts ds cs (Err refusals.BadField)
     unfolding duplicate
-    duplicate_bad {r} f e = on_located g z (go kind level mask s) (λ h m. refuses 5 r e (omega arith)
-        (λ σ v p. fails (valid_duplicate (h σ) (state.token_of σ token) kind level mask) σ 5 _ (ap not (sym (judged σ (h σ) (m σ v p) v p)) ∙ f)))
+    duplicate_bad f = on_located g (go kind level mask s) (refuses {x = rest} refusals.BadField
+        (λ σ v p. fails (valid_duplicate (handle_of x.handle) (state.token_of σ x.handle.token) kind level mask) σ bad_field _ (ap not (sym (judged σ v p)) ∙ f)))
 
-    module _ (t : not ok ≡ false) {room : Bool} (i : IssueRoom ts hs cs room) where
-      pub duplicate_full : {r : Outcome} → not room ≡ true → Ends (answers.Refused 8) r → Carried (λ σ. duplicate σ s n kind level mask) ts ds hs cs ts ds cs r
+    module _ (t : not ok ≡ false) {room : Bool} {cs : List ℕ} (i : IssueRoom ts hs cs room) where
+      pub duplicate_full : not room ≡ true → {ds : List ℕ} → Carried (λ σ. duplicate σ s n kind level mask) ts ds hs cs ts ds cs (Err refusals.TableFull)
       unfolding duplicate
-      duplicate_full {r} f e = on_located g z (go kind level mask s) (λ h m. refuses 8 r e (omega arith) (λ σ v p.
-          holds (valid_duplicate (h σ) (state.token_of σ token) kind level mask) σ bad_field _ (ap not (sym (judged σ (h σ) (m σ v p) v p)) ∙ t)
-          ∙ fails (can_issue σ) σ 8 _ (ap not (sym (i.room σ v p)) ∙ f)))
+      duplicate_full f = on_located g (go kind level mask s) (carried_as (λ σ v p.
+          holds (valid_duplicate (handle_of x.handle) (state.token_of σ x.handle.token) kind level mask) σ bad_field _ (ap not (sym (judged σ v p)) ∙ t))
+          (room_refuses i (λ σ. issued s mask (duplicated σ.tokens.next kind level (state.token_of σ x.handle.token)) σ) f))
 
-      pub duplicates : {cs' ts' ds' : List ℕ} {r : Outcome} → not room ≡ false → CopyIssued (duplicated_as kind level) x.slot s mask ts ds hs cs ts' ds' cs' r
-          → Carried (λ σ. duplicate σ s n kind level mask) ts ds hs cs ts' ds' cs' r
+      pub duplicates : {ds cs' ts' ds' : List ℕ} {r : Outcome} → not room ≡ false → CopyIssued (duplicated_as kind level) x.slot s mask ts ds hs cs ts' ds' cs' r
+          → Carried (λ σ. duplicate σ s n kind level mask) ts ds hs cs ts' ds' cs' (Ok r)
       unfolding duplicate duplicated_as
-      duplicates f c = on_located g z (go kind level mask s) (λ h m. carried_as (λ σ v p.
-          holds (valid_duplicate (h σ) (state.token_of σ token) kind level mask) σ bad_field _ (ap not (sym (judged σ (h σ) (m σ v p) v p)) ∙ t)
-          ∙ holds (can_issue σ) σ table_full _ (ap not (sym (i.room σ v p)) ∙ f)) (c.carried token (g.slot z)))
+      duplicates f c = on_located g (go kind level mask s) (carried_as (λ σ v p.
+          holds (valid_duplicate (handle_of x.handle) (state.token_of σ x.handle.token) kind level mask) σ bad_field _ (ap not (sym (judged σ v p)) ∙ t)
+          ∙ holds (can_issue σ) σ table_full _ (ap not (sym (i.room σ v p)) ∙ f)) (c.carried x.handle.token g.there.slot))

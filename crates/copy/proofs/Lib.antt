@@ -1,8 +1,9 @@
+pub mod SlotRows
+pub mod NumbersRead
+pub mod RestrictedRow
+pub mod RestrictingSids
+pub mod DeniedGroups
+pub mod AskedNumbers
 pub mod Copies
 pub mod DuplicateEnding
-pub mod Numbers
-pub mod RestrictedRow
-pub mod DeniedGroups
-pub mod RestrictingSids
-pub mod AskedNumbers
 pub mod RestrictEnding

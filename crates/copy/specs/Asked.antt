@@ -9,12 +9,13 @@ use Rattle.rules.specs.Valid.{valid}
 use Rattle.rules.specs.Request.{times, u32}
 use Rattle.control.specs.Control.{ControlIn}
 use Rattle.copy.specs.declared.asked.Asked.{Asked}
+use Rattle.copy.specs.declared.restricting.Sids.{Sids}
 
 -- in a table of so many SIDs
-pub record NumbersJudged (s : List ℕ) (at count size : ℕ) (r : Bool) : Type 0 where
-  pub judged : (given later : List ℕ) → times count u32 (drop at s) ≡ got given later → (sids : List Sid) → length sids ≡ size → size ≤ max_sids → r ≡ all (is_number sids) given
+pub record NumbersJudged (given : List ℕ) (size : ℕ) (r : Bool) : Type 0 where
+  pub judged : (sids : List Sid) → length sids ≡ size → size ≤ max_sids → r ≡ all (is_number sids) given
 
-pub record NumbersAsked (listed : ℕ) (s : List ℕ) (at count : ℕ) (cs : List ℕ) (r : Asked) : Type 0 where
-  pub size : r.listed ≡ listed
+pub record NumbersAsked (list : Sids) (s : List ℕ) (at count : ℕ) (cs : List ℕ) (r : Asked) : Type 0 where
+  pub same : r.list ≡ list
   pub known : (given later : List ℕ) → times count u32 (drop at s) ≡ got given later → (σ : State) → valid σ ≡ true → ControlIn σ cs → r.known ≡ all (is_number σ.sids) given
   pub fits : (σ : State) → valid σ ≡ true → r.fits ≡ fits_table σ.sids

@@ -1,3 +1,4 @@
+pub mod Numbers
 pub mod Copies
 pub mod Duplicate
 pub mod DeniedGroups

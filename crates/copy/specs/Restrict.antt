@@ -1,5 +1,5 @@
 -- What requests 10 and 15 make and do, where the indexes and the SIDs are all there. Assumes nothing.
-use Rattle.std.specs.Prelude.{ℕ, ◌≤◌, ◌<◌, ◌≡◌, Bool, true, ◌&&◌, ◌||◌, List, eqb, leb, length, drop, if◌then◌else◌}
+use Rattle.std.specs.Prelude.{ℕ, ◌≤◌, ◌≡◌, Bool, true, ◌&&◌, ◌||◌, Option, None, Some, Result, IfOk, List, eqb, leb, length, drop, if◌then◌else◌}
 use Rattle.table.specs.Table.{nth_record}
 use Rattle.rules.specs.Basic.{all}
 use Rattle.rules.specs.Number.{got}
@@ -15,8 +15,15 @@ use Rattle.rules.specs.Request.{Reader, times, u32}
 use Rattle.rules.specs.Decision.{can_issue}
 use Rattle.rules.specs.Restrict.{restricting_to, valid_restrict, restricted, restrict}
 use Rattle.handle.specs.declared.Handle.{Handle}
+use Rattle.handle.specs.Words.{records_in}
+use Rattle.body.specs.declared.fields.RestrictFields.{RestrictFields}
+use Rattle.state.specs.declared.parts.Parts.{Parts}
 use Rattle.state.specs.ReleaseFacts.{PartsIn}
+use Rattle.answer.specs.declared.refusal.Refusal.{Refusal}
+use Rattle.answer.specs.declared.refusal.Refusal.TheVariants as refusals
 use Rattle.decide.specs.declared.outcome.Outcome.{Outcome}
+use Rattle.decide.specs.Lookup.{refused}
+use Rattle.decide.specs.declared.located.Located.{Located}
 use Rattle.decide.specs.Carried.{Carried}
 use Rattle.decide.specs.Issue.{NumbersLeft}
 use Rattle.copy.specs.declared.asked.Asked.{Asked}
@@ -69,25 +76,24 @@ pub record CopyMade (n groups : ℕ) (list : Sids) (mark removed : ℕ) (s : Lis
 
 -- ---- the request
 
--- what a copy is refused for: 0 if nothing
-abbrev pub refusal_number : (ok room : Bool) → ℕ
-refusal_number ok room = if ok then (if room then 0 else 8) else 5
+-- what a copy is refused for, if anything
+abbrev pub refusal_by : (ok room : Bool) → Option Refusal
+refusal_by ok room = if ok then (if room then None else Some refusals.TableFull) else Some refusals.BadField
 
 -- in the state, with the table that the SIDs given lead to
 abbrev pub has_room : ℕ → State → List Sid → Bool
 has_room listed σ sids = leb listed max_restricting && can_issue σ && fits_table sids
 
-pub record RestrictRefusal (x : Source) (a : Asked) (mark removed : ℕ) (s : List ℕ) (deny_at deny_count : ℕ) (ts : List ℕ) (hs : List Handle) (cs : List ℕ) (r : ℕ) : Type 0 where
-  pub small : r < 128
+pub record RestrictChecked (x : Source) (a : Asked) (mark removed : ℕ) (s : List ℕ) (deny_at deny_count : ℕ) (ts : List ℕ) (hs : List Handle) (cs : List ℕ) (r : Result (Unit {0}) Refusal) : Type 0 where
   -- what issuing asks
-  pub left : r ≡ 0 → NumbersLeft cs
-  pub few : r ≡ 0 → a.listed ≤ max_restricting
-  pub fits : r ≡ 0 → a.fits ≡ true
+  pub left : IfOk r (λ u. NumbersLeft cs)
+  pub few : IfOk r (λ u. a.list.count ≤ max_restricting)
+  pub fits : IfOk r (λ u. a.fits ≡ true)
   pub refusal : (deny later : List ℕ) → times deny_count u32 (drop deny_at s) ≡ got deny later
-      → (given : List ℕ) (t : Token) → IsSource t x → a.listed ≡ length (restricting_to given t.limits.restricting)
+      → (given : List ℕ) (t : Token) → IsSource t x → a.list.count ≡ length (restricting_to given t.limits.restricting)
       → (sids : List Sid) → a.known ≡ all (is_number sids) given → a.fits ≡ fits_table sids
       → (σ : State) → valid σ ≡ true → {ds : List ℕ} → PartsIn σ ts ds hs cs
-      → r ≡ refusal_number (valid_restrict sids t mark removed deny given) (has_room a.listed σ sids)
+      → refused r ≡ refusal_by (valid_restrict sids t mark removed deny given) (has_room a.list.count σ sids)
 
 -- by the next number last but the token
 unfoldable pub restricted_as : (mark removed : ℕ) → (deny given : List ℕ) → ℕ → Token → Token
@@ -100,6 +106,16 @@ pub record RestrictedIssued (slot groups : ℕ) (list : Sids) (mark removed : �
       → CopyIssued (restricted_as mark removed deny given) slot station mask ts ds hs cs ts' ds' cs' r
 
 pub record RestrictCarried (p : Reader Given) (station number mark removed : ℕ) (s : List ℕ) (deny_at deny_count sid_at sid_count : ℕ) (ts ds : List ℕ) (hs : List Handle)
-    (cs ts' ds' cs' : List ℕ) (r : Outcome) : Type 0 where
+    (cs ts' ds' cs' : List ℕ) (r : Result Outcome Refusal) : Type 0 where
   pub carried : (deny : List ℕ) (given : List Given) → Lists p s deny_at deny_count sid_at sid_count deny given
       → Carried (λ σ. restrict σ station number mark removed deny given) ts ds hs cs ts' ds' cs' r
+
+-- ---- the same of the parts as they are lent, by the fields of a body
+
+abbrev pub RestrictedIssuedOut : (from : Located) (groups : ℕ) (list : Sids) → RestrictFields → List ℕ → (station : ℕ) → Parts → Parts → Outcome → Type 0
+RestrictedIssuedOut from groups list f s station p q r =
+    RestrictedIssued from.slot groups list f.mark f.removed s f.deny_at f.deny_count station from.handle.mask p.tokens.now p.dacls.now (records_in p.handles.now) p.control.now q.tokens.now q.dacls.now q.control.now r
+
+abbrev pub RestrictCarriedOut : Reader Given → (station : ℕ) → RestrictFields → List ℕ → Parts → Parts → Result Outcome Refusal → Type 0
+RestrictCarriedOut reads station f s p q r =
+    RestrictCarried reads station f.handle f.mark f.removed s f.deny_at f.deny_count f.sid_at f.sid_count p.tokens.now p.dacls.now (records_in p.handles.now) p.control.now q.tokens.now q.dacls.now q.control.now r

@@ -1,5 +1,5 @@
 -- Request 10: the copy's restricting SIDs, where those given are all there. Assumes nothing.
-use Rattle.std.specs.Prelude.{ℕ, ◌+◌, ◌≤◌, ◌≡◌, Bool, ◌||◌, List, [], ◌∷◌, ◌++◌, length, drop}
+use Rattle.std.specs.Prelude.{ℕ, ◌+◌, ◌≤◌, ◌≡◌, Bool, ◌||◌, List, [], ◌∷◌, ◌++◌, length, drop, replicate}
 use Rattle.table.specs.Lists.{pad}
 use Rattle.table.specs.Table.{nth_record}
 use Rattle.rules.specs.Basic.{filter, member, is_empty}
@@ -10,6 +10,10 @@ use Rattle.rules.specs.Request.{times, u32}
 use Rattle.rules.specs.Restrict.{restricting_to}
 use Rattle.copy.specs.declared.restricting.Sids.{Sids}
 
+-- so many, of which none is listed
+abbrev pub so_many : ℕ → Sids
+so_many count = record { count = count; words = replicate max_restricting 0 }
+
 -- r is the list xs
 pub record Listed (xs : List ℕ) (r : Sids) : Type 0 where
   pub count : r.count ≡ length xs
@@ -19,19 +23,16 @@ pub record SidAdded (sid : ℕ) (list r : Sids) : Type 0 where
   pub count : r.count ≡ list.count + 1
   pub listed : (xs : List ℕ) → Listed xs list → Listed (xs ++ (sid ∷ [])) r
 
-pub record GivenListed (s : List ℕ) (at count : ℕ) (r : Sids) : Type 0 where
-  pub listed : (given later : List ℕ) → times count u32 (drop at s) ≡ got given later → Listed given r
-
 abbrev pub is_kept : List ℕ → ℕ → Bool
 is_kept given sid = is_empty given || member sid given
 
-pub record Stays (sid : ℕ) (s : List ℕ) (at count : ℕ) (r : Bool) : Type 0 where
-  pub judged : (given later : List ℕ) → times count u32 (drop at s) ≡ got given later → r ≡ is_kept given sid
+-- f says which numbers the test passes
+abbrev pub Answers : (ℕ → Bool → Type 0) → (ℕ → Bool) → Type 0
+Answers test f = (n : ℕ) (b : Bool) → test n b → b ≡ f n
 
--- in the row of a token that has `own` restricting SIDs
-pub record OwnKept (own : ℕ) (ws s : List ℕ) (at count : ℕ) (r : Sids) : Type 0 where
-  pub listed : (given later : List ℕ) → times count u32 (drop at s) ≡ got given later
-      → (t : Token) → length t.limits.restricting ≡ own → ws ≡ token_row t → Listed (filter (is_kept given) t.limits.restricting) r
+-- of the token in a slot, which has `own` restricting SIDs, by each test that is one of G's
+pub record OwnKept (slot own : ℕ) (ts : List ℕ) (G : (ℕ → Bool) → Type 0) (r : Sids) : Type 0 where
+  pub listed : (f : ℕ → Bool) → G f → (t : Token) → length t.limits.restricting ≡ own → nth_record token_words slot ts ≡ token_row t → Listed (filter f t.limits.restricting) r
 
 pub record ListMade (slot own : ℕ) (ts s : List ℕ) (at count : ℕ) (r : Sids) : Type 0 where
   pub listed : (given later : List ℕ) → times count u32 (drop at s) ≡ got given later

@@ -1,66 +1,38 @@
 // Request 10: the indexes of groups to deny, read from a body: they are judged, and then the groups denied in a row.
-ghost use Rattle.std.specs.Prelude.{◌≡◌, ◌≤◌, length};
+ghost use Rattle.std.specs.Prelude.{◌≡◌, ◌&&◌, ◌≤◌, length};
+ghost use Rattle.rules.specs.Basic.{all, distinct, is_below};
 ghost use Rattle.rules.specs.Group.{denied};
 ghost use Rattle.rules.specs.Token.{max_groups};
 ghost use Rattle.rules.specs.Memory.{token_words};
 ghost use Rattle.token.specs.Row.{on_word};
-ghost use Rattle.copy.specs.DeniedGroups.{marks_of, marked, IndexesJudged, DeniedAt, GroupsDenied};
+ghost use Rattle.copy.specs.Numbers.{numbers_left};
+ghost use Rattle.copy.specs.DeniedGroups.{DeniedAt, GroupsDenied};
 
-use number::Number;
+use crate::numbers::Numbers;
 use privilege::words::{bit, has, with};
+use token::Group;
 use token::layout::{HEAD_WORDS, TOKEN_WORDS};
-use token::{attributes, words};
 
-// The word of the indexes named so far, as long as every index was good.
-#[derive(Clone, Copy)]
-struct Marks {
-    ok: bool,
-    named: u64,
-}
-
-// ---- the indexes
-
-// One index more: a group's, and not named before.
-fn mark(m: Marks, size: u64, index: u64) -> Marks
+// The indexes are those of groups, and none comes twice.
+pub fn valid_indexes(size: u64, indexes: Numbers) -> bool
     requires { size ≤ max_groups }
-    ensures { marks_of result ≡ marked size index (marks_of m) }
+    ensures { result ≡ (all (is_below size) (numbers_left indexes.entry) && distinct (numbers_left indexes.entry)) }
 {
-    let named = m.named;
-    if m.ok & (index < size) & !has(named, index) {
-        return Marks {
-            ok: true,
-            named: with(named, bit(index)),
-        };
-    }
-    Marks { ok: false, named }
-}
-
-// The count indexes that stand at a place of a body are those of groups, and none comes twice.
-pub fn valid_indexes(size: u64, s: &[u8], at: usize, count: u64) -> bool
-    requires { size ≤ max_groups }
-    ensures { IndexesJudged size s.now at count result }
-{
-    let mut m = Marks { ok: true, named: 0 };
-    let mut from = at;
-    let mut left = count;
-    while 0 < left {
-        let Number::Value { value: index, next } = number::number_at(s, from, number::U32) else {
+    let mut named = 0;
+    for index in indexes {
+        if (size <= index) | has(named, index) {
             return false;
-        };
-        m = mark(m, size, index);
-        from = next;
-        left -= 1;
+        }
+        named = with(named, bit(index));
     }
-    m.ok
+    true
 }
 
-// ---- the groups
-
-// In its word.
+// The group of a word, denied.
 fn denied_word(w: u64) -> u64
     ensures { result ≡ on_word denied w }
 {
-    words::pack(attributes::denied(words::unpack(w)))
+    Group::from(w).denied().into()
 }
 
 // Group `index` of a row that has `size` groups.
@@ -74,19 +46,12 @@ fn deny_at(words: &mut [u64; TOKEN_WORDS], size: u64, index: u64)
     }
 }
 
-// The groups of the count indexes that stand at a place of a body.
-pub fn deny(words: &mut [u64; TOKEN_WORDS], size: u64, s: &[u8], at: usize, count: u64)
+// The groups of the indexes.
+pub fn deny(words: &mut [u64; TOKEN_WORDS], size: u64, indexes: Numbers)
     requires { (length words.old ≡ token_words) × (size ≤ max_groups) }
-    ensures { GroupsDenied size s.now at count words.old words.new }
+    ensures { GroupsDenied size (numbers_left indexes.entry) words.old words.new }
 {
-    let mut from = at;
-    let mut left = count;
-    while 0 < left {
-        let Number::Value { value: index, next } = number::number_at(s, from, number::U32) else {
-            return;
-        };
+    for index in indexes {
         deny_at(words, size, index);
-        from = next;
-        left -= 1;
     }
 }

@@ -1,29 +1,25 @@
 // Request 9: duplicate.
 ghost use Rattle.std.specs.Prelude.{◌≡◌, ◌<◌, length};
-ghost use Rattle.rules.specs.State.{token_slots, station_count};
+ghost use Rattle.rules.specs.State.{token_slots};
 ghost use Rattle.rules.specs.Memory.{token_words};
 ghost use Rattle.rules.specs.Duplicate as rules;
 ghost use Rattle.handle.specs.Words.{records_in};
-ghost use Rattle.state.specs.Parts.{Lent};
-ghost use Rattle.decide.specs.Carried.{Carried};
+ghost use Rattle.state.specs.Parts.{SameParts};
+ghost use Rattle.decide.specs.Carried.{CarriedOut};
 ghost use Rattle.decide.specs.Issue.{NumbersLeft};
-ghost use Rattle.copy.specs.Copies.{Remade, CopyIssued};
+ghost use Rattle.copy.specs.Copies.{Remade, CopyIssuedOut};
 ghost use Rattle.copy.specs.Duplicate.{DuplicateJudged, copied_as, duplicated_as};
 
 use crate::rows;
-use answer::refusal;
+use answer::Refusal;
 use body::fields::DuplicateFields;
-use control::counters;
 use control::layout::NEXT_TOKEN;
+use control::stations::Station;
 use decide::issue::{can_issue, issue_row};
 use decide::located::locate;
-use decide::lookup::mask_of;
-use decide::outcome;
 use decide::outcome::Outcome;
-use handle::HANDLE_WORDS;
 use privilege::mask::Mask;
-use state::handles::find_handle;
-use state::tokens::identity_at;
+use state::parts::Parts;
 use token::layout::*;
 use token::{Identity, row};
 
@@ -31,17 +27,17 @@ const PRIMARY: u32 = Identity::PRIMARY as u32;
 
 const IMPERSONATION: u32 = Identity::IMPERSONATION as u32;
 
-const ANONYMOUS: u32 = 7;
+const ANONYMOUS: u64 = 7;
 
 // By a handle of mask `held`, of a token that is `source`.
-fn valid_duplicate(held: Mask, source: Identity, kind: u32, level: u32, mask: u32) -> bool
-    ensures { DuplicateJudged held.0 source kind level mask result }
+fn valid_duplicate(held: Mask, source: Identity, f: DuplicateFields) -> bool
+    ensures { DuplicateJudged held.0 source f.kind f.level f.mask result }
 {
-    let asked = Mask(mask);
-    let both = (source.kind as u32 == IMPERSONATION) & (kind == IMPERSONATION);
-    ((kind == PRIMARY) | (kind == IMPERSONATION))
-        & (level <= 3)
-        & (!both | (level <= source.level as u32))
+    let asked = Mask(f.mask);
+    let both = (source.kind as u32 == IMPERSONATION) & (f.kind == IMPERSONATION);
+    ((f.kind == PRIMARY) | (f.kind == IMPERSONATION))
+        & (f.level <= 3)
+        & (!both | (f.level <= source.level as u32))
         & asked.valid()
         & asked.within(held)
 }
@@ -61,126 +57,82 @@ fn relabel(words: &mut [u64; TOKEN_WORDS], n: u64, kind: u32, level: u32)
 }
 
 fn issue_copy(
-    station: u32,
+    parts: &mut Parts,
+    station: Station,
     mask: u16,
     slot: usize,
     kind: u32,
     level: u32,
-    handles: &[u64; HANDLE_WORDS],
-    tokens: &mut [u64],
-    dacls: &mut [u8],
-    control: &mut [u64],
 ) -> Outcome
-    requires { Lent tokens.old dacls.old control.old × (slot < token_slots) × NumbersLeft control.old × (station < station_count) }
-    ensures { CopyIssued (copied_as kind level) slot station mask tokens.old dacls.old (records_in handles.now) control.old tokens.new dacls.new control.new result }
+    requires { (slot < token_slots) × NumbersLeft parts.old.control.now }
+    ensures same { SameParts parts.old parts.new }
+    ensures issued { CopyIssuedOut (copied_as kind level) slot station.number mask parts.old parts.new result }
 {
-    let n = counters::next(NEXT_TOKEN, control);
-    let mut copy = rows::words_at(slot, tokens);
+    let n = parts.next(NEXT_TOKEN);
+    let mut copy = rows::words_at(parts, slot);
     relabel(&mut copy, n, kind, level);
-    let dacl = rows::dacl_at(slot, dacls);
-    issue_row(station, mask, &copy, &dacl, handles, tokens, dacls, control)
+    let dacl = rows::dacl_at(parts, slot);
+    issue_row(parts, station, mask, &copy, &dacl)
 }
 
 // Nothing is kept but the used privileges.
-fn issue_anonymous(
-    station: u32,
-    mask: u16,
-    slot: usize,
-    handles: &[u64; HANDLE_WORDS],
-    tokens: &mut [u64],
-    dacls: &mut [u8],
-    control: &mut [u64],
-) -> Outcome
-    requires { Lent tokens.old dacls.old control.old × (slot < token_slots) × NumbersLeft control.old × (station < station_count) }
-    ensures { CopyIssued rules.anonymous_copy slot station mask tokens.old dacls.old (records_in handles.now) control.old tokens.new dacls.new control.new result }
+fn issue_anonymous(parts: &mut Parts, station: Station, mask: u16, slot: usize) -> Outcome
+    requires { (slot < token_slots) × NumbersLeft parts.old.control.now }
+    ensures same { SameParts parts.old parts.new }
+    ensures issued { CopyIssuedOut rules.anonymous_copy slot station.number mask parts.old parts.new result }
 {
-    let at = slot * TOKEN_WORDS;
-    let end = at + TOKEN_WORDS;
-    let n = counters::next(NEXT_TOKEN, control);
-    let p = row::privileges_in(&tokens[at..end]);
-    let mut copy = [0u64; TOKEN_WORDS];
+    let n = parts.next(NEXT_TOKEN);
+    let mut copy = [0; TOKEN_WORDS];
     copy[NUMBER] = n;
     copy[MODIFIED] = n;
-    copy[USER] = ANONYMOUS as u64;
+    copy[USER] = ANONYMOUS;
     copy[KIND] = IMPERSONATION as u64;
     copy[ELEVATION] = 1;
-    copy[USED] = p.used;
-    let dacl = [0u8; MAX_DACL];
-    issue_row(station, mask, &copy, &dacl, handles, tokens, dacls, control)
+    copy[USED] = parts.tokens[slot * TOKEN_WORDS + USED];
+    issue_row(parts, station, mask, &copy, &[0; MAX_DACL])
 }
 
 // Only the type and level asked for make an anonymous copy; to primary, the level becomes 0.
 fn issue_duplicate(
-    station: u32,
+    parts: &mut Parts,
+    station: Station,
     mask: u16,
     slot: usize,
     kind: u32,
     level: u32,
-    handles: &[u64; HANDLE_WORDS],
-    tokens: &mut [u64],
-    dacls: &mut [u8],
-    control: &mut [u64],
 ) -> Outcome
-    requires { Lent tokens.old dacls.old control.old × (slot < token_slots) × NumbersLeft control.old × (station < station_count) }
-    ensures { CopyIssued (duplicated_as kind level) slot station mask tokens.old dacls.old (records_in handles.now) control.old tokens.new dacls.new control.new result }
+    requires { (slot < token_slots) × NumbersLeft parts.old.control.now }
+    ensures same { SameParts parts.old parts.new }
+    ensures issued { CopyIssuedOut (duplicated_as kind level) slot station.number mask parts.old parts.new result }
 {
-    let anonymous = (kind != PRIMARY) & (level == 0);
-    if anonymous {
-        return issue_anonymous(station, mask, slot, handles, tokens, dacls, control);
-    }
     if kind == PRIMARY {
-        return issue_copy(
-            station, mask, slot, PRIMARY, 0, handles, tokens, dacls, control,
-        );
+        return issue_copy(parts, station, mask, slot, PRIMARY, 0);
     }
-    issue_copy(
-        station,
-        mask,
-        slot,
-        IMPERSONATION,
-        level,
-        handles,
-        tokens,
-        dacls,
-        control,
-    )
+    if level == 0 {
+        return issue_anonymous(parts, station, mask, slot);
+    }
+    issue_copy(parts, station, mask, slot, IMPERSONATION, level)
 }
 
 // ---- the request
 
 pub fn duplicate(
-    station: u32,
+    parts: &mut Parts,
+    station: Station,
     f: DuplicateFields,
-    handles: &[u64; HANDLE_WORDS],
-    tokens: &mut [u64],
-    dacls: &mut [u8],
-    control: &mut [u64],
-) -> Outcome
-    requires { Lent tokens.old dacls.old control.old × (station < station_count) }
-    ensures { Carried (λ σ. rules.duplicate σ station f.handle f.kind f.level f.mask) tokens.old dacls.old (records_in handles.now) control.old tokens.new dacls.new control.new result }
+) -> Result<Outcome, Refusal>
+    ensures same { SameParts parts.old parts.new }
+    ensures carried { CarriedOut (λ σ. rules.duplicate σ station.number f.handle f.kind f.level f.mask) parts.old parts.new result }
 {
-    let found = find_handle(station, f.handle, handles);
-    let mask = mask_of(found);
-    let x = locate(found, mask.may_duplicate(), tokens);
-    if x.refusal != 0 {
-        return outcome::refused(x.refusal);
+    let from = locate(parts, station, f.handle, Mask::DUPLICATE)?;
+    let held = Mask(from.handle.mask as u32);
+    let source = parts.identity_at(from.slot);
+    if !valid_duplicate(held, source, f) {
+        return Err(Refusal::BadField);
     }
-    let source = identity_at(x.slot, tokens);
-    if !valid_duplicate(mask, source, f.kind, f.level, f.mask) {
-        return outcome::refused(refusal::BAD_FIELD);
+    if !can_issue(parts) {
+        return Err(Refusal::TableFull);
     }
-    if !can_issue(handles, tokens, control) {
-        return outcome::refused(refusal::TABLE_FULL);
-    }
-    issue_duplicate(
-        station,
-        f.mask as u16,
-        x.slot,
-        f.kind,
-        f.level,
-        handles,
-        tokens,
-        dacls,
-        control,
-    )
+    let mask = f.mask as u16;
+    Ok(issue_duplicate(parts, station, mask, from.slot, f.kind, f.level))
 }

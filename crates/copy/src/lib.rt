@@ -4,6 +4,7 @@
 pub mod asked;
 mod denied_groups;
 pub mod duplicate;
+mod numbers;
 pub mod restrict;
 pub mod restricted_row;
 pub mod restricting;

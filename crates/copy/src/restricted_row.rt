@@ -1,5 +1,5 @@
 // Request 10: the row of the copy.
-ghost use Rattle.std.specs.Prelude.{◌≡◌, ◌*◌, ◌≤◌, ◌<◌, length};
+ghost use Rattle.std.specs.Prelude.{◌≡◌, ◌≤◌, ◌<◌, length};
 ghost use Rattle.rules.specs.Token.{max_groups};
 ghost use Rattle.rules.specs.State.{token_slots};
 ghost use Rattle.rules.specs.Memory.{token_words};
@@ -7,8 +7,10 @@ ghost use Rattle.copy.specs.Copies.{Remade};
 ghost use Rattle.copy.specs.Restrict.{SourceAt, mark_word, limited_to, CopyMade};
 
 use crate::denied_groups::deny;
+use crate::numbers::Numbers;
 use crate::restricting::{Sids, restrict_to};
 use body::fields::RestrictFields;
+use state::parts::Parts;
 use token::layout::*;
 use token::row;
 
@@ -21,18 +23,19 @@ pub struct Source {
 }
 
 // The token in a slot.
-pub fn source_at(slot: usize, tokens: &[u64]) -> Source
-    requires { (length tokens.now ≡ token_slots * token_words) × (slot < token_slots) }
-    ensures { SourceAt slot tokens.now result }
+pub fn source_at(parts: &Parts, slot: usize) -> Source
+    requires { slot < token_slots }
+    ensures { SourceAt slot parts.now.tokens.now result }
 {
     let at = slot * TOKEN_WORDS;
     let end = at + TOKEN_WORDS;
-    let groups = row::count_in(&tokens[at..end], GROUP_COUNT, MAX_GROUPS);
-    let restricting = row::count_in(&tokens[at..end], RESTRICTING_COUNT, MAX_RESTRICTING);
+    let words = &parts.tokens[at..end];
+    let groups = row::count_in(words, GROUP_COUNT, MAX_GROUPS);
+    let restricting = row::count_in(words, RESTRICTING_COUNT, MAX_RESTRICTING);
     Source {
         groups: groups as u64,
         restricting: restricting as u64,
-        write_restricted: tokens[at + WRITE_RESTRICTED] == 1,
+        write_restricted: words[WRITE_RESTRICTED] == 1,
     }
 }
 
@@ -72,6 +75,6 @@ pub fn make(
     ensures { CopyMade n groups list f.mark f.removed s.now f.deny_at f.deny_count words.old words.new }
 {
     limit(words, n, f.mark, f.removed);
-    deny(words, groups, s, f.deny_at, f.deny_count as u64);
+    deny(words, groups, Numbers::new(s, f.deny_at, f.deny_count));
     restrict_to(words, list);
 }

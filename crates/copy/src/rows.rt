@@ -5,23 +5,28 @@ ghost use Rattle.rules.specs.State.{token_slots};
 ghost use Rattle.rules.specs.Memory.{token_words};
 ghost use Rattle.copy.specs.Copies.{RowCopied};
 
+use state::parts::Parts;
 use token::layout::{MAX_DACL, TOKEN_WORDS};
-use token::row;
 
-pub fn words_at(slot: usize, tokens: &[u64]) -> [u64; TOKEN_WORDS]
-    requires { (length tokens.now ≡ token_slots * token_words) × (slot < token_slots) }
-    ensures { RowCopied token_words slot tokens.now result }
+// The row of a slot, in a table of rows of N elements.
+fn row_at<T: Copy, const N: usize>(table: &[T], slot: usize) -> [T; N]
+    requires { (0 < N) × (length table.now ≡ token_slots * N) × (slot < token_slots) }
+    ensures { RowCopied N slot table.now result }
 {
-    let at = slot * TOKEN_WORDS;
-    let end = at + TOKEN_WORDS;
-    row::copied(&tokens[at..end])
+    let (rows, _) = table.as_chunks::<N>();
+    rows[slot]
 }
 
-pub fn dacl_at(slot: usize, dacls: &[u8]) -> [u8; MAX_DACL]
-    requires { (length dacls.now ≡ token_slots * max_dacl) × (slot < token_slots) }
-    ensures { RowCopied max_dacl slot dacls.now result }
+pub fn words_at(parts: &Parts, slot: usize) -> [u64; TOKEN_WORDS]
+    requires { slot < token_slots }
+    ensures { RowCopied token_words slot parts.now.tokens.now result }
 {
-    let at = slot * MAX_DACL;
-    let end = at + MAX_DACL;
-    row::copied_dacl(&dacls[at..end])
+    row_at(parts.tokens, slot)
+}
+
+pub fn dacl_at(parts: &Parts, slot: usize) -> [u8; MAX_DACL]
+    requires { slot < token_slots }
+    ensures { RowCopied max_dacl slot parts.now.dacls.now result }
+{
+    row_at(parts.dacls, slot)
 }

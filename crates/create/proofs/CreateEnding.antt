@@ -1,12 +1,13 @@
 -- Request 3, end by end. Assumes nothing.
-use Prim.Native.Nat.{ℕ, zero, suc, ◌≤◌, ◌<◌}
+use Prim.Native.Nat.{ℕ, zero, suc, ◌<◌, min}
 use native.Mathlib.Omega.{arith}
 use mathlib.Core.Path.{◌≡◌, refl, sym, ap, ap₂, ◌∙◌}
-use mathlib.Core.Bool.{Bool, true, false, not, ◌&&◌, and_comm}
+use mathlib.Core.Bool.{Bool, true, false, not, ◌&&◌, and-true, and-false}
 use mathlib.Core.List.{List, [], ◌∷◌, map}
 use lib.Dec.{leb}
 use lib.ListN.{length, replicate, drop, length-map}
-use borrow.Author.Tests.{not-false}
+use borrow.Author.Tests.{not-false, not-true}
+use Rattle.std.specs.Prelude.{Option, None, Some, Result, Ok, Err, unwrap_or}
 use Rattle.table.specs.Lists.{pad}
 use Rattle.rules.specs.Basic.{all}
 use Rattle.rules.specs.Bits.{has, within}
@@ -21,18 +22,16 @@ use Rattle.rules.specs.Sid.{Sid}
 use Rattle.rules.specs.SidTable.{max_sids, is_number, fits_table}
 use Rattle.rules.specs.Given.{by_number, GivenGroup, number_in, group_sid, group_in}
 use Rattle.rules.specs.State.{State, station_count, held, used, with_sids, entering}
-use Rattle.rules.specs.Memory.{token_counter, dacl_row}
+use Rattle.rules.specs.Memory.{token_counter, token_words, dacl_row}
 use Rattle.rules.specs.Valid.{valid}
-use Rattle.rules.specs.Request.{Reader, follow, ◌>>=◌, give, times, u32, sid_number, group}
-use Rattle.rules.specs.Decision.{Decision, Served, carried_out, can_issue, issued}
+use Rattle.rules.specs.Request.{Reader, times, follow, ◌>>=◌, give, u32, sid_number, group}
+use Rattle.rules.specs.Decision.{Decision, Served, need◌else◌then◌, carried_out, can_issue, issued}
 use Rattle.rules.specs.Create.{valid_pair, valid_integrity, valid_create, entered, create_numbered, create}
 use Rattle.rules.proofs.Logic.{and_l, and_r, and_i}
 use Rattle.rules.proofs.Facts.{valid_facts, facts_valid}
 use Rattle.rules.proofs.Kept.{mark}
 use Rattle.rules.proofs.SidNumbers.{is_by_number, numbers_enter_none, sids_fit, sids_few}
 use Rattle.handle.specs.declared.Handle.{Handle}
-use Rattle.privilege.specs.Meaning.{privileges_of}
-use Rattle.privilege.specs.declared.privileges.Privileges.{Privileges}
 use Rattle.sid.specs.Numbers.{NumberIn}
 use Rattle.token.specs.NewRow.{Headed}
 use Rattle.control.specs.Counters.{NextGiven}
@@ -41,24 +40,63 @@ use Rattle.state.specs.TokenCalls.{Held, Used}
 use Rattle.state.specs.ReleaseFacts.{PartsIn}
 use Rattle.state.specs.HandleFacts.{changed}
 use Rattle.answer.specs.Answer.{answer_of, Fit}
-use Rattle.answer.specs.declared.Answer.TheVariants as answers
+use Rattle.answer.specs.Refusal.{refusal_of}
+use Rattle.answer.specs.declared.refusal.Refusal.{Refusal}
+use Rattle.answer.specs.declared.refusal.Refusal.TheVariants as refusal
+use Rattle.body.specs.declared.fields.CreateFields.{CreateFields}
 use Rattle.decide.specs.declared.outcome.Outcome.{Outcome}
-use Rattle.decide.specs.Carried.{Ends, Carried}
+use Rattle.decide.specs.Carried.{ended, Carried}
+use Rattle.decide.specs.Lookup.{refused}
 use Rattle.decide.specs.Issue.{IssueRoom, RowIssued}
-use Rattle.decide.proofs.Deciding.{fails, holds, refuses, used_parts}
+use Rattle.decide.proofs.Deciding.{stays, fails, holds, refuses, used_parts, carried_as}
+use Rattle.decide.proofs.Issuing.{room_refuses}
 use Rattle.decide.proofs.RowIssuing.{ends_issuing}
-use Rattle.create.specs.declared.groups.Groups.{Groups}
-use Rattle.create.specs.NewGroups.{fits_pair, fits_group, GroupsRead}
-use Rattle.create.specs.Create.{FieldsSet, RowMade, KnownSids, RowCreated, CreateCarried}
+use Rattle.create.specs.NewGroups.{new_refusal, fits_pair, fits_group, GroupsRead}
+use Rattle.create.specs.Create.{RowMade, KnownSids, RowCreated, CreateCarried}
+use Rattle.create.proofs.NewGroups.{refused_bad, refused_full, refused_none, all_long}
+
+-- ---- what is refused, and decided
+
+-- for want of more room too
+pub but_for : (good room more : Bool) {e : Refusal} → Some e ≡ new_refusal good room → Some e ≡ new_refusal good (more && room)
+but_for true true more h = cc
+but_for true false more h = h ∙ ap (new_refusal true) (sym (and-false more))
+but_for false room more h = h
+
+pub is_good : (good room : Bool) → None ≡ new_refusal good room → good ≡ true
+is_good true room h = refl
+is_good false room h = cc
+
+pub has_room : (good room : Bool) → None ≡ new_refusal good room → room ≡ true
+has_room true true h = refl
+has_room true false h = cc
+has_room false room h = cc
+
+-- the room counts only behind the fields
+pub room_as : (good : Bool) {x y : Bool} → (good ≡ true → x ≡ y) → new_refusal good x ≡ new_refusal good y
+room_as true h = ap (new_refusal true) (h refl)
+room_as false h = refl
+
+module _ (σ : State) where
+  pub stops : (good room : Bool) (rest : Decision) {e : Refusal} → Some e ≡ new_refusal good room
+      → carried_out σ (need good else bad_field then need room else table_full then rest) ≡ stays σ (refusal_of e)
+  unfolding carried_out
+  stops true true rest h = cc
+  stops true false rest h = ap (λ (o : Option Refusal). stays σ (refusal_of (unwrap_or o refusal.TableFull))) (sym h)
+  stops false room rest h = ap (λ (o : Option Refusal). stays σ (refusal_of (unwrap_or o refusal.BadField))) (sym h)
+
+  pub goes_on : (good room : Bool) (rest : Decision) → good ≡ true → carried_out σ (need good else bad_field then need room else table_full then rest) ≡ carried_out σ (need room else table_full then rest)
+  unfolding carried_out
+  goes_on good room rest h = rw h
+
+  -- whatever it goes on with
+  pub stops_alike : (room : Bool) (rest other : Decision) {e : Refusal} → Some e ≡ new_refusal true room
+      → carried_out σ (need room else table_full then rest) ≡ carried_out σ (need room else table_full then other)
+  unfolding carried_out
+  stops_alike true rest other h = cc
+  stops_alike false rest other h = refl
 
 -- ---- the token
-
-pub fields_set : (n user session integrity present by_default count : ℕ) {a b c : Bool} (p : Privileges) {ws ws' : List ℕ}
-    → privileges_of p ≡ granted present by_default → Headed n (primary_of n user session integrity) (privileges_of p) count ws ws'
-    → a ≡ valid_integrity integrity → b ≡ within by_default present → c ≡ within present existing
-    → FieldsSet n user session integrity present by_default count ws ws' (a && b && c)
-fields_set n user session integrity present by_default count p {ws} {ws'} ep w ea eb ec =
-    record { good = ap₂ ◌&&◌ (ap₂ ◌&&◌ ea eb) ec; head = rw ep at w }
 
 -- every pair is good and every number is in the table
 all_fit : (sids : List Sid) (user : ℕ) (gs : List GivenGroup)
@@ -76,39 +114,65 @@ all_fit sids user (g ∷ gs) =
     swap true false true d = refl
 
 -- the order of the tests
-sorted : (x l p q u : Bool) → (x && (l && (p && q)) && u) ≡ (x && l && p && (u && q))
-sorted false l p q u = refl
-sorted true false p q u = refl
-sorted true true false q u = refl
-sorted true true true q u = and_comm q u
+sorted : (x l p v m : Bool) → (x && l && p && (v && m)) ≡ ((x && v) && (l && (p && m)))
+sorted false l p v m = refl
+sorted true false p v m = sym (and-false v)
+sorted true true false v m = sym (and-false v)
+sorted true true true v m = refl
 
-pub row_made : (n known user session integrity present by_default : ℕ) (s : List ℕ) (at count : ℕ) {a u : Bool} (g : Groups) {ws ws' : List ℕ}
-    → GroupsRead user known s at count ws g → FieldsSet n user session integrity present by_default g.count ws ws' a → NumberIn user known u
-    → RowMade n known user session integrity present by_default s at count ws' (a && g.ok && u)
-unfolding valid_create all
-row_made n known user session integrity present by_default s at count {a} {u} g r w i = record {
-  long = w.head.long r.long;
-  valid = λ sids l gs later h.
-      ap₂ ◌&&◌ (ap₂ ◌&&◌ w.good
-      (r.valid sids l gs later h ∙ ap₂ (λ (k : ℕ) (b : Bool). leb k max_groups && b) (sym (length-map gs (group_in sids))) (all_fit sids user gs))) (i.is sids l)
-      ∙ sorted (valid_integrity integrity && within by_default present && within present existing) (leb (length (map (group_in sids) gs)) max_groups)
-      (all (valid_pair user) (map (group_in sids) gs)) (all (is_number sids) (map sid_of (map (group_in sids) gs))) (is_number sids user);
-  made = λ sids l gs later h ok.
-      let read = r.given sids l gs later h (and_r a g.ok (and_l (a && g.ok) u ok)) in
-      w.head.row (map entered (map (group_in sids) gs)) read.0 (length-map (map (group_in sids) gs) entered ∙ length-map gs (group_in sids) ∙ read.1);
-}
+-- a is the test of the other fields, u that of the user's number
+module _ (n known : ℕ) (f : CreateFields ℕ) (s : List ℕ) {a u : Bool} (ea : a ≡ (valid_integrity f.integrity && within f.by_default f.present && within f.present existing)) (i : NumberIn f.user known u) where
+  module _ (sids : List Sid) (l : length sids ≡ known) (gs : List GivenGroup) where
+    abbrev all_valid : Bool
+    all_valid = valid_create sids f.user f.integrity f.present f.by_default (map (group_in sids) gs)
+
+    abbrev all_read : Bool
+    all_read = leb (length gs) max_groups && all (fits_group sids f.user) gs
+
+    valid_is : all_valid ≡ ((a && u) && all_read)
+    unfolding valid_create all
+    valid_is =
+        sorted (valid_integrity f.integrity && within f.by_default f.present && within f.present existing) (leb (length (map (group_in sids) gs)) max_groups)
+        (all (valid_pair f.user) (map (group_in sids) gs)) (is_number sids f.user) (all (is_number sids) (map sid_of (map (group_in sids) gs)))
+        ∙ ap₂ ◌&&◌ (ap₂ ◌&&◌ (sym ea) (sym (i.is sids l))) (ap₂ (λ (k : ℕ) (b : Bool). leb k max_groups && b) (length-map gs (group_in sids)) (sym (all_fit sids f.user gs)))
+
+    valid_then : not (a && u) ≡ false → all_valid ≡ all_read
+    valid_then t = valid_is ∙ ap (λ (b : Bool). b && all_read) (not-false (a && u) t)
+
+  pub row_refused : {ws : List ℕ} → length ws ≡ token_words → not (a && u) ≡ true → RowMade n known f s ws (Err refusal.BadField)
+  row_refused long t = record {
+    long = long;
+    refusal = λ sids l gs later h. refused_bad _ true (valid_is sids l gs ∙ ap (λ (b : Bool). b && all_read sids l gs) (not-true (a && u) t));
+    made = λ sids l gs later h. tt;
+  }
+
+  module _ (t : not (a && u) ≡ false) {ws : List ℕ} where
+    refusal_is : {r : Result (Unit {0}) Refusal} → GroupsRead f.user known s f.at f.count ws r
+        → (sids : List Sid) → length sids ≡ known → (gs : List GivenGroup) (later : List ℕ) → times f.count (group sid_number) (drop f.at s) ≡ got gs later
+        → refused r ≡ new_refusal (valid_create sids f.user f.integrity f.present f.by_default (map (group_in sids) gs)) true
+    refusal_is g sids l gs later h = g.refusal sids l gs later h ∙ ap (λ (b : Bool). new_refusal b true) (sym (valid_then sids l gs t))
+
+    pub groups_refused : {e : Refusal} → GroupsRead f.user known s f.at f.count ws (Err e) → RowMade n known f s ws (Err e)
+    groups_refused g = record { long = g.long; refusal = refusal_is g; made = λ sids l gs later h. tt }
+
+    pub row_made : {o : Unit {0}} → GroupsRead f.user known s f.at f.count ws (Ok o) → {ws' : List ℕ}
+        → Headed n (primary_of n f.user f.session f.integrity) (granted f.present f.by_default) f.count ws ws' → (v : Unit {0}) → RowMade n known f s ws' (Ok v)
+    row_made g w v = record {
+      long = w.long g.long;
+      refusal = refusal_is g;
+      made = λ sids l gs later h.
+          w.row (map entered (map (group_in sids) gs)) (g.given sids l gs later h)
+          (length-map (map (group_in sids) gs) entered ∙ length-map gs (group_in sids) ∙ all_long (group sid_number) f.count (drop f.at s) h);
+    }
 
 -- ---- the table
 
-module _ {cs : List ℕ} {n : ℕ} (c : SidCount cs n) where
-  pub known_few : n < max_sids → KnownSids cs n
-  known_few l = record { few = omega arith; count = λ σ v i. sym (c.count σ i) }
-
-  pub known_most : max_sids ≤ n → KnownSids cs max_sids
-  known_most l = record {
-    few = omega arith;
-    count = λ σ v i. omega (arith, c.count σ i, sids_few σ.sids (valid_facts σ v).loose.sids);
-  }
+-- at most 256
+pub known : {cs : List ℕ} {n : ℕ} → SidCount cs n → KnownSids cs (min n max_sids)
+known {n = n} c = record {
+  few = omega arith;
+  count = λ σ v i. omega (arith, c.count σ i, sids_few σ.sids (valid_facts σ v).loose.sids);
+}
 
 -- ---- issued in the state where the used bit is set
 
@@ -116,18 +180,26 @@ no_dacl : (u : rules.Token) → u.defaults.dacl ≡ [] → replicate max_dacl 0 
 unfolding dacl_row pad
 no_dacl u e = sym (ap (pad max_dacl) e)
 
-pub create_issues : (s : ℕ) {ws : List ℕ} {hs : List Handle} {cs ts ds ts₁ cs' ts' ds' : List ℕ} {r : Outcome} → s < station_count → Used create_token s ts cs ts₁
-    → RowIssued s all_rights ws (replicate max_dacl 0) ts₁ ds hs cs ts' ds' cs' r → RowCreated s ws ts ds hs cs ts' ds' cs' r
-unfolding has
-create_issues s in8 m k = record {
-  carried = λ u w d. ends_issuing (λ σ. u) (λ σ. used create_token s σ) k λ σ v p. record {
-    valid = facts_valid (used create_token s σ) (mark σ s create_token (valid_facts σ v) in8 refl).step.facts;
-    parts = used_parts σ v m p;
-    words = w;
-    bytes = no_dacl u d;
-    decided = refl;
-  };
-}
+module _ (s : ℕ) {ws : List ℕ} {hs : List Handle} {cs ts ds : List ℕ} {b : Bool} (i : IssueRoom ts hs cs b) where
+  pub none_issued : not b ≡ true → RowCreated s ws ts ds hs cs ts ds cs (Err refusal.TableFull)
+  none_issued f = record {
+    carried = λ u w d. room_refuses i (λ σ. issued s all_rights u (used create_token s σ)) f;
+    refusal = λ σ v p. refused_full true _ refl (sym (i.room σ v p) ∙ not-true b f);
+  }
+
+  pub create_issues : not b ≡ false → s < station_count → {ts₁ cs' ts' ds' : List ℕ} {r : Outcome} → Used create_token s ts cs ts₁
+      → RowIssued s all_rights ws (replicate max_dacl 0) ts₁ ds hs cs ts' ds' cs' r → RowCreated s ws ts ds hs cs ts' ds' cs' (Ok r)
+  unfolding has
+  create_issues f in8 m k = record {
+    carried = λ u w d. carried_as (λ σ v p. holds (can_issue σ) σ table_full _ (ap not (sym (i.room σ v p)) ∙ f)) (ends_issuing (λ σ. u) (λ σ. used create_token s σ) k λ σ v p. record {
+      valid = facts_valid (used create_token s σ) (mark σ s create_token (valid_facts σ v) in8 refl).step.facts;
+      parts = used_parts σ v m p;
+      words = w;
+      bytes = no_dacl u d;
+      decided = refl;
+    });
+    refusal = λ σ v p. refused_none true _ refl (sym (i.room σ v p) ∙ not-false b f);
+  }
 
 -- ---- SIDs by number
 
@@ -141,12 +213,12 @@ times_all p f B h (suc n) bytes b xs later e = one (p bytes) refl (times_all p f
   where
     rest : (a : _) → f a ≡ true → (x : Read (List _)) → ((zs : List _) (m : List ℕ) → x ≡ got zs m → all f zs ≡ true) → follow x (λ ys. give (a ∷ ys)) ≡ got xs later → all f xs ≡ true
     rest a k (got ys m) ih t = let q : xs ≡ a ∷ ys = cc in rw q (and_i k (ih ys m refl))
-    rest a k bad ih t = let z : ◌≡◌ {A = ℕ} 0 1 = cc in absurd (omega arith)
+    rest a k bad ih t = cc
 
     one : (x : Read _) → p bytes ≡ x → ((l : List ℕ) → B l → (zs : List _) (m : List ℕ) → times n p l ≡ got zs m → all f zs ≡ true)
         → follow x (λ a l. follow (times n p l) (λ ys. give (a ∷ ys))) ≡ got xs later → all f xs ≡ true
     one (got a l) d ih t = let r = h bytes b a l d in rest a r.0 (times n p l) (ih l r.1) t
-    one bad d ih t = let z : ◌≡◌ {A = ℕ} 0 1 = cc in absurd (omega arith)
+    one bad d ih t = cc
 
 abbrev of_number : GivenGroup → Bool
 of_number g = is_by_number g.sid
@@ -157,11 +229,11 @@ group_number bytes g later e = first (u32 bytes) e
   where
     second : (k : ℕ) (x : Read ℕ) → follow x (λ v. give (record { sid = by_number k; attributes = v })) ≡ got g later → of_number g ≡ true
     second k (got v l) t = let q : record { sid = by_number k; attributes = v } ≡ g = cc in ap of_number (sym q)
-    second k bad t = let z : ◌≡◌ {A = ℕ} 0 1 = cc in absurd (omega arith)
+    second k bad t = cc
 
     first : (x : Read ℕ) → follow (follow x (λ k. give (by_number k))) (λ i. ◌>>=◌ u32 (λ v. give (record { sid = i; attributes = v }))) ≡ got g later → of_number g ≡ true
     first (got k l) t = second k (u32 l) t
-    first bad t = let z : ◌≡◌ {A = ℕ} 0 1 = cc in absurd (omega arith)
+    first bad t = cc
 
 all_numbers : (gs : List GivenGroup) → all of_number gs ≡ true → all is_by_number (map group_sid gs) ≡ true
 unfolding all group_sid
@@ -179,16 +251,16 @@ by_numbers σ s user session integrity present by_default n bytes gs later e =
 -- ---- the request
 
 -- what a request comes to in a state, and the parts then
-pub record At (y : Served) (ts' ds' : List ℕ) (hs : List Handle) (cs' : List ℕ) (r : Outcome) : Type 0 where
-  pub parts : PartsIn y.state ts' ds' (changed hs r.change) cs'
-  pub answer : answer_of ts' ds' r.answer ≡ y.answer
-  pub fit : Fit ts' ds' r.answer
+pub record At (y : Served) (ts' ds' : List ℕ) (hs : List Handle) (cs' : List ℕ) (r : Result Outcome Refusal) : Type 0 where
+  pub parts : PartsIn y.state ts' ds' (changed hs (ended r).change) cs'
+  pub answer : answer_of ts' ds' (ended r).answer ≡ y.answer
+  pub fit : Fit ts' ds' (ended r).answer
 
-pub carried_at : {x : State → Decision} {hs : List Handle} {cs ts ds cs' ts' ds' : List ℕ} {r : Outcome} → Carried x ts ds hs cs ts' ds' cs' r
+pub carried_at : {x : State → Decision} {hs : List Handle} {cs ts ds cs' ts' ds' : List ℕ} {r : Result Outcome Refusal} → Carried x ts ds hs cs ts' ds' cs' r
     → (σ : State) → valid σ ≡ true → PartsIn σ ts ds hs cs → At (carried_out σ (x σ)) ts' ds' hs cs' r
 carried_at c σ v p = record { parts = c.parts σ v p; answer = c.answer σ v p; fit = c.fit σ v p }
 
-pub carried_each : {x : State → Decision} {hs : List Handle} {cs ts ds cs' ts' ds' : List ℕ} {r : Outcome} (y : State → Served)
+pub carried_each : {x : State → Decision} {hs : List Handle} {cs ts ds cs' ts' ds' : List ℕ} {r : Result Outcome Refusal} (y : State → Served)
     → ((σ : State) → valid σ ≡ true → PartsIn σ ts ds hs cs → carried_out σ (x σ) ≡ y σ)
     → ((σ : State) → valid σ ≡ true → PartsIn σ ts ds hs cs → At (y σ) ts' ds' hs cs' r) → Carried x ts ds hs cs ts' ds' cs' r
 carried_each y e c = record {
@@ -197,59 +269,59 @@ carried_each y e c = record {
   fit = λ σ v p. (c σ v p).fit;
 }
 
-module _ (s user session integrity present by_default : ℕ) (body : List ℕ) (at count : ℕ) {hs : List Handle} {cs ts ds : List ℕ} {b : Bool} (h : Held create_token s ts cs b) where
-  is_held : {c : Bool} → not b ≡ c → (σ : State) → valid σ ≡ true → PartsIn σ ts ds hs cs → not (held σ s create_token) ≡ c
-  is_held f σ v p = ap not (sym (h.held σ v p.tokens p.control)) ∙ f
+-- the new token, and whether it may be made, by the table of a state
+abbrev made : CreateFields ℕ → List GivenGroup → State → ℕ → rules.Token
+made f gs σ j = new_token j (primary_of j f.user f.session f.integrity) (granted f.present f.by_default) (map entered (map (group_in σ.sids) gs))
 
-  pub create_not_held : {r : Outcome} → not b ≡ true → Ends (answers.Refused 4) r → CreateCarried s user session integrity present by_default body at count ts ds hs cs ts ds cs r
+abbrev good : CreateFields ℕ → List GivenGroup → State → Bool
+good f gs σ = valid_create σ.sids f.user f.integrity f.present f.by_default (map (group_in σ.sids) gs)
+
+abbrev issuing : ℕ → CreateFields ℕ → List GivenGroup → State → ℕ → Decision
+issuing s f gs σ j = issued s all_rights (made f gs σ j) (used create_token s σ)
+
+module _ (s : ℕ) (f : CreateFields ℕ) (body : List ℕ) {hs : List Handle} {cs ts ds : List ℕ} {b : Bool} (h : Held create_token s ts cs b) where
+  is_held : {c : Bool} → not b ≡ c → (σ : State) → valid σ ≡ true → PartsIn σ ts ds hs cs → not (held σ s create_token) ≡ c
+  is_held t σ v p = ap not (sym (h.held σ v p.tokens p.control)) ∙ t
+
+  pub create_not_held : not b ≡ true → CreateCarried s f body ts ds hs cs ts ds cs (Err refusal.PrivilegeNotHeld)
   unfolding create_numbered
-  create_not_held {r} f e = record {
-    carried = λ gs later q. refuses 4 r e (omega arith) λ σ v p.
-        ap (carried_out σ) (by_numbers σ s user session integrity present by_default count (drop at body) gs later q)
-        ∙ fails (held σ s create_token) σ 4 _ (is_held f σ v p);
+  create_not_held t = record {
+    carried = λ gs later q. refuses refusal.PrivilegeNotHeld λ σ v p.
+        ap (carried_out σ) (by_numbers σ s f.user f.session f.integrity f.present f.by_default f.count (drop f.at body) gs later q)
+        ∙ fails (held σ s create_token) σ privilege_not_held _ (is_held t σ v p);
   }
 
-  module _ (f : not b ≡ false) {n known : ℕ} (k : KnownSids cs known) {ws : List ℕ} {ok : Bool} (g : RowMade n known user session integrity present by_default body at count ws ok) where
-    pub create_refused : {r : Outcome} → not ok ≡ true → Ends (answers.Refused 5) r → CreateCarried s user session integrity present by_default body at count ts ds hs cs ts ds cs r
-    unfolding create_numbered
-    create_refused {r} t e = record {
-      carried = λ gs later q. refuses 5 r e (omega arith) λ σ v p.
-          ap (carried_out σ) (by_numbers σ s user session integrity present by_default count (drop at body) gs later q)
-          ∙ holds (held σ s create_token) σ privilege_not_held _ (is_held f σ v p)
-          ∙ fails (valid_create σ.sids user integrity present by_default (map (group_in σ.sids) gs)) σ 5 _ (ap not (sym (g.valid σ.sids (k.count σ v p.control) gs later q)) ∙ t);
-    }
-
-    module _ (t : not ok ≡ false) {d : Bool} (i : IssueRoom ts hs cs d) where
-      room_is : {c : Bool} → not d ≡ c → (σ : State) → valid σ ≡ true → PartsIn σ ts ds hs cs → not (can_issue σ && fits_table σ.sids) ≡ c
-      room_is {c} m σ v p =
-          ap₂ (λ (x y : Bool). not (x && y)) (sym (i.room σ v p)) (sids_fit σ.sids (valid_facts σ v).loose.sids) ∙ ap not (and_true d) ∙ m
-        where
-          and_true : (x : Bool) → (x && true) ≡ x
-          and_true true = refl
-          and_true false = refl
-
-      pub create_no_room : {r : Outcome} → not d ≡ true → Ends (answers.Refused 8) r → CreateCarried s user session integrity present by_default body at count ts ds hs cs ts ds cs r
+  module _ (t : not b ≡ false) where
+    module _ (gs : List GivenGroup) (later : List ℕ) (q : times f.count (group sid_number) (drop f.at body) ≡ got gs later) (σ : State) (v : valid σ ≡ true) (p : PartsIn σ ts ds hs cs) where
+      -- past 4
+      decided : carried_out σ (create σ s (by_number f.user) f.session f.integrity f.present f.by_default gs)
+          ≡ carried_out σ (need good f gs σ else bad_field then need can_issue σ && fits_table σ.sids else table_full then issuing s f gs σ σ.tokens.next)
       unfolding create_numbered
-      create_no_room {r} m e = record {
-        carried = λ gs later q. refuses 8 r e (omega arith) λ σ v p.
-            ap (carried_out σ) (by_numbers σ s user session integrity present by_default count (drop at body) gs later q)
-            ∙ holds (held σ s create_token) σ privilege_not_held _ (is_held f σ v p)
-            ∙ holds (valid_create σ.sids user integrity present by_default (map (group_in σ.sids) gs)) σ bad_field _ (ap not (sym (g.valid σ.sids (k.count σ v p.control) gs later q)) ∙ t)
-            ∙ fails (can_issue σ && fits_table σ.sids) σ 8 _ (room_is m σ v p);
+      decided =
+          ap (carried_out σ) (by_numbers σ s f.user f.session f.integrity f.present f.by_default f.count (drop f.at body) gs later q)
+          ∙ holds (held σ s create_token) σ privilege_not_held _ (is_held t σ v p)
+
+      fits : fits_table σ.sids ≡ true
+      fits = sids_fit σ.sids (valid_facts σ v).loose.sids
+
+    module _ {n known : ℕ} (k : KnownSids cs known) {ws : List ℕ} where
+      pub create_refused : {e : Refusal} → RowMade n known f body ws (Err e) → CreateCarried s f body ts ds hs cs ts ds cs (Err e)
+      create_refused {e} g = record {
+        carried = λ gs later q. refuses e λ σ v p.
+            decided gs later q σ v p
+            ∙ stops σ (good f gs σ) (can_issue σ && fits_table σ.sids) (issuing s f gs σ σ.tokens.next)
+            (but_for (good f gs σ) (fits_table σ.sids) (can_issue σ)
+            (g.refusal σ.sids (k.count σ v p.control) gs later q ∙ ap (new_refusal (good f gs σ)) (sym (fits gs later q σ v p))));
       }
 
-      pub creates : {cs' ts' ds' : List ℕ} {r : Outcome} → not d ≡ false → NextGiven token_counter cs n → RowCreated s ws ts ds hs cs ts' ds' cs' r
-          → CreateCarried s user session integrity present by_default body at count ts ds hs cs ts' ds' cs' r
-      unfolding create_numbered new_token no_defaults
-      creates m next c = record {
-        carried = λ gs later q. carried_each (λ σ. carried_out σ (issued s all_rights (made gs σ n) (used create_token s σ))) (λ σ v p.
-            ap (carried_out σ) (by_numbers σ s user session integrity present by_default count (drop at body) gs later q)
-            ∙ holds (held σ s create_token) σ privilege_not_held _ (is_held f σ v p)
-            ∙ holds (valid_create σ.sids user integrity present by_default (map (group_in σ.sids) gs)) σ bad_field _ (ap not (sym (g.valid σ.sids (k.count σ v p.control) gs later q)) ∙ t)
-            ∙ holds (can_issue σ && fits_table σ.sids) σ table_full _ (room_is m σ v p)
-            ∙ ap (λ (j : ℕ). carried_out σ (issued s all_rights (made gs σ j) (used create_token s σ))) (sym (next.next σ p.control)))
-            (λ σ v p. carried_at (c.carried (made gs σ n) (g.made σ.sids (k.count σ v p.control) gs later q (not-false ok t)) refl) σ v p);
+      pub creates : {o : Unit {0}} → RowMade n known f body ws (Ok o) → NextGiven token_counter cs n → {cs' ts' ds' : List ℕ} {r : Result Outcome Refusal} → RowCreated s ws ts ds hs cs ts' ds' cs' r
+          → CreateCarried s f body ts ds hs cs ts' ds' cs' r
+      unfolding new_token no_defaults
+      creates g next c = record {
+        carried = λ gs later q. carried_each (λ σ. carried_out σ (need can_issue σ else table_full then issuing s f gs σ n)) (λ σ v p.
+            decided gs later q σ v p
+            ∙ goes_on σ (good f gs σ) (can_issue σ && fits_table σ.sids) (issuing s f gs σ σ.tokens.next) (is_good (good f gs σ) true (g.refusal σ.sids (k.count σ v p.control) gs later q))
+            ∙ ap₂ (λ (b : Bool) (j : ℕ). carried_out σ (need b else table_full then issuing s f gs σ j))
+            (ap (λ (b : Bool). can_issue σ && b) (fits gs later q σ v p) ∙ and-true (can_issue σ)) (sym (next.next σ p.control)))
+            (λ σ v p. carried_at (c.carried (made f gs σ n) (g.made σ.sids (k.count σ v p.control) gs later q) refl) σ v p);
       }
-        where
-          made : List GivenGroup → State → ℕ → rules.Token
-          made gs σ j = new_token j (primary_of j user session integrity) (granted present by_default) (map entered (map (group_in σ.sids) gs))

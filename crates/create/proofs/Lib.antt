@@ -1,4 +1,4 @@
 pub mod NewGroups
-pub mod CreateEnding
 pub mod PackedGroups
+pub mod CreateEnding
 pub mod PackedEnding

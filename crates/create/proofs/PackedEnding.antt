@@ -2,13 +2,13 @@
 use Prim.Native.Nat.{ℕ, ◌≤◌}
 use native.Mathlib.Omega.{arith}
 use mathlib.Core.Path.{◌≡◌, refl, sym, ap, ap₂, subst, ◌∙◌}
-use mathlib.Core.Bool.{Bool, true, false, not, ◌&&◌, ◌||◌, and_assoc, and_comm}
+use mathlib.Core.Bool.{Bool, true, false, not, ◌&&◌, ◌||◌, and-true}
 use mathlib.Core.List.{List, [], ◌∷◌, map}
 use lib.Dec.{leb, eqb}
 use lib.ListN.{length, take, drop, length-take, length-map}
 use lib.Seq.{take_all}
-use borrow.Author.Tests.{not-false, eq-eqb, ne_eqb, leb-true}
-use Rattle.std.specs.Prelude.{if◌then◌else◌}
+use borrow.Author.Tests.{not-false, not-true, eq-eqb, ne_eqb, leb-true}
+use Rattle.std.specs.Prelude.{Option, None, Some, is_some, IfSome, Result, Ok, Err, if◌then◌else◌}
 use Rattle.rules.specs.Basic.{all, is_below, same, implies, both_or_neither}
 use Rattle.rules.specs.Bits.{has, within}
 use Rattle.rules.specs.Mask.{all_rights}
@@ -24,36 +24,37 @@ use Rattle.rules.specs.SidTable.{max_sids, is_number, is_in, number_of, fits_tab
 use Rattle.rules.specs.SidRows.{sid_row, row_sid, write_sids, sid_words_valid}
 use Rattle.rules.specs.Given.{Given, by_number, by_sid, GivenGroup, number_in, group_sid, group_in, entered_by, entered_all}
 use Rattle.rules.specs.State.{State, station_at, caller_number, caller, token_of, held, used, change_token, put_token, with_tokens, with_handles, with_sids, add_token, add_handle, can_add_token, can_add_handle, entering}
-use Rattle.rules.specs.Memory.{token_counter, token_row}
+use Rattle.rules.specs.Memory.{token_counter, token_words, token_row}
 use Rattle.rules.specs.Valid.{valid, is_byte}
-use Rattle.rules.specs.Request.{follow, ◌>>=◌, give, times, u32, packed_sid, group}
-use Rattle.rules.specs.Decision.{Served, need◌else◌then◌, carried_out, can_issue, issued}
+use Rattle.rules.specs.Request.{times, follow, ◌>>=◌, give, u32, packed_sid, group}
+use Rattle.rules.specs.Decision.{Decision, Served, need◌else◌then◌, carried_out, can_issue, issued}
 use Rattle.rules.specs.Create.{givable, valid_pair, valid_integrity, valid_create, entered, create_numbered, create}
 use Rattle.rules.proofs.Logic.{and_l, and_r, and_i, not_both, all_mem, mem_all, mem_right}
 use Rattle.rules.proofs.Same.{same_eq, same_refl}
 use Rattle.rules.proofs.Sids.{all_drop, read_form, row_one}
-use Rattle.rules.proofs.SidNumbers.{sids_fit, sids_few, sids_two, number_one, number_is, number_kept, stays_in, entered_in, entered_by_long, entered_all_long, fits_less, all_entered_in}
+use Rattle.rules.proofs.SidNumbers.{sids_fit, sids_few, sids_two, number_one, number_is, number_kept, stays_in, entered_in, entered_by_long, entered_all_long, all_entered_in}
 use Rattle.rules.proofs.SidWords.{written_valid}
 use Rattle.rules.proofs.Widths.{Got, number}
 use Rattle.rules.proofs.Facts.{valid_facts}
 use Rattle.handle.specs.declared.Handle.{Handle}
+use Rattle.token.specs.NewRow.{Headed}
 use Rattle.control.specs.Counters.{NextGiven}
 use Rattle.control.specs.Sids.{SidsCopied, SidsSet}
 use Rattle.state.specs.TokenCalls.{Held}
 use Rattle.state.specs.ReleaseFacts.{PartsIn}
-use Rattle.answer.specs.declared.Answer.TheVariants as answers
+use Rattle.answer.specs.declared.refusal.Refusal.{Refusal}
+use Rattle.answer.specs.declared.refusal.Refusal.TheVariants as refusal
 use Rattle.given.specs.Given.{Capped}
+use Rattle.body.specs.declared.fields.CreateFields.{CreateFields}
 use Rattle.decide.specs.declared.outcome.Outcome.{Outcome}
-use Rattle.decide.specs.Carried.{Ends}
-use Rattle.decide.specs.Issue.{NumbersLeft, IssueRoom}
+use Rattle.decide.specs.Lookup.{refused}
 use Rattle.decide.proofs.Deciding.{fails, holds, refuses}
-use Rattle.create.specs.declared.Made.{Made}
-use Rattle.create.specs.declared.packed.Numbered.{Numbered}
-use Rattle.create.specs.declared.packed.PackedGroups.{PackedGroups}
+use Rattle.create.specs.NewGroups.{new_refusal}
 use Rattle.create.specs.PackedGroups.{judged_row, judged_given, judged_group, RowAt, NumberEntered, GroupsEntered, PackedRead}
-use Rattle.create.specs.Create.{FieldsSet, RowCreated}
+use Rattle.create.specs.Create.{RowCreated}
 use Rattle.create.specs.PackedCreate.{MadeIn, PackedMade, PackedCreateCarried}
-use Rattle.create.proofs.CreateEnding.{times_all, carried_at, carried_each}
+use Rattle.create.proofs.NewGroups.{refused_bad, refused_full, refused_none, all_long}
+use Rattle.create.proofs.CreateEnding.{but_for, is_good, has_room, room_as, stops, goes_on, stops_alike, times_all, carried_at, carried_each}
 use Rattle.create.proofs.PackedGroups.{row_sid_lem}
 
 -- ---- the groups that a body gives: packed SIDs, each of them valid
@@ -76,7 +77,7 @@ group_sound bytes b g later e = first (read_sid bytes) refl e
         let q : record { sid = by_sid z; attributes = a } ≡ g = cc in
         let m : l ≡ later = cc in
         (ap sound_group (sym q) ∙ v, ap (all (is_below 256)) (sym m) ∙ w.1)
-    second z v bad w t = let o : ◌≡◌ {A = ℕ} 0 1 = cc in absurd (omega arith)
+    second z v bad w t = cc
 
     first : (x : Read Sid) → read_sid bytes ≡ x → follow (follow x (λ z. give (by_sid z))) (λ i. ◌>>=◌ u32 (λ a. give (record { sid = i; attributes = a }))) ≡ got g later
         → (sound_group g ≡ true) × (all (is_below 256) later ≡ true)
@@ -84,7 +85,7 @@ group_sound bytes b g later e = first (read_sid bytes) refl e
         let r = read_form bytes b z rest d in
         second z r.1 (read_number max32 rest)
         (number max32 rest (mem_all is_byte rest (λ n m. all_mem is_byte bytes b (subst (Mem n) r.0 (mem_right (packed z) m))))) t
-    first bad d t = let o : ◌≡◌ {A = ℕ} 0 1 = cc in absurd (omega arith)
+    first bad d t = cc
 
 -- ---- numbers are equal just where the SIDs are: a pair is judged the same by either
 
@@ -134,79 +135,124 @@ module _ (t : List Sid) (two : 2 ≤ length t) where
 
 -- ---- the token
 
-sorted : (x l p q : Bool) → q ≡ true → (x && (l && p)) ≡ (x && l && p && q)
+sorted : (x l p q : Bool) → q ≡ true → (x && l && p && q) ≡ (x && (l && p))
 sorted false l p q e = refl
 sorted true false p q e = refl
 sorted true true false q e = refl
-sorted true true true q e = sym e
+sorted true true true q e = e
 
-module _ (n user_at session integrity present by_default : ℕ) (s : List ℕ) (at count : ℕ) {x before middle ws ws' after : List ℕ} {first : Numbered} {g : PackedGroups} {a : Bool}
-    (k : RowAt s user_at x) (m : NumberEntered (row_sid x) before middle first) (r : PackedRead x s at count middle ws after g)
-    (w : FieldsSet n first.number session integrity present by_default g.count ws ws' a) where
-  abbrev user : Sid
-  user = sid_in (drop user_at s)
+abbrev user_of : CreateFields ℕ → List ℕ → Sid
+user_of f s = sid_in (drop f.user s)
 
-  its : NumberEntered user before middle first
-  its = subst (λ (y : Sid). NumberEntered y before middle first) (row_sid_lem k) m
+-- the table with the user's SID, and then with those of the groups
+abbrev with_user : CreateFields ℕ → List ℕ → List Sid → List Sid
+with_user f s t = entered_by (by_sid (user_of f s)) t
 
-  module _ (gs : List GivenGroup) (later : List ℕ) (q : times count (group packed_sid) (drop at s) ≡ got gs later) (t : List Sid) (c : Capped t before) where
-    abbrev t₁ : List Sid
-    t₁ = entered_by (by_sid user) t
+abbrev with_all : CreateFields ℕ → List ℕ → List GivenGroup → List Sid → List Sid
+with_all f s gs t = entered_all (map group_sid gs) (with_user f s t)
 
-    abbrev t₂ : List Sid
-    t₂ = entered_all (map group_sid gs) t₁
+abbrev good_in : CreateFields ℕ → List ℕ → List GivenGroup → List Sid → Bool
+good_in f s gs t = valid_create t (number_of t (user_of f s)) f.integrity f.present f.by_default (map (group_in t) gs)
 
-    sound : all sound_group gs ≡ true
-    sound = times_all (group packed_sid) sound_group (λ l. all (is_below 256) l ≡ true) group_sound count (drop at s) (all_drop (is_below 256) at s k.bytes) gs later q
+-- a is the test of the fields besides the groups
+module _ (n : ℕ) (f : CreateFields ℕ) (s : List ℕ) {a : Bool} (ea : a ≡ (valid_integrity f.integrity && within f.by_default f.present && within f.present existing)) where
+  pub fields_refused : {before ws : List ℕ} → length ws ≡ token_words → not a ≡ true → PackedMade n f s before ws before (Err refusal.BadField)
+  unfolding valid_create
+  fields_refused l t = record { long = l; made = λ gs later q u c w. record { refusal = refused_bad _ _ (rw (sym ea, not-true a t)); held = tt; row = tt } }
 
-    known : is_in user t₁ ≡ true
-    unfolding entered_by
-    known = entered_in user t
+  module _ (t : not a ≡ false) {x before middle : List ℕ} (k : RowAt s f.user x) where
+    module _ {first : Option ℕ} (m : NumberEntered (row_sid x) before middle first) {ws after : List ℕ} {g : Result (Unit {0}) Refusal} (r : PackedRead x s f.at f.count middle ws after g)
+        (gs : List GivenGroup) (later : List ℕ) (q : times f.count (group packed_sid) (drop f.at s) ≡ got gs later) (u : List Sid) (c : Capped u before) where
+      its : NumberEntered (user_of f s) before middle first
+      its = subst (λ (y : Sid). NumberEntered y before middle first) (row_sid_lem k) m
 
-    inside : (y : Sid) → Mem (by_sid y) (map group_sid gs) → is_in y t₂ ≡ true
-    inside y z = all_entered_in (map group_sid gs) y t₁ z
+      sound : all sound_group gs ≡ true
+      sound = times_all (group packed_sid) sound_group (λ l. all (is_below 256) l ≡ true) group_sound f.count (drop f.at s) (all_drop (is_below 256) f.at s k.bytes) gs later q
 
-    two : 2 ≤ length t₂
-    two = omega (arith, sids_two (take max_sids t) c.sound, length-take max_sids t, entered_by_long (by_sid user) t, entered_all_long (map group_sid gs) t₁)
+      known : is_in (user_of f s) (with_user f s u) ≡ true
+      unfolding entered_by
+      known = entered_in (user_of f s) u
 
-    judged : all (judged_group x) gs ≡ all (valid_pair (number_of t₂ user)) (map (group_in t₂) gs)
-    judged = ap (λ (l : List ℕ). all (judged_group l) gs) k.is ∙ all_judged t₂ user k.sound (stays_in (map group_sid gs) user t₁ known) gs sound inside
+      inside : (y : Sid) → Mem (by_sid y) (map group_sid gs) → is_in y (with_all f s gs u) ≡ true
+      inside y z = all_entered_in (map group_sid gs) y (with_user f s u) z
 
-    numbers : all (is_number t₂) (number_of t₂ user ∷ map sid_of (map (group_in t₂) gs)) ≡ true
-    unfolding all
-    numbers = and_i (number_is user t₂ two (stays_in (map group_sid gs) user t₁ known)) (all_listed t₂ two gs sound inside)
+      two : 2 ≤ length (with_all f s gs u)
+      two = omega (arith, sids_two (take max_sids u) c.sound, length-take max_sids u, entered_by_long (by_sid (user_of f s)) u, entered_all_long (map group_sid gs) (with_user f s u))
 
-    module _ (ok : (a && g.ok) ≡ true) where
-      groups : GroupsEntered gs t₁ g.room ws after
-      groups = r.taken gs later q (and_r a g.ok ok) t₁ (its.held t c)
+      judged : all (judged_group x) gs ≡ all (valid_pair (number_of (with_all f s gs u) (user_of f s))) (map (group_in (with_all f s gs u)) gs)
+      judged =
+          ap (λ (l : List ℕ). all (judged_group l) gs) k.is
+          ∙ all_judged (with_all f s gs u) (user_of f s) k.sound (stays_in (map group_sid gs) (user_of f s) (with_user f s u) known) gs sound inside
 
-      fit_all : fits_table t₂ ≡ (fits_table t && (first.room && g.room))
-      fit_all = groups.fits ∙ ap (λ (b : Bool). b && g.room) (its.fits t c) ∙ and_assoc (fits_table t) first.room g.room
+      numbers : all (is_number (with_all f s gs u)) (number_of (with_all f s gs u) (user_of f s) ∷ map sid_of (map (group_in (with_all f s gs u)) gs)) ≡ true
+      unfolding all
+      numbers =
+          and_i (number_is (user_of f s) (with_all f s gs u) two (stays_in (map group_sid gs) (user_of f s) (with_user f s u) known))
+          (all_listed (with_all f s gs u) two gs sound inside)
 
-      its_number : fits_table t₂ ≡ true → first.number ≡ number_of t₂ user
-      its_number fit =
-          let had : fits_table t₁ ≡ true = fits_less t₁ t₂ (entered_all_long (map group_sid gs) t₁) fit in
-          its.number t c (and_r (fits_table t) first.room (sym (its.fits t c) ∙ had)) ∙ sym (number_kept (map group_sid gs) user t₁ known)
+      -- what is left to judge are the groups
+      good_is : good_in f s gs (with_all f s gs u) ≡ (leb (length gs) max_groups && all (judged_group x) gs)
+      unfolding valid_create
+      good_is =
+          sorted (valid_integrity f.integrity && within f.by_default f.present && within f.present existing) (leb (length (map (group_in (with_all f s gs u)) gs)) max_groups)
+          (all (valid_pair (number_of (with_all f s gs u) (user_of f s))) (map (group_in (with_all f s gs u)) gs)) _ numbers
+          ∙ ap₂ ◌&&◌ (sym ea ∙ not-false a t) (ap₂ (λ (j : ℕ) (b : Bool). leb j max_groups && b) (length-map gs (group_in (with_all f s gs u))) (sym judged))
 
-      row_is : fits_table t₂ ≡ true → ws' ≡ token_row (new_token n (primary_of n (number_of t₂ user) session integrity) (granted present by_default) (map entered (map (group_in t₂) gs)))
-      row_is fit =
-          w.head.row (map entered (map (group_in t₂) gs)) (groups.row fit) (length-map (map (group_in t₂) gs) entered ∙ length-map gs (group_in t₂) ∙ r.counted gs later q (and_r a g.ok ok))
-          ∙ ap (λ (j : ℕ). token_row (new_token n (primary_of n j session integrity) (granted present by_default) (map entered (map (group_in t₂) gs)))) (its_number fit)
+      refusal_is : refused g ≡ new_refusal (good_in f s gs (with_all f s gs u)) r.room
+      refusal_is = r.refusal gs later q ∙ ap (λ (b : Bool). new_refusal b r.room) (sym good_is)
 
-    made_in : MadeIn n user session integrity present by_default gs t (entered_all (by_sid user ∷ map group_sid gs) t) ws' after (record { ok = a && g.ok; room = first.room && g.room })
-    unfolding entered_all valid_create
-    made_in = record {
-      valid =
-          ap₂ ◌&&◌ w.good (r.judged gs later q ∙ ap₂ (λ (j : ℕ) (b : Bool). leb j max_groups && b) (sym (length-map gs (group_in t₂))) judged)
-          ∙ sorted (valid_integrity integrity && within by_default present && within present existing) (leb (length (map (group_in t₂) gs)) max_groups)
-          (all (valid_pair (number_of t₂ user)) (map (group_in t₂) gs)) (all (is_number t₂) (number_of t₂ user ∷ map sid_of (map (group_in t₂) gs))) numbers;
-      held = λ ok. (groups ok).held;
-      fits = λ ok. fit_all ok;
-      row = λ ok fit. row_is ok fit;
+      groups : good_in f s gs (with_all f s gs u) ≡ true → GroupsEntered gs (with_user f s u) r.room ws after
+      groups h = r.taken gs later q (sym good_is ∙ h) (with_user f s u) (its.held u c)
+
+      fits_all : fits_table u ≡ true → good_in f s gs (with_all f s gs u) ≡ true → fits_table (with_all f s gs u) ≡ (is_some first && r.room)
+      fits_all w h = (groups h).fits ∙ ap (λ (b : Bool). b && r.room) (its.fits u c ∙ ap (λ (b : Bool). b && is_some first) w)
+
+      number_as : IfSome first (λ j. j ≡ number_of (with_user f s u) (user_of f s))
+      number_as = its.number u c
+
+      row_is : good_in f s gs (with_all f s gs u) ≡ true → fits_table (with_all f s gs u) ≡ true
+          → {ws' : List ℕ} (j : ℕ) → j ≡ number_of (with_user f s u) (user_of f s) → Headed n (primary_of n j f.session f.integrity) (granted f.present f.by_default) f.count ws ws'
+          → ws' ≡ token_row (new_token n (primary_of n (number_of (with_all f s gs u) (user_of f s)) f.session f.integrity) (granted f.present f.by_default) (map entered (map (group_in (with_all f s gs u)) gs)))
+      row_is h fit j e w =
+          w.row (map entered (map (group_in (with_all f s gs u)) gs)) ((groups h).row fit)
+          (length-map (map (group_in (with_all f s gs u)) gs) entered ∙ length-map gs (group_in (with_all f s gs u)) ∙ all_long (group packed_sid) f.count (drop f.at s) q)
+          ∙ ap (λ (i : ℕ). token_row (new_token n (primary_of n i f.session f.integrity) (granted f.present f.by_default) (map entered (map (group_in (with_all f s gs u)) gs))))
+          (e ∙ sym (number_kept (map group_sid gs) (user_of f s) (with_user f s u) known))
+
+    pub groups_refused : {first : Option ℕ} → NumberEntered (row_sid x) before middle first → {ws after : List ℕ} {e : Refusal} → PackedRead x s f.at f.count middle ws after (Err e)
+        → PackedMade n f s before ws after (Err e)
+    unfolding entered_all
+    groups_refused {first} m r = record {
+      long = r.long;
+      made = λ gs later q u c w. record {
+        refusal =
+            but_for _ r.room (is_some first) (refusal_is m r gs later q u c)
+            ∙ room_as (good_in f s gs (with_all f s gs u)) (λ h. sym (fits_all m r gs later q u c w h));
+        held = tt;
+        row = tt;
+      };
     }
 
-  pub packed_made : PackedMade n user_at session integrity present by_default s at count before ws' after (record { ok = a && g.ok; room = first.room && g.room })
-  packed_made = record { long = w.head.long r.long; made = made_in }
+    pub user_without_room : NumberEntered (row_sid x) before middle None → {ws after : List ℕ} {o : Unit {0}} → PackedRead x s f.at f.count middle ws after (Ok o)
+        → PackedMade n f s before ws after (Err refusal.TableFull)
+    unfolding entered_all
+    user_without_room m r = record {
+      long = r.long;
+      made = λ gs later q u c w.
+          let h = is_good _ r.room (refusal_is m r gs later q u c) in
+          record { refusal = refused_full _ _ h (fits_all m r gs later q u c w h); held = tt; row = tt };
+    }
+
+    pub packed_made : {j : ℕ} → NumberEntered (row_sid x) before middle (Some j) → {ws after : List ℕ} {o : Unit {0}} → PackedRead x s f.at f.count middle ws after (Ok o)
+        → {ws' : List ℕ} → Headed n (primary_of n j f.session f.integrity) (granted f.present f.by_default) f.count ws ws' → (v : Unit {0}) → PackedMade n f s before ws' after (Ok v)
+    unfolding entered_all
+    packed_made {j} m r h v = record {
+      long = h.long r.long;
+      made = λ gs later q u c w.
+          let y = is_good _ r.room (refusal_is m r gs later q u c) in
+          let fit = fits_all m r gs later q u c w y ∙ has_room _ r.room (refusal_is m r gs later q u c) in
+          record { refusal = refused_none _ _ y fit; held = (groups m r gs later q u c y).held; row = row_is m r gs later q u c y fit j (number_as m r gs later q u c) h };
+    }
 
 -- ---- SIDs that enter change nothing else
 
@@ -235,117 +281,123 @@ sids_parts {σ} t k e p = record {
 
 -- ---- the request
 
--- the code's own tests, which pass where the body is whole and the memory in order
-module _ (table bytes : List ℕ) (y z : Bool) (ey : y ≡ is_packed bytes) (ez : z ≡ sid_words_valid table) (f : not (y && z) ≡ false) where
-  pub table_sound : sid_words_valid table ≡ true
-  table_sound = sym ez ∙ and_r y z (not-false (y && z) f)
-
-  pub user_packed : is_packed bytes ≡ true
-  user_packed = sym ey ∙ and_l y z (not-false (y && z) f)
-
-pub packed_left : {ts cs : List ℕ} {hs : List Handle} (room : Bool) {d : Bool} → IssueRoom ts hs cs d → not (room && d) ≡ false → NumbersLeft cs
-packed_left room {d} i t = i.left (and_r room d (not-false (room && d) t))
-
 -- the SIDs given, the user's first, and the table with them
-abbrev given : ℕ → List ℕ → List GivenGroup → List Given
-given user_at body gs = by_sid (sid_in (drop user_at body)) ∷ map group_sid gs
+abbrev given : CreateFields ℕ → List ℕ → List GivenGroup → List Given
+given f body gs = by_sid (user_of f body) ∷ map group_sid gs
 
-abbrev table_of : ℕ → List ℕ → List GivenGroup → State → List Sid
-table_of user_at body gs σ = entered_all (given user_at body gs) σ.sids
+abbrev table_of : CreateFields ℕ → List ℕ → List GivenGroup → State → List Sid
+table_of f body gs σ = entered_all (given f body gs) σ.sids
 
-abbrev new_one : (user_at session integrity present by_default : ℕ) (body : List ℕ) (gs : List GivenGroup) → State → ℕ → rules.Token
-new_one user_at session integrity present by_default body gs σ j =
-    new_token j (primary_of j (number_of (table_of user_at body gs σ) (sid_in (drop user_at body))) session integrity) (granted present by_default)
-    (map entered (map (group_in (table_of user_at body gs σ)) gs))
+abbrev new_one : CreateFields ℕ → List ℕ → List GivenGroup → State → ℕ → rules.Token
+new_one f body gs σ j =
+    new_token j (primary_of j (number_of (table_of f body gs σ) (user_of f body)) f.session f.integrity) (granted f.present f.by_default) (map entered (map (group_in (table_of f body gs σ)) gs))
 
-module _ (s user_at session integrity present by_default : ℕ) (body : List ℕ) (at count : ℕ) {hs : List Handle} {cs ts ds : List ℕ} {b : Bool} (h : Held create_token s ts cs b) where
-  is_held : (gs : List GivenGroup) {c : Bool} → not b ≡ c → (σ : State) → valid σ ≡ true → PartsIn σ ts ds hs cs → not (held (entering (given user_at body gs) σ) s create_token) ≡ c
-  is_held gs f σ v p = ap not (held_still (given user_at body gs) σ s create_token ∙ sym (h.held σ v p.tokens p.control)) ∙ f
+abbrev good : CreateFields ℕ → List ℕ → List GivenGroup → State → Bool
+good f body gs σ = good_in f body gs (table_of f body gs σ)
 
-  pub packed_not_held : {r : Outcome} → not b ≡ true → Ends (answers.Refused 4) r → PackedCreateCarried s user_at session integrity present by_default body at count ts ds hs cs ts ds cs r
+abbrev issuing : ℕ → CreateFields ℕ → List ℕ → List GivenGroup → State → ℕ → Decision
+issuing s f body gs σ j = issued s all_rights (new_one f body gs σ j) (used create_token s (entering (given f body gs) σ))
+
+module _ (s : ℕ) (f : CreateFields ℕ) (body : List ℕ) {hs : List Handle} {cs ts ds : List ℕ} {b : Bool} (h : Held create_token s ts cs b) where
+  is_held : (gs : List GivenGroup) {c : Bool} → not b ≡ c → (σ : State) → valid σ ≡ true → PartsIn σ ts ds hs cs → not (held (entering (given f body gs) σ) s create_token) ≡ c
+  is_held gs t σ v p = ap not (held_still (given f body gs) σ s create_token ∙ sym (h.held σ v p.tokens p.control)) ∙ t
+
+  pub packed_not_held : not b ≡ true → PackedCreateCarried s f body ts ds hs cs ts ds cs (Err refusal.PrivilegeNotHeld)
   unfolding create create_numbered
-  packed_not_held {r} f e = record {
-    carried = λ gs later q u. refuses 4 r e (omega arith) λ σ v p. fails (held (entering (given user_at body gs) σ) s create_token) σ 4 _ (is_held gs f σ v p);
+  packed_not_held t = record {
+    carried = λ gs later q u. refuses refusal.PrivilegeNotHeld λ σ v p. fails (held (entering (given f body gs) σ) s create_token) σ privilege_not_held _ (is_held gs t σ v p);
   }
 
   -- never so
-  pub packed_broken : {table : List ℕ} {y z : Bool} {r : Outcome} → SidsCopied cs table → y ≡ is_packed (drop user_at body) → z ≡ sid_words_valid table → not (y && z) ≡ true
-      → Ends (answers.Refused 5) r → PackedCreateCarried s user_at session integrity present by_default body at count ts ds hs cs ts ds cs r
-  packed_broken {r = r} c ey ez f e = record {
-    carried = λ gs later q u. refuses 5 r e (omega arith) λ σ v p.
-        absurd (not_both f (ap₂ (λ (i j : Bool). not (i && j)) (ey ∙ u) (ez ∙ ap sid_words_valid (c.copied σ p.control) ∙ written_valid σ.sids (valid_facts σ v).loose.sids)));
+  pub packed_broken : {table : List ℕ} {y z : Bool} → SidsCopied cs table → y ≡ is_packed (drop f.user body) → z ≡ sid_words_valid table → not (y && z) ≡ true
+      → PackedCreateCarried s f body ts ds hs cs ts ds cs (Err refusal.BadField)
+  packed_broken c ey ez t = record {
+    carried = λ gs later q u. refuses refusal.BadField λ σ v p.
+        absurd (not_both t (ap₂ (λ (i j : Bool). not (i && j)) (ey ∙ u) (ez ∙ ap sid_words_valid (c.copied σ p.control) ∙ written_valid σ.sids (valid_facts σ v).loose.sids)));
   }
 
-  module _ (f : not b ≡ false) {table : List ℕ} (c : SidsCopied cs table) {n : ℕ} {ws after : List ℕ} {m : Made} (g : PackedMade n user_at session integrity present by_default body at count table ws after m) where
-    module _ (gs : List GivenGroup) (later : List ℕ) (q : times count (group packed_sid) (drop at body) ≡ got gs later) (σ : State) (v : valid σ ≡ true) (p : PartsIn σ ts ds hs cs) where
-      made_there : MadeIn n (sid_in (drop user_at body)) session integrity present by_default gs σ.sids (table_of user_at body gs σ) ws after m
-      made_there =
-          let good : sids_valid σ.sids ≡ true = (valid_facts σ v).loose.sids in
-          let all_of : take max_sids σ.sids ≡ σ.sids = take_all max_sids σ.sids (sids_few σ.sids good) in
-          g.made gs later q σ.sids (record { words = c.copied σ p.control ∙ ap write_sids (sym all_of); sound = ap sids_valid all_of ∙ good })
-
-      room_is : m.ok ≡ true → {d : Bool} → IssueRoom ts hs cs d → not (can_issue (entering (given user_at body gs) σ) && fits_table (table_of user_at body gs σ)) ≡ not (m.room && d)
-      room_is o {d} i =
-          ap₂ (λ (x y : Bool). not (x && y)) (can_still (given user_at body gs) σ ∙ sym (i.room σ v p))
-          (made_there.fits o ∙ ap (λ (x : Bool). x && m.room) (sids_fit σ.sids (valid_facts σ v).loose.sids))
-          ∙ ap not (and_comm d m.room)
-
-      written_after : m.ok ≡ true → fits_table (table_of user_at body gs σ) ≡ true → after ≡ write_sids (table_of user_at body gs σ)
-      unfolding fits_table
-      written_after o fit = (made_there.held o).words ∙ ap write_sids (take_all max_sids (table_of user_at body gs σ) (leb-true (length (table_of user_at body gs σ)) max_sids fit))
-
-    pub packed_refused : {r : Outcome} → not m.ok ≡ true → Ends (answers.Refused 5) r → PackedCreateCarried s user_at session integrity present by_default body at count ts ds hs cs ts ds cs r
+  module _ (t : not b ≡ false) where
+    -- past 4
+    decided : (gs : List GivenGroup) (σ : State) → valid σ ≡ true → PartsIn σ ts ds hs cs
+        → carried_out σ (create σ s (by_sid (user_of f body)) f.session f.integrity f.present f.by_default gs)
+        ≡ carried_out σ (need good f body gs σ else bad_field then
+        need can_issue (entering (given f body gs) σ) && fits_table (table_of f body gs σ) else table_full then
+        issuing s f body gs σ σ.tokens.next)
     unfolding create create_numbered entering with_sids number_in
-    packed_refused {r} t e = record {
-      carried = λ gs later q u. refuses 5 r e (omega arith) λ σ v p.
-          holds (held (entering (given user_at body gs) σ) s create_token) σ privilege_not_held _ (is_held gs f σ v p)
-          ∙ fails (valid_create (table_of user_at body gs σ) (number_of (table_of user_at body gs σ) (sid_in (drop user_at body))) integrity present by_default (map (group_in (table_of user_at body gs σ)) gs)) σ 5 _
-          (ap not (sym (made_there gs later q σ v p).valid) ∙ t);
-    }
+    decided gs σ v p = holds (held (entering (given f body gs) σ) s create_token) σ privilege_not_held _ (is_held gs t σ v p)
 
-    -- past 4 and 5
-    decided : not m.ok ≡ false → (gs : List GivenGroup) (later : List ℕ) → times count (group packed_sid) (drop at body) ≡ got gs later → (σ : State) → valid σ ≡ true → PartsIn σ ts ds hs cs
-        → carried_out σ (create σ s (by_sid (sid_in (drop user_at body))) session integrity present by_default gs)
-        ≡ carried_out σ (need can_issue (entering (given user_at body gs) σ) && fits_table (table_of user_at body gs σ) else table_full then
-        issued s all_rights (new_one user_at session integrity present by_default body gs σ σ.tokens.next) (used create_token s (entering (given user_at body gs) σ)))
-    unfolding create create_numbered entering with_sids number_in
-    decided o gs later q σ v p =
-        holds (held (entering (given user_at body gs) σ) s create_token) σ privilege_not_held _ (is_held gs f σ v p)
-        ∙ holds (valid_create (table_of user_at body gs σ) (number_of (table_of user_at body gs σ) (sid_in (drop user_at body))) integrity present by_default (map (group_in (table_of user_at body gs σ)) gs)) σ bad_field _
-        (ap not (sym (made_there gs later q σ v p).valid) ∙ o)
+    module _ {table : List ℕ} (c : SidsCopied cs table) {n : ℕ} {ws after : List ℕ} where
+      made_there : {r : Result (Unit {0}) Refusal} → PackedMade n f body table ws after r
+          → (gs : List GivenGroup) (later : List ℕ) → times f.count (group packed_sid) (drop f.at body) ≡ got gs later → (σ : State) → valid σ ≡ true → PartsIn σ ts ds hs cs
+          → MadeIn n f (user_of f body) gs (table_of f body gs σ) ws after r
+      made_there g gs later q σ v p =
+          let whole : sids_valid σ.sids ≡ true = (valid_facts σ v).loose.sids in
+          let all_of : take max_sids σ.sids ≡ σ.sids = take_all max_sids σ.sids (sids_few σ.sids whole) in
+          g.made gs later q σ.sids (record { words = c.copied σ p.control ∙ ap write_sids (sym all_of); sound = ap sids_valid all_of ∙ whole }) (sids_fit σ.sids whole)
 
-    module _ (o : not m.ok ≡ false) {d : Bool} (i : IssueRoom ts hs cs d) where
-      pub packed_no_room : {r : Outcome} → not (m.room && d) ≡ true → Ends (answers.Refused 8) r
-          → PackedCreateCarried s user_at session integrity present by_default body at count ts ds hs cs ts ds cs r
-      packed_no_room {r} t e = record {
-        carried = λ gs later q u. refuses 8 r e (omega arith) λ σ v p.
-            decided o gs later q σ v p
-            ∙ fails (can_issue (entering (given user_at body gs) σ) && fits_table (table_of user_at body gs σ)) σ 8 _ (room_is gs later q σ v p (not-false m.ok o) i ∙ t);
+      pub packed_refused : {e : Refusal} → PackedMade n f body table ws after (Err e) → PackedCreateCarried s f body ts ds hs cs ts ds cs (Err e)
+      packed_refused {e} g = record {
+        carried = λ gs later q u. refuses e λ σ v p.
+            decided gs σ v p
+            ∙ stops σ (good f body gs σ) (can_issue (entering (given f body gs) σ) && fits_table (table_of f body gs σ)) (issuing s f body gs σ σ.tokens.next)
+            (but_for (good f body gs σ) (fits_table (table_of f body gs σ)) (can_issue (entering (given f body gs) σ)) (made_there g gs later q σ v p).refusal);
       }
 
-      pub packed_creates : {cs₁ cs' ts' ds' : List ℕ} {r : Outcome} → not (m.room && d) ≡ false → NextGiven token_counter cs n → RowCreated s ws ts ds hs cs ts' ds' cs₁ r
-          → SidsSet after cs₁ cs' → PackedCreateCarried s user_at session integrity present by_default body at count ts ds hs cs ts' ds' cs' r
-      unfolding new_token no_defaults
-      packed_creates t next k set = record {
-        carried = λ gs later q u. carried_each (λ σ. after_it gs σ) (λ σ v p.
-            decided o gs later q σ v p
-            ∙ holds (can_issue (entering (given user_at body gs) σ) && fits_table (table_of user_at body gs σ)) σ table_full _ (room_is gs later q σ v p (not-false m.ok o) i ∙ t)
-            ∙ ap (λ (j : ℕ). carried_out σ (issued s all_rights (new_one user_at session integrity present by_default body gs σ j) (used create_token s (entering (given user_at body gs) σ)))) (sym (next.next σ p.control))
-            ∙ issued_then (given user_at body gs) σ s create_token all_rights (new_one user_at session integrity present by_default body gs σ n))
-            (λ σ v p.
-            let fit : fits_table (table_of user_at body gs σ) ≡ true =
-            and_r (can_issue (entering (given user_at body gs) σ)) _
-            (not-false (can_issue (entering (given user_at body gs) σ) && fits_table (table_of user_at body gs σ)) (room_is gs later q σ v p (not-false m.ok o) i ∙ t)) in
-            let x = carried_at (k.carried (new_one user_at session integrity present by_default body gs σ n) ((made_there gs later q σ v p).row (not-false m.ok o) fit) refl) σ v p in
-            record {
-              parts = sids_parts (table_of user_at body gs σ) set (written_after gs later q σ v p (not-false m.ok o) fit) x.parts;
-              answer = x.answer;
-              fit = x.fit;
-            });
-      }
-        where
-          after_it : List GivenGroup → State → Served
-          after_it gs σ = record {
-            state = with_sids (table_of user_at body gs σ) (carried_out σ (issued s all_rights (new_one user_at session integrity present by_default body gs σ n) (used create_token s σ))).state;
-            answer = (carried_out σ (issued s all_rights (new_one user_at session integrity present by_default body gs σ n) (used create_token s σ))).answer;
+      module _ {o : Unit {0}} (g : PackedMade n f body table ws after (Ok o)) where
+        module _ (gs : List GivenGroup) (later : List ℕ) (q : times f.count (group packed_sid) (drop f.at body) ≡ got gs later) (σ : State) (v : valid σ ≡ true) (p : PartsIn σ ts ds hs cs) where
+          made : MadeIn n f (user_of f body) gs (table_of f body gs σ) ws after (Ok o)
+          made = made_there g gs later q σ v p
+
+          fit : fits_table (table_of f body gs σ) ≡ true
+          fit = has_room (good f body gs σ) (fits_table (table_of f body gs σ)) made.refusal
+
+          -- past 5: room is left but for the slots
+          room_left : carried_out σ (create σ s (by_sid (user_of f body)) f.session f.integrity f.present f.by_default gs)
+              ≡ carried_out σ (need can_issue σ else table_full then issuing s f body gs σ σ.tokens.next)
+          room_left =
+              decided gs σ v p
+              ∙ goes_on σ (good f body gs σ) (can_issue (entering (given f body gs) σ) && fits_table (table_of f body gs σ)) (issuing s f body gs σ σ.tokens.next) (is_good (good f body gs σ) (fits_table (table_of f body gs σ)) made.refusal)
+              ∙ ap (λ (b : Bool). carried_out σ (need b else table_full then issuing s f body gs σ σ.tokens.next))
+              (ap₂ ◌&&◌ (can_still (given f body gs) σ) fit ∙ and-true (can_issue σ))
+
+          written_after : after ≡ write_sids (table_of f body gs σ)
+          unfolding fits_table
+          written_after = made.held.words ∙ ap write_sids (take_all max_sids (table_of f body gs σ) (leb-true (length (table_of f body gs σ)) max_sids fit))
+
+        module _ {cs₁ ts' ds' : List ℕ} where
+          pub packed_no_room : {e : Refusal} → RowCreated s ws ts ds hs cs ts' ds' cs₁ (Err e) → PackedCreateCarried s f body ts ds hs cs ts' ds' cs₁ (Err e)
+          unfolding new_token no_defaults
+          packed_no_room k = record {
+            carried = λ gs later q u. carried_each (λ σ. carried_out σ (need can_issue σ else table_full then issued s all_rights (new_one f body gs σ n) (used create_token s σ))) (λ σ v p.
+                room_left gs later q σ v p
+                ∙ stops_alike σ (can_issue σ) (issuing s f body gs σ σ.tokens.next) (issued s all_rights (new_one f body gs σ n) (used create_token s σ)) (k.refusal σ v p))
+                (λ σ v p. carried_at (k.carried (new_one f body gs σ n) (made gs later q σ v p).row refl) σ v p);
           }
+
+          pub packed_creates : NextGiven token_counter cs n → {r : Outcome} → RowCreated s ws ts ds hs cs ts' ds' cs₁ (Ok r) → {cs' : List ℕ} → SidsSet after cs₁ cs'
+              → PackedCreateCarried s f body ts ds hs cs ts' ds' cs' (Ok r)
+          unfolding new_token no_defaults
+          packed_creates next k set = record {
+            carried = λ gs later q u. carried_each (λ σ. after_it gs σ) (λ σ v p.
+                room_left gs later q σ v p
+                ∙ holds (can_issue σ) σ table_full _ (ap not (can_issue_is σ v p))
+                ∙ ap (λ (j : ℕ). carried_out σ (issuing s f body gs σ j)) (sym (next.next σ p.control))
+                ∙ issued_then (given f body gs) σ s create_token all_rights (new_one f body gs σ n))
+                (λ σ v p.
+                let x = carried_at (k.carried (new_one f body gs σ n) (made gs later q σ v p).row refl) σ v p in
+                let y = holds (can_issue σ) σ table_full (issued s all_rights (new_one f body gs σ n) (used create_token s σ)) (ap not (can_issue_is σ v p)) in
+                record {
+                  parts = sids_parts (table_of f body gs σ) set (written_after gs later q σ v p) (rw y at x.parts);
+                  answer = rw y at x.answer;
+                  fit = x.fit;
+                });
+          }
+            where
+              can_issue_is : (σ : State) → valid σ ≡ true → PartsIn σ ts ds hs cs → can_issue σ ≡ true
+              can_issue_is σ v p = has_room true (can_issue σ) (k.refusal σ v p)
+
+              after_it : List GivenGroup → State → Served
+              after_it gs σ = record {
+                state = with_sids (table_of f body gs σ) (carried_out σ (issued s all_rights (new_one f body gs σ n) (used create_token s σ))).state;
+                answer = (carried_out σ (issued s all_rights (new_one f body gs σ n) (used create_token s σ))).answer;
+              }

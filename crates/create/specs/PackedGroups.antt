@@ -1,5 +1,5 @@
 -- Request 14's groups: their packed SIDs enter a copy of the SID table, which holds the first 256 of the rule's. Assumes nothing.
-use Rattle.std.specs.Prelude.{ℕ, ◌≤◌, ◌≡◌, Bool, true, false, ◌&&◌, List, map, leb, length, drop, if◌then◌else◌}
+use Rattle.std.specs.Prelude.{ℕ, ◌≤◌, ◌≡◌, Bool, true, false, ◌&&◌, Option, None, Some, is_some, IfSome, Result, List, map, leb, length, drop, if◌then◌else◌}
 use Rattle.rules.specs.Basic.{all, is_below, same}
 use Rattle.rules.specs.Number.{got, bad, max32}
 use Rattle.rules.specs.Token.{max_groups}
@@ -12,10 +12,10 @@ use Rattle.rules.specs.Request.{times, group, packed_sid}
 use Rattle.rules.specs.Create.{valid_pair, entered}
 use Rattle.token.specs.NewRow.{headless}
 use Rattle.given.specs.Given.{Capped}
-use Rattle.create.specs.declared.packed.Numbered.{Numbered}
-use Rattle.create.specs.declared.packed.PackedGroups.{PackedGroups}
-use Rattle.create.specs.declared.packed.Spot.{Spot}
-use Rattle.create.specs.declared.packed.Spot.TheVariants as spot
+use Rattle.answer.specs.declared.refusal.Refusal.{Refusal}
+use Rattle.decide.specs.Lookup.{refused}
+use Rattle.number.specs.declared.Number.{Number}
+use Rattle.create.specs.NewGroups.{new_refusal}
 
 -- ---- a pair, by the rows of its SID and of the user's
 
@@ -39,20 +39,21 @@ pub record RowAt (s : List ℕ) (at : ℕ) (r : List ℕ) : Type 0 where
 abbrev pub packed_group : List ℕ → ℕ → GivenGroup
 packed_group bytes a = record { sid = by_sid (sid_in bytes); attributes = a }
 
-abbrev pub SpotIs : List ℕ → ℕ → Spot → Type 0
-SpotIs s at (spot.Got a next) = (got (packed_group (drop at s) a) (drop next s) ≡ group packed_sid (drop at s)) × (is_packed (drop at s) ≡ true) × (a ≤ max32)
-SpotIs s at spot.Bad = bad ≡ group packed_sid (drop at s)
+-- the attributes behind the SID, and the place after them
+abbrev pub AttributesIn : List ℕ → ℕ → Option Number → Type 0
+AttributesIn s at (Some a) = (got (packed_group (drop at s) a.value) (drop a.next s) ≡ group packed_sid (drop at s)) × (is_packed (drop at s) ≡ true) × (a.value ≤ max32)
+AttributesIn s at None = bad ≡ group packed_sid (drop at s)
 
-pub record SpotAt (s : List ℕ) (at : ℕ) (r : Spot) : Type 0 where
-  pub means : SpotIs s at r
+pub record AttributesAt (s : List ℕ) (at : ℕ) (r : Option Number) : Type 0 where
+  pub means : AttributesIn s at r
 
 -- ---- SIDs enter
 
-pub record NumberEntered (x : Sid) (ws ws' : List ℕ) (r : Numbered) : Type 0 where
+pub record NumberEntered (x : Sid) (ws ws' : List ℕ) (r : Option ℕ) : Type 0 where
   pub sound : sid_words_valid ws' ≡ true
   pub held : (t : List Sid) → Capped t ws → Capped (entered_by (by_sid x) t) ws'
-  pub fits : (t : List Sid) → Capped t ws → fits_table (entered_by (by_sid x) t) ≡ (fits_table t && r.room)
-  pub number : (t : List Sid) → Capped t ws → r.room ≡ true → r.number ≡ number_of (entered_by (by_sid x) t) x
+  pub fits : (t : List Sid) → Capped t ws → fits_table (entered_by (by_sid x) t) ≡ (fits_table t && is_some r)
+  pub number : (t : List Sid) → Capped t ws → IfSome r (λ n. n ≡ number_of (entered_by (by_sid x) t) x)
 
 -- those of the groups have entered a table that the words hold
 pub record GroupsEntered (gs : List GivenGroup) (t : List Sid) (room : Bool) (ws after : List ℕ) : Type 0 where
@@ -60,10 +61,11 @@ pub record GroupsEntered (gs : List GivenGroup) (t : List Sid) (room : Bool) (ws
   pub fits : fits_table (entered_all (map group_sid gs) t) ≡ (fits_table t && room)
   pub row : fits_table (entered_all (map group_sid gs) t) ≡ true → ws ≡ headless (map entered (map (group_in (entered_all (map group_sid gs) t)) gs))
 
--- judged and entered, where they are all there
-pub record PackedRead (user s : List ℕ) (at count : ℕ) (before ws after : List ℕ) (r : PackedGroups) : Type 0 where
+-- judged and entered, where they are all there; room says whether every SID is in the table
+pub record PackedRead (user s : List ℕ) (at count : ℕ) (before ws after : List ℕ) (r : Result (Unit {0}) Refusal) : Type 0 where
   pub long : length ws ≡ token_words
-  pub judged : (gs : List GivenGroup) (later : List ℕ) → times count (group packed_sid) (drop at s) ≡ got gs later → r.ok ≡ (leb (length gs) max_groups && all (judged_group user) gs)
-  pub counted : (gs : List GivenGroup) (later : List ℕ) → times count (group packed_sid) (drop at s) ≡ got gs later → r.ok ≡ true → length gs ≡ r.count
-  pub taken : (gs : List GivenGroup) (later : List ℕ) → times count (group packed_sid) (drop at s) ≡ got gs later → r.ok ≡ true
-      → (t : List Sid) → Capped t before → GroupsEntered gs t r.room ws after
+  pub room : Bool
+  pub refusal : (gs : List GivenGroup) (later : List ℕ) → times count (group packed_sid) (drop at s) ≡ got gs later
+      → refused r ≡ new_refusal (leb (length gs) max_groups && all (judged_group user) gs) room
+  pub taken : (gs : List GivenGroup) (later : List ℕ) → times count (group packed_sid) (drop at s) ≡ got gs later → (leb (length gs) max_groups && all (judged_group user) gs) ≡ true
+      → (t : List Sid) → Capped t before → GroupsEntered gs t room ws after

@@ -1,216 +1,179 @@
 // Requests 3 and 14: create. A new token and a handle on it.
 #![tactic(auto)]
 
-ghost use Rattle.std.specs.Prelude.{◌≡◌, true, ◌≤◌, ◌<◌, length, drop, replicate};
+ghost use Rattle.std.specs.Prelude.{◌≡◌, true, ◌&&◌, ◌≤◌, length, drop, replicate};
+ghost use Rattle.rules.specs.Bits.{within};
 ghost use Rattle.rules.specs.Sid.{is_packed};
 ghost use Rattle.rules.specs.SidTable.{max_sids};
 ghost use Rattle.rules.specs.SidRows.{sid_words_valid};
-ghost use Rattle.rules.specs.State.{station_count};
-ghost use Rattle.rules.specs.Memory.{token_words, control_words};
+ghost use Rattle.rules.specs.Privileges.{existing, granted};
+ghost use Rattle.rules.specs.Token.{primary_of};
+ghost use Rattle.rules.specs.Memory.{token_words};
+ghost use Rattle.rules.specs.Create.{valid_integrity};
+ghost use Rattle.token.specs.NewRow.{Headed};
+ghost use Rattle.control.specs.Sids.{SidsCopied};
 ghost use Rattle.handle.specs.Words.{records_in};
-ghost use Rattle.state.specs.Parts.{Lent};
-ghost use Rattle.decide.specs.Issue.{NumbersLeft};
-ghost use Rattle.create.specs.Create.{FieldsSet, RowMade, KnownSids, RowCreated, CreateCarried};
-ghost use Rattle.create.specs.PackedCreate.{PackedMade, PackedCreateCarried};
+ghost use Rattle.state.specs.Parts.{SameParts};
+ghost use Rattle.create.specs.Create.{RowMade, KnownSids, RowCreated, CreateCarriedOut};
+ghost use Rattle.create.specs.PackedCreate.{PackedMade, PackedCreateCarriedOut};
 
 use crate::groups::read_groups;
 use crate::packed::{enter, is_packed, read_packed_groups, row_at};
-use answer::refusal;
-use body::fields::{CreateFields, PackedCreateFields};
+use answer::Refusal;
+use body::fields::CreateFields;
 use control::layout::NEXT_TOKEN;
-use control::{counters, sids};
+use control::sids;
+use control::stations::Station;
 use decide::issue::{can_issue, issue_row};
-use decide::outcome;
 use decide::outcome::Outcome;
-use handle::HANDLE_WORDS;
 use privilege::mask::Mask;
 use privilege::privileges::Privileges;
 use privilege::words;
-use sid::layout::MAX_SIDS;
+use sid::layout::{MAX_SIDS, SIDS};
 use sid::number::is_number;
 use sid::valid::table_valid;
-use state::tokens::{held, used};
+use state::parts::Parts;
 use token::layout::{MAX_DACL, TOKEN_WORDS};
 use token::{Identity, row};
 
 mod groups;
 mod packed;
 
-// ok if every field is good, room if every SID is in the table.
-#[derive(Clone, Copy)]
-pub struct Made {
-    pub ok: bool,
-    pub room: bool,
+// The fields besides the user and the groups.
+fn fields_good<U>(f: &CreateFields<U>) -> bool
+    ensures { result ≡ (valid_integrity f.now.integrity && within f.now.by_default f.now.present && within f.now.present existing) }
+{
+    token::valid_integrity(f.integrity as u64)
+        & words::within(f.by_default, f.present)
+        & words::within(f.present, Privileges::EXISTING)
 }
 
-// The row's head, behind which the groups stand, and whether what goes in it is good.
-fn set_fields(
-    n: u64,
-    user: u32,
-    session: u64,
-    integrity: u32,
-    present: u64,
-    by_default: u64,
-    count: usize,
-    row: &mut [u64],
-) -> bool
+// The row's head, behind which the groups stand.
+#[tactic(auto, unfolding(rules::specs::Token::primary_of))]
+fn set_head<U>(n: u64, user: u32, f: &CreateFields<U>, row: &mut [u64])
     requires { length row.old ≡ token_words }
-    ensures { FieldsSet n user session integrity present by_default count row.old row.new result }
+    ensures { Headed n (primary_of n user f.now.session f.now.integrity) (granted f.now.present f.now.by_default) f.now.count row.old row.new }
 {
     let identity = Identity {
-        user: user,
-        session: session,
+        user,
+        session: f.session,
         kind: Identity::PRIMARY,
         level: 0,
-        integrity: integrity,
+        integrity: f.integrity,
         root: n,
     };
-    let granted = Privileges::granted(present, by_default);
-    row::set_head(row, n, identity, granted, count);
-    token::valid_integrity(integrity as u64)
-        & words::within(by_default, present)
-        & words::within(present, Privileges::EXISTING)
+    let granted = Privileges::granted(f.present, f.by_default);
+    row::set_head(row, n, identity, granted, f.count as usize);
 }
 
 // The new token's row, where every field is good. Its groups stand in the body.
-fn make(n: u64, known: u64, f: CreateFields, s: &[u8], row: &mut [u64]) -> bool
+fn make(n: u64, known: u64, f: CreateFields<u32>, s: &[u8], row: &mut [u64]) -> Result<(), Refusal>
     requires { (row.old ≡ replicate token_words 0) × (known ≤ max_sids) }
-    ensures { RowMade n known f.user f.session f.integrity f.present f.by_default s.now f.at f.count row.new result }
+    ensures { RowMade n known f s.now row.new result }
 {
-    let read = read_groups(f.user, known, s, f.at, f.count as u64, row);
-    let good = set_fields(
-        n,
-        f.user,
-        f.session,
-        f.integrity,
-        f.present,
-        f.by_default,
-        read.count,
-        row,
-    );
-    good & read.ok & is_number(f.user as u64, known)
+    if !(fields_good(&f) & is_number(f.user as u64, known)) {
+        return Err(Refusal::BadField);
+    }
+    read_groups(f.user, known, s, f.at, f.count as usize, row)?;
+    set_head(n, f.user, &f, row);
+    Ok(())
 }
 
 // The row with packed SIDs, which enter the copy of the table: the user's first.
-fn make_packed(n: u64, f: PackedCreateFields, s: &[u8], row: &mut [u64], sids: &mut [u64]) -> Made
-    requires { (row.old ≡ replicate token_words 0) × (sid_words_valid sids.old ≡ true) × (is_packed (drop f.user_at s.now) ≡ true) }
-    ensures { PackedMade n f.user_at f.session f.integrity f.present f.by_default s.now f.at f.count sids.old row.new sids.new result }
+fn make_packed(
+    n: u64,
+    f: CreateFields<usize>,
+    s: &[u8],
+    row: &mut [u64],
+    sids: &mut [u64],
+) -> Result<(), Refusal>
+    requires { (row.old ≡ replicate token_words 0) × (sid_words_valid sids.old ≡ true) × (is_packed (drop f.user s.now) ≡ true) }
+    ensures { PackedMade n f s.now sids.old row.new sids.new result }
 {
-    let user = row_at(s, f.user_at);
-    let first = enter(&user, sids);
-    let read = read_packed_groups(&user, s, f.at, f.count as u64, row, sids);
-    let good = set_fields(
-        n,
-        first.number,
-        f.session,
-        f.integrity,
-        f.present,
-        f.by_default,
-        read.count,
-        row,
-    );
-    Made {
-        ok: good & read.ok,
-        room: first.room & read.room,
+    if !fields_good(&f) {
+        return Err(Refusal::BadField);
     }
+    let user = row_at(s, f.user);
+    let first = enter(&user, sids);
+    read_packed_groups(&user, s, f.at, f.count as usize, row, sids)?;
+    let Some(number) = first else {
+        return Err(Refusal::TableFull);
+    };
+    set_head(n, number, &f, row);
+    Ok(())
 }
 
 // How many SIDs stand in the table. In memory that is in order they are at most 256.
-fn known_sids(control: &[u64]) -> u64
-    requires { length control.now ≡ control_words }
-    ensures { KnownSids control.now result }
+#[tactic(auto, using(crate::proofs::CreateEnding::known))]
+fn known_sids(parts: &Parts) -> u64
+    ensures { KnownSids parts.now.control.now result }
 {
-    let most = MAX_SIDS as u64;
-    let count = sids::count(control);
-    if count < most { count } else { most }
+    sids::count(parts.control).min(MAX_SIDS as u64)
 }
 
-// The used bit falls on the caller's token before the new one is there. The new one has no DACL.
-fn issue_created(
-    station: u32,
-    row: &[u64],
-    handles: &[u64; HANDLE_WORDS],
-    tokens: &mut [u64],
-    dacls: &mut [u8],
-    control: &mut [u64],
-) -> Outcome
-    requires { Lent tokens.old dacls.old control.old × (station < station_count) × (length row.now ≡ token_words) × NumbersLeft control.old }
-    ensures { RowCreated station row.now tokens.old dacls.old (records_in handles.now) control.old tokens.new dacls.new control.new result }
+fn table_of(parts: &Parts) -> [u64; SIDS]
+    ensures { SidsCopied parts.now.control.now result }
 {
-    used(Privileges::CREATE_TOKEN, station, tokens, control);
-    let all = Mask::ALL;
+    sids::copied(parts.control)
+}
+
+// The end of both requests. The used bit falls on the caller's token before the new one is there. The new one has no DACL.
+#[tactic(auto, using(crate::proofs::CreateEnding::none_issued, crate::proofs::CreateEnding::create_issues))]
+fn issue_created(parts: &mut Parts, station: Station, row: &[u64]) -> Result<Outcome, Refusal>
+    requires { length row.now ≡ token_words }
+    ensures same { SameParts parts.old parts.new }
+    ensures created { RowCreated station.number row.now parts.old.tokens.now parts.old.dacls.now (records_in parts.old.handles.now) parts.old.control.now parts.new.tokens.now parts.new.dacls.now parts.new.control.now result }
+{
+    if !can_issue(parts) {
+        return Err(Refusal::TableFull);
+    }
+    parts.used(Privileges::CREATE_TOKEN, station);
     let dacl = [0u8; MAX_DACL];
-    issue_row(
-        station,
-        all.0 as u16,
-        row,
-        &dacl,
-        handles,
-        tokens,
-        dacls,
-        control,
-    )
+    Ok(issue_row(parts, station, Mask::ALL.0 as u16, row, &dacl))
 }
 
 // Request 3: the SIDs by their numbers.
 pub fn create(
-    station: u32,
-    f: CreateFields,
+    parts: &mut Parts,
+    station: Station,
+    f: CreateFields<u32>,
     s: &[u8],
-    handles: &[u64; HANDLE_WORDS],
-    tokens: &mut [u64],
-    dacls: &mut [u8],
-    control: &mut [u64],
-) -> Outcome
-    requires { Lent tokens.old dacls.old control.old × (station < station_count) }
-    ensures { CreateCarried station f.user f.session f.integrity f.present f.by_default s.now f.at f.count tokens.old dacls.old (records_in handles.now) control.old tokens.new dacls.new control.new result }
+) -> Result<Outcome, Refusal>
+    ensures same { SameParts parts.old parts.new }
+    ensures carried { CreateCarriedOut station.number f s.now parts.old parts.new result }
 {
-    if !held(Privileges::CREATE_TOKEN, station, tokens, control) {
-        return outcome::refused(refusal::PRIVILEGE_NOT_HELD);
+    if !parts.held(Privileges::CREATE_TOKEN, station) {
+        return Err(Refusal::PrivilegeNotHeld);
     }
-    let n = counters::next(NEXT_TOKEN, control);
-    let known = known_sids(control);
+    let n = parts.next(NEXT_TOKEN);
+    let known = known_sids(parts);
     let mut row = [0u64; TOKEN_WORDS];
-    if !make(n, known, f, s, &mut row) {
-        return outcome::refused(refusal::BAD_FIELD);
-    }
-    if !can_issue(handles, tokens, control) {
-        return outcome::refused(refusal::TABLE_FULL);
-    }
-    issue_created(station, &row, handles, tokens, dacls, control)
+    make(n, known, f, s, &mut row)?;
+    issue_created(parts, station, &row)
 }
 
 // Request 14: the SIDs packed. They enter a copy of the table, which is kept only if a token is issued.
 pub fn create_packed(
-    station: u32,
-    f: PackedCreateFields,
+    parts: &mut Parts,
+    station: Station,
+    f: CreateFields<usize>,
     s: &[u8],
-    handles: &[u64; HANDLE_WORDS],
-    tokens: &mut [u64],
-    dacls: &mut [u8],
-    control: &mut [u64],
-) -> Outcome
-    requires { Lent tokens.old dacls.old control.old × (station < station_count) }
-    ensures { PackedCreateCarried station f.user_at f.session f.integrity f.present f.by_default s.now f.at f.count tokens.old dacls.old (records_in handles.now) control.old tokens.new dacls.new control.new result }
+) -> Result<Outcome, Refusal>
+    ensures same { SameParts parts.old parts.new }
+    ensures carried { PackedCreateCarriedOut station.number f s.now parts.old parts.new result }
 {
-    if !held(Privileges::CREATE_TOKEN, station, tokens, control) {
-        return outcome::refused(refusal::PRIVILEGE_NOT_HELD);
+    if !parts.held(Privileges::CREATE_TOKEN, station) {
+        return Err(Refusal::PrivilegeNotHeld);
     }
-    let n = counters::next(NEXT_TOKEN, control);
-    let mut table = sids::copied(control);
+    let n = parts.next(NEXT_TOKEN);
+    let mut table = table_of(parts);
     // Both hold where the body is whole and the memory in order.
-    if !(is_packed(s, f.user_at) & table_valid(&table)) {
-        return outcome::refused(refusal::BAD_FIELD);
+    if !(is_packed(s, f.user) & table_valid(&table)) {
+        return Err(Refusal::BadField);
     }
     let mut row = [0u64; TOKEN_WORDS];
-    let made = make_packed(n, f, s, &mut row, &mut table);
-    if !made.ok {
-        return outcome::refused(refusal::BAD_FIELD);
-    }
-    if !(made.room & can_issue(handles, tokens, control)) {
-        return outcome::refused(refusal::TABLE_FULL);
-    }
-    let end = issue_created(station, &row, handles, tokens, dacls, control);
-    sids::set(&table, control);
-    end
+    make_packed(n, f, s, &mut row, &mut table)?;
+    let end = issue_created(parts, station, &row)?;
+    sids::set(&table, parts.control);
+    Ok(end)
 }

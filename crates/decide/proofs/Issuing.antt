@@ -1,10 +1,10 @@
 -- A new token and a handle on it: the parts after both, and the request that ends so. Assumes nothing.
 use Prim.Native.Nat.{ℕ}
-use native.Mathlib.Omega.{arith}
 use mathlib.Core.Path.{◌≡◌, sym, ap, ap₂, ◌∙◌}
 use mathlib.Core.Bool.{Bool, true, false, not, ◌&&◌}
 use mathlib.Core.List.{List}
 use borrow.Author.Tests.{not-false}
+use Rattle.std.specs.Prelude.{Err}
 use Rattle.rules.specs.Refusal.{table_full}
 use Rattle.rules.specs.State.{State}
 use Rattle.rules.specs.Decision.{Decision, need◌else◌then◌, can_issue}
@@ -12,9 +12,8 @@ use Rattle.rules.proofs.Logic.{and_l, and_r}
 use Rattle.handle.specs.declared.Handle.{Handle}
 use Rattle.state.specs.HandleFacts.{HandleRoom}
 use Rattle.state.specs.TokenCalls.{CanAdd}
-use Rattle.answer.specs.declared.Answer.TheVariants as answers
-use Rattle.decide.specs.declared.outcome.Outcome.{Outcome}
-use Rattle.decide.specs.Carried.{Ends, Carried}
+use Rattle.answer.specs.declared.refusal.Refusal.TheVariants as refusal
+use Rattle.decide.specs.Carried.{Carried}
 use Rattle.decide.specs.Issue.{NumbersLeft, IssueRoom}
 use Rattle.decide.proofs.Deciding.{fails, refuses}
 
@@ -28,6 +27,6 @@ issue_room {a = a} {b = b} h t = record {
 pub numbers_left : {hs : List Handle} {ts cs : List ℕ} {r : Bool} → IssueRoom ts hs cs r → not r ≡ false → NumbersLeft cs
 numbers_left {r = r} i f = i.left (not-false r f)
 
-pub room_refuses : {hs : List Handle} {cs ts ds : List ℕ} {b : Bool} {r : Outcome} → IssueRoom ts hs cs b → (rest : State → Decision) → not b ≡ true → Ends (answers.Refused 8) r
-    → Carried (λ σ. need can_issue σ else table_full then rest σ) ts ds hs cs ts ds cs r
-room_refuses {r = r} i rest f e = refuses 8 r e (omega arith) (λ σ v p. fails (can_issue σ) σ 8 (rest σ) (ap not (sym (i.room σ v p)) ∙ f))
+pub room_refuses : {hs : List Handle} {cs ts ds : List ℕ} {b : Bool} → IssueRoom ts hs cs b → (rest : State → Decision) → not b ≡ true
+    → Carried (λ σ. need can_issue σ else table_full then rest σ) ts ds hs cs ts ds cs (Err refusal.TableFull)
+room_refuses i rest f = refuses refusal.TableFull (λ σ v p. fails (can_issue σ) σ table_full (rest σ) (ap not (sym (i.room σ v p)) ∙ f))

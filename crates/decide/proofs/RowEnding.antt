@@ -3,6 +3,7 @@ use Prim.Native.Nat.{ℕ, ◌<◌}
 use mathlib.Core.Path.{◌≡◌, refl, sym, ap, ◌∙◌}
 use mathlib.Core.Bool.{true}
 use mathlib.Core.List.{List}
+use Rattle.std.specs.Prelude.{Ok}
 use Rattle.rules.specs.Handle as handles
 use Rattle.rules.specs.Token.{Token}
 use Rattle.rules.specs.Valid.{valid, token_valid}
@@ -12,17 +13,16 @@ use Rattle.rules.specs.Memory.{token_row, dacl_row}
 use Rattle.rules.specs.Decision.{Decision, Served, carried_out, with_handle}
 use Rattle.handle.specs.declared.Handle.{Handle}
 use Rattle.state.specs.Parts.{TokensIn}
-use Rattle.state.specs.TokenCalls.{FoundAt}
+use Rattle.state.specs.TokenCalls.{FoundAt, lent}
 use Rattle.state.specs.ReleaseFacts.{PartsIn}
-use Rattle.state.proofs.InPlace.{lent, back, in_slot, lent_row, put_words_in_place, kept_in_place, lent_dacl, back_dacl, lent_dacl_row, put_rows_in_place, dacl_kept_in_place}
+use Rattle.state.proofs.InPlace.{back, in_slot, lent_row, put_words_in_place, kept_in_place, lent_dacl, back_dacl, lent_dacl_row, put_rows_in_place, dacl_kept_in_place}
 use Rattle.state.proofs.TokenFrames.{with_slots_lem, with_tokens_lem}
 use Rattle.answer.specs.declared.Answer.{Answer}
 use Rattle.answer.specs.Answer.{answer_of}
 use Rattle.decide.specs.declared.located.Located.{Located}
-use Rattle.decide.specs.declared.outcome.Outcome.{Outcome}
-use Rattle.decide.specs.Carried.{Ends, Carried}
+use Rattle.decide.specs.Carried.{ends, Carried}
+use Rattle.decide.specs.Located.{LocatedBy}
 use Rattle.decide.specs.Ending.{Ending, refused, becomes, token_after, answered, served, RowEnds, RowsEnd}
-use Rattle.decide.proofs.Locating.{TokenLocated}
 use Rattle.decide.proofs.LookupLaws.{goes_on}
 use Rattle.decide.proofs.Deciding.{ends_with}
 
@@ -58,45 +58,45 @@ module _ (n : ℕ) {i : ℕ} {ts ds : List ℕ} (at : FoundAt n ts i) {σ : Stat
 
 -- ---- the whole request
 
-module _ {s n right : ℕ} {hs : List Handle} {cs ts ds : List ℕ} {token held : ℕ} {y : Located} (g : TokenLocated s n right hs ts token held y) (z : y.refusal ≡ 0)
+module _ {s n right : ℕ} {hs : List Handle} {cs ts ds : List ℕ} {y : Located} (g : LocatedBy s n right hs ts (Ok y))
     (go : State → handles.Handle → Token → Decision) (x : Token → Ending) (rule : Rule go x) where
-  decided : (σ : State) → valid σ ≡ true → PartsIn σ ts ds hs cs → carried_out σ (with_handle σ s n right (go σ)) ≡ served σ (x (state.token_of σ token))
+  decided : (σ : State) → valid σ ≡ true → PartsIn σ ts ds hs cs → carried_out σ (with_handle σ s n right (go σ)) ≡ served σ (x (state.token_of σ y.handle.token))
   decided σ v p =
-      goes_on σ s n right (go σ) (g.refusal σ v p.handles p.tokens) z
+      goes_on σ s n right (go σ) (g.refusal σ v p.handles p.tokens)
       ∙ rule σ (state.handle_of σ s n)
-      ∙ ap (λ (k : ℕ). served σ (x (state.token_of σ k))) (sym (g.token σ v p.handles))
+      ∙ ap (λ (k : ℕ). served σ (x (state.token_of σ k))) (sym (ap (λ (z : handles.Handle). z.token) (g.there.handle σ v p.handles)))
 
   -- the token in the row that is lent
   module _ (σ : State) (v : valid σ ≡ true) (p : PartsIn σ ts ds hs cs) where
     abbrev own : Token
-    own = state.token_of σ token
+    own = state.token_of σ y.handle.token
 
     ok : token_valid own ≡ true
-    ok = (in_slot token (g.slot z) v p.tokens g.inside).is_valid
+    ok = (in_slot y.handle.token g.there.slot v p.tokens g.there.inside).is_valid
 
     row : lent y.slot ts ≡ token_row own
-    row = lent_row token (g.slot z) v p.tokens g.inside
+    row = lent_row y.handle.token g.there.slot v p.tokens g.there.inside
 
     told : {ws : List ℕ} {a : Answer} → RowEnds x (lent y.slot ts) ws a → (ts' ds' : List ℕ) → answer_of ts' ds' a ≡ (carried_out σ (with_handle σ s n right (go σ))).answer
     told e ts' ds' = e.answer own ok row ts' ds' ∙ sym (served_answer σ (x own)) ∙ sym (ap (λ (q : Served). q.answer) (decided σ v p))
 
   -- it leaves the token's number and DACL
   pub row_ends : ((t : Token) → (token_after t (x t)).number ≡ t.number) → ((t : Token) → (token_after t (x t)).defaults.dacl ≡ t.defaults.dacl)
-      → {ws : List ℕ} {a : Answer} → RowEnds x (lent y.slot ts) ws a → (r : Outcome) → Ends a r
-      → Carried (λ σ. with_handle σ s n right (go σ)) ts ds hs cs (back y.slot ws ts) ds cs r
-  row_ends num dacl {ws} {a} e r w = ends_with a r w (λ σ v p. e.fit _ _)
+      → {ws : List ℕ} {a : Answer} → RowEnds x (lent y.slot ts) ws a
+      → Carried (λ σ. with_handle σ s n right (go σ)) ts ds hs cs (back y.slot ws ts) ds cs (Ok (ends a))
+  row_ends num dacl {ws} {a} e = ends_with a (λ σ v p. e.fit _ _)
       (λ σ v p. let t = own σ v p in
       rw (decided σ v p) (served_parts σ (x t) p
-      (words_after token (g.slot z) v p.tokens g.inside (x t) (num t) (dacl t) (e.row t (ok σ v p) (row σ v p)))))
+      (words_after y.handle.token g.there.slot v p.tokens g.there.inside (x t) (num t) (dacl t) (e.row t (ok σ v p) (row σ v p)))))
       (λ σ v p. told σ v p e _ _)
 
   -- it leaves the token's number
   pub rows_end : ((t : Token) → (token_after t (x t)).number ≡ t.number)
-      → {ws bs : List ℕ} {a : Answer} → RowsEnd x (lent y.slot ts) (lent_dacl y.slot ds) ws bs a → (r : Outcome) → Ends a r
-      → Carried (λ σ. with_handle σ s n right (go σ)) ts ds hs cs (back y.slot ws ts) (back_dacl y.slot bs ds) cs r
-  rows_end num {ws} {bs} {a} e r w = ends_with a r w (λ σ v p. e.ends.fit _ _)
+      → {ws bs : List ℕ} {a : Answer} → RowsEnd x (lent y.slot ts) (lent_dacl y.slot ds) ws bs a
+      → Carried (λ σ. with_handle σ s n right (go σ)) ts ds hs cs (back y.slot ws ts) (back_dacl y.slot bs ds) cs (Ok (ends a))
+  rows_end num {ws} {bs} {a} e = ends_with a (λ σ v p. e.ends.fit _ _)
       (λ σ v p. let t = own σ v p in
-      let dacl = lent_dacl_row token (g.slot z) v p.tokens g.inside in
+      let dacl = lent_dacl_row y.handle.token g.there.slot v p.tokens g.there.inside in
       rw (decided σ v p) (served_parts σ (x t) p
-      (rows_after token (g.slot z) v p.tokens g.inside (x t) (num t) (e.ends.row t (ok σ v p) (row σ v p)) (e.dacl t (ok σ v p) (row σ v p) dacl))))
+      (rows_after y.handle.token g.there.slot v p.tokens g.there.inside (x t) (num t) (e.ends.row t (ok σ v p) (row σ v p)) (e.dacl t (ok σ v p) (row σ v p) dacl))))
       (λ σ v p. told σ v p e.ends _ _)

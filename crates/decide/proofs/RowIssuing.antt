@@ -4,6 +4,7 @@ use mathlib.Core.Path.{◌≡◌, refl, sym, ap, subst}
 use mathlib.Core.Bool.{true}
 use mathlib.Core.List.{List}
 use lib.ListN.{get_or}
+use Rattle.std.specs.Prelude.{Some, Ok}
 use Rattle.rules.specs.Token.{Token}
 use Rattle.rules.specs.Table.{added}
 use Rattle.rules.specs.Valid.{valid}
@@ -41,16 +42,16 @@ module _ {s mask : ℕ} {ws bs : List ℕ} {hs : List Handle} {cs ts ds cs₁ ts
   unfolding with_tokens
   stepped_formed σ f = record { token_slots_long = f.token_slots_long; handle_slots_long = f.handle_slots_long; tokens = f.tokens; handles = f.handles; pairs = f.pairs }
 
-  handles_after : (u : Token) (σ : State) → valid σ ≡ true → PartsIn σ ts ds hs cs → HandlesIn (add_handle s (get_or ws Head.number 0) mask (add_token u σ)) (changed hs c)
+  handles_after : (u : Token) (σ : State) → valid σ ≡ true → PartsIn σ ts ds hs cs → HandlesIn (add_handle s (get_or ws Head.number 0) mask (add_token u σ)) (changed hs (Some c))
   unfolding add_token with_tokens added add_handle with_handles sections
   handles_after u σ v p = record {
     records = (h.handles (stepped σ) (stepped_formed σ (valid_formed σ v)) (record { records = p.handles.records }) (control_same refl (a.control u σ p.control))).records;
   }
 
-  pub row_issues : RowIssued s mask ws bs ts ds hs cs ts' ds' cs' (record { answer = answers.Value c.handle.number; change = c })
+  pub row_issues : RowIssued s mask ws bs ts ds hs cs ts' ds' cs' (record { answer = answers.Value c.handle.number; change = Some c })
   unfolding add_token with_tokens add_handle
   row_issues = record {
-    parts = λ u w b σ v p. subst (λ (k : ℕ). PartsIn (add_handle s k mask (add_token u σ)) ts' ds' (changed hs c) cs') (number_in ws u w) (record {
+    parts = λ u w b σ v p. subst (λ (k : ℕ). PartsIn (add_handle s k mask (add_token u σ)) ts' ds' (changed hs (Some c)) cs') (number_in ws u w) (record {
       handles = handles_after u σ v p;
       control = h.control (add_token u σ) (a.control u σ p.control);
       tokens = with_handles_lem (a.tokens u w b σ v p.tokens) _;
@@ -71,7 +72,7 @@ pub record Ready (x : Decision) (s mask : ℕ) (u : Token) (ws bs ts ds : List �
 pub ends_issuing : {x : State → Decision} {s mask : ℕ} {ws bs : List ℕ} {hs : List Handle} {cs ts ds cs₁ ts₁ ds₁ cs' ts' ds' : List ℕ} {r : Outcome} (u : State → Token) (τ : State → State)
     → RowIssued s mask ws bs ts₁ ds₁ hs cs₁ ts' ds' cs' r
     → ((σ : State) → valid σ ≡ true → PartsIn σ ts ds hs cs → Ready (x σ) s mask (u σ) ws bs ts₁ ds₁ hs cs₁ σ (τ σ))
-    → Carried x ts ds hs cs ts' ds' cs' r
+    → Carried x ts ds hs cs ts' ds' cs' (Ok r)
 unfolding carried_out issued
 ends_issuing {ts' = ts'} {ds' = ds'} u τ i d = record {
   parts = λ σ v p. let k = d σ v p in rw k.decided (i.parts (u σ) k.words k.bytes (τ σ) k.valid k.parts);

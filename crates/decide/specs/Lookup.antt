@@ -1,11 +1,25 @@
--- What a handle that was looked up is refused for. Assumes nothing.
-use Rattle.std.specs.Prelude.{ℕ, Bool, not, eqb, if◌then◌else◌}
+-- The handle that a request names, and what the request is refused for by it. Assumes nothing.
+use Rattle.std.specs.Prelude.{ℕ, ◌≡◌, Bool, true, Option, None, Some, Result, Ok, Err, IfOk, List, if◌then◌else◌}
+use Rattle.rules.specs.Mask.{permits}
+use Rattle.rules.specs.Table.{is_live}
+use Rattle.rules.specs.Valid.{valid}
+use Rattle.rules.specs.State as state
+use Rattle.rules.specs.State.{State, find_handle}
+use Rattle.handle.specs.Meaning.{handle_of}
 use Rattle.handle.specs.declared.Handle.{Handle}
+use Rattle.state.specs.Parts.{HandlesIn}
+use Rattle.answer.specs.declared.refusal.Refusal.{Refusal}
+use Rattle.answer.specs.declared.refusal.Refusal.TheVariants as refusal
 
--- the refusal's number, 0 for none
-abbrev pub refusal_number : (is_live permitted : Bool) → ℕ
-refusal_number known permitted = if known then (if permitted then 0 else 3) else 2
+-- what is refused, if anything
+abbrev pub refused : {A : Type 0} → Result A Refusal → Option Refusal
+refused (Ok a) = None
+refused (Err e) = Some e
 
--- a handle of number 0 was not found
-abbrev pub handle_refusal : Handle → (permitted : Bool) → ℕ
-handle_refusal h permitted = refusal_number (not (eqb h.number 0)) permitted
+abbrev pub handle_refusal : (is_live permitted : Bool) → Option Refusal
+handle_refusal known permitted = if known then (if permitted then None else Some refusal.RightMissing) else Some refusal.NotALiveHandle
+
+pub record LookedUp (station number right : ℕ) (hs : List Handle) (r : Result Handle Refusal) : Type 0 where
+  pub handle : IfOk r (λ h. (σ : State) → valid σ ≡ true → HandlesIn σ hs → handle_of h ≡ state.handle_of σ station number)
+  pub refusal : (σ : State) → valid σ ≡ true → HandlesIn σ hs
+      → refused r ≡ handle_refusal (is_live (find_handle σ station number)) (permits (state.handle_of σ station number).mask right)

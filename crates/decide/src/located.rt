@@ -1,36 +1,28 @@
 // The token that a request works on by a handle: it is read and changed in its row.
-ghost use Rattle.std.specs.Prelude.{◌≡◌, ◌*◌, length};
-ghost use Rattle.rules.specs.State.{token_slots};
-ghost use Rattle.rules.specs.Memory.{token_words};
-ghost use Rattle.decide.specs.Located.{SlotGiven};
+ghost use Rattle.handle.specs.Words.{records_in};
+ghost use Rattle.decide.specs.Located.{LocatedBy};
 
-use crate::lookup::handle_refusal;
-use answer::refusal;
+use crate::lookup::looked_up;
+use answer::Refusal;
+use control::stations::Station;
 use handle::Handle;
-use token::layout::TOKEN_SLOTS;
-use token::slots;
+use privilege::mask::Mask;
+use state::parts::Parts;
 
-// What the handle is refused for, 0 if nothing, and its token's slot: always one that can be lent.
+// A handle, and the slot of its token.
 #[derive(Clone, Copy)]
 pub struct Located {
-    pub refusal: u64,
+    pub handle: Handle,
     pub slot: usize,
 }
 
 // In a valid state the token of a live handle is in a slot.
-pub fn locate(found: Handle, permitted: bool, tokens: &[u64]) -> Located
-    requires { length tokens.now ≡ token_slots * token_words }
-    ensures { SlotGiven found permitted tokens.now result }
+pub fn locate(parts: &Parts, station: Station, number: u32, right: Mask) -> Result<Located, Refusal>
+    ensures { LocatedBy station.number number right.0 (records_in parts.now.handles.now) parts.now.tokens.now result }
 {
-    let slot = slots::find(tokens, found.token);
-    if TOKEN_SLOTS <= slot {
-        return Located {
-            refusal: refusal::NOT_A_LIVE_HANDLE,
-            slot: 0,
-        };
-    }
-    Located {
-        refusal: handle_refusal(found, permitted),
-        slot: slot,
-    }
+    let handle = looked_up(parts, station, number, right)?;
+    let Some(slot) = parts.slot_of(handle.token) else {
+        return Err(Refusal::NotALiveHandle);
+    };
+    Ok(Located { handle, slot })
 }

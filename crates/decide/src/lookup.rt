@@ -1,23 +1,27 @@
-// The handle that a request names: its mask, and what it is refused for.
-ghost use Rattle.std.specs.Prelude.{◌≡◌};
-ghost use Rattle.decide.specs.Lookup.{handle_refusal};
+// The handle that a request names, and what the request is refused for by it.
+ghost use Rattle.handle.specs.Words.{records_in};
+ghost use Rattle.decide.specs.Lookup.{LookedUp};
 
-use answer::refusal;
+use answer::Refusal;
+use control::stations::Station;
 use handle::Handle;
 use privilege::mask::Mask;
+use state::parts::Parts;
 
-pub fn mask_of(h: Handle) -> Mask
-    ensures { result.0 ≡ h.mask }
+// The station's live handle of that number, whose mask has the right.
+pub fn looked_up(
+    parts: &Parts,
+    station: Station,
+    number: u32,
+    right: Mask,
+) -> Result<Handle, Refusal>
+    ensures { LookedUp station.number number right.0 (records_in parts.now.handles.now) result }
 {
-    Mask(h.mask as u32)
-}
-
-// It is not the station's live handle, or its mask does not permit the request: 0 if neither.
-pub fn handle_refusal(found: Handle, permitted: bool) -> u64
-    ensures { result ≡ handle_refusal found permitted }
-{
-    if found.number == 0 {
-        return refusal::NOT_A_LIVE_HANDLE;
+    let found = parts
+        .find_handle(station, number)
+        .ok_or(Refusal::NotALiveHandle)?;
+    if !Mask(found.mask as u32).permits(right) {
+        return Err(Refusal::RightMissing);
     }
-    if permitted { 0 } else { refusal::RIGHT_MISSING }
+    Ok(found)
 }

@@ -1,33 +1,23 @@
-// How a request ends.
-ghost use Rattle.answer.specs.declared.Answer.TheVariants as answers;
-ghost use Rattle.decide.specs.Carried.{Ends};
+// How a request ends, where it is not refused.
+ghost use Rattle.std.specs.Prelude.{◌≡◌};
+ghost use Rattle.decide.specs.Carried.{ends};
 
 use answer::Answer;
-use handle::{NONE, SLOTS};
 use state::handles::Change;
 
-// The answer, and the one handle that changes: a slot past the last is none.
+// The answer, and the one handle that changes.
 #[derive(Clone, Copy)]
 pub struct Outcome {
     pub answer: Answer,
-    pub change: Change,
+    pub change: Option<Change>,
 }
 
 // No handle changes.
-pub fn ends(a: Answer) -> Outcome
-    ensures { Ends a result }
+pub fn ends(answer: Answer) -> Outcome
+    ensures { result ≡ ends answer }
 {
     Outcome {
-        answer: a,
-        change: Change {
-            slot: SLOTS,
-            handle: NONE,
-        },
+        answer,
+        change: None,
     }
-}
-
-pub fn refused(n: u64) -> Outcome
-    ensures { Ends (answers.Refused n) result }
-{
-    ends(Answer::Refused(n))
 }

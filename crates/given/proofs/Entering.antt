@@ -5,18 +5,18 @@ use mathlib.Core.Path.{◌≡◌, refl, sym, ap, ◌∙◌, subst}
 use mathlib.Core.Bool.{Bool, true, false, ◌&&◌, ◌||◌, and-true, and-false}
 use mathlib.Core.Logic.{◌⊎◌, inl, inr, ⊎_elim}
 use mathlib.Core.List.{List, [], ◌∷◌, ◌++◌, append_assoc, append-nil}
-use lib.Dec.{eqb, ltb}
+use lib.Dec.{ltb}
 use lib.ListN.{length, take, drop, length-take, length-append, take-append-drop}
 use lib.Seq.{take_all, take_at}
-use borrow.Author.Tests.{eqb-true, lt-ltb, le-ltb, ltb-true, ltb-false}
-use Rattle.std.specs.Prelude.{if◌then◌else◌}
+use borrow.Author.Tests.{ltb-true, ltb-false}
+use Rattle.std.specs.Prelude.{if◌then◌else◌, Option, Some, None}
 use Rattle.rules.specs.Sid.{Sid, same_sid}
 use Rattle.rules.specs.SidTable.{max_sids, number_at, is_in, place_of, number_of, entered, fits_table, sids_valid}
-use Rattle.rules.specs.SidRows.{sid_words, row_sid, write_sids, sids_at, sid_words_valid}
-use Rattle.rules.proofs.Logic.{and_l, and_r, not_both, either}
+use Rattle.rules.specs.SidRows.{row_sid, write_sids, sids_at}
+use Rattle.rules.proofs.Logic.{not_both, either}
 use Rattle.rules.proofs.Sids.{sid_refl}
 use Rattle.rules.proofs.SidNumbers.{place_in, absent_place, place_more, entered_known, entered_new, entered_valid, entered_in, sids_few, few_fit, many_unfit}
-use Rattle.rules.proofs.SidWords.{length_sids, read_back}
+use Rattle.rules.proofs.SidWords.{read_back}
 use Rattle.sid.specs.Finding.{EnteredAs, Rowed}
 use Rattle.given.specs.Given.{Capped, GivenEntered}
 
@@ -57,12 +57,15 @@ numbers_rise (suc (suc i)) (suc (suc j)) h k = omega arith
 
 -- ---- the three cases
 
-module _ (x ws ws' : List ℕ) (place : ℕ) (rowed : Rowed x) (e : EnteredAs x ws ws' place) (sids : List Sid) (c : Capped sids ws) where
+module _ {x ws ws' : List ℕ} {r : Option ℕ} (rowed : Rowed x) (e : EnteredAs x ws ws' r) (sids : List Sid) (c : Capped sids ws) where
   abbrev s : Sid
   s = row_sid x
 
   abbrev first : List Sid
   first = take max_sids sids
+
+  abbrev place : ℕ
+  place = place_of s first
 
   split : sids ≡ first ++ drop max_sids sids
   split = sym (take-append-drop max_sids sids)
@@ -70,11 +73,13 @@ module _ (x ws ws' : List ℕ) (place : ℕ) (rowed : Rowed x) (e : EnteredAs x 
   table : sids_at ws ≡ first
   table = ap sids_at c.words ∙ read_back first c.sound
 
-  stands : place ≡ place_of s first
-  stands = e.place ∙ ap (place_of s) table
+  placed : (b : Bool) → fits_table (entered s first) ≡ b → r ≡ (if b then Some place else None)
+  placed b f = e.place ∙ ap (λ (t : List Sid). if fits_table (entered s t) then Some (place_of s t) else None) table ∙ ap (λ (b : Bool). if b then Some place else None) f
 
-  written : ws' ≡ (if fits_table (entered s first) then write_sids (entered s first) else ws)
-  written = e.written ∙ ap (λ (t : List Sid). if fits_table (entered s t) then write_sids (entered s t) else ws) table
+  written : (b : Bool) → fits_table (entered s first) ≡ b → ws' ≡ (if b then write_sids (entered s first) else ws)
+  written b f =
+      e.written ∙ ap (λ (t : List Sid). if fits_table (entered s t) then write_sids (entered s t) else ws) table
+      ∙ ap (λ (b : Bool). if b then write_sids (entered s first) else ws) f
 
   few : length first ≤ max_sids
   few = sids_few first c.sound
@@ -84,22 +89,22 @@ module _ (x ws ws' : List ℕ) (place : ℕ) (rowed : Rowed x) (e : EnteredAs x 
     known : entered s sids ≡ sids
     known = entered_known s sids (subst (λ (t : List Sid). is_in s t ≡ true) (sym split) (in_front s first (drop max_sids sids) h))
 
-    same : ws' ≡ ws
-    same = written ∙ ap (λ (t : List Sid). if fits_table t then write_sids t else ws) (entered_known s first h) ∙ ap (λ (b : Bool). if b then write_sids first else ws) (few_fit first few) ∙ sym c.words
+    known_fit : fits_table (entered s first) ≡ true
+    known_fit = ap fits_table (entered_known s first h) ∙ few_fit first few
 
     known_held : Capped (entered s sids) ws'
-    known_held = record { words = same ∙ c.words ∙ ap (λ (t : List Sid). write_sids (take max_sids t)) (sym known); sound = ap (λ (t : List Sid). sids_valid (take max_sids t)) known ∙ c.sound }
-
-    known_below : place < max_sids
-    known_below = omega (arith, stands, (place_in s s first h).0, few)
+    known_held = record {
+      words = written true known_fit ∙ ap write_sids (entered_known s first h) ∙ ap (λ (t : List Sid). write_sids (take max_sids t)) (sym known);
+      sound = ap (λ (t : List Sid). sids_valid (take max_sids t)) known ∙ c.sound;
+    }
 
     known_number : number_at place ≡ number_of (entered s sids) s
     unfolding number_of
-    known_number = ap number_at (stands ∙ sym (place_more s first (drop max_sids sids) h) ∙ ap (place_of s) (sym split ∙ sym known))
+    known_number = ap number_at (sym (place_more s first (drop max_sids sids) h) ∙ ap (place_of s) (sym split ∙ sym known))
 
   module _ (h : is_in s first ≡ false) where
     past : place ≡ length first
-    past = stands ∙ absent_place s first h
+    past = absent_place s first h
 
     -- there is room behind them
     module _ (room : length first < max_sids) where
@@ -115,14 +120,15 @@ module _ (x ws ws' : List ℕ) (place : ℕ) (rowed : Rowed x) (e : EnteredAs x 
       fits : fits_table (entered s sids) ≡ true
       fits = few_fit (entered s sids) (omega (arith, longer, room))
 
+      new_fit : fits_table (entered s first) ≡ true
+      new_fit = ap (λ (t : List Sid). fits_table (entered s t)) whole ∙ fits
+
       all_of : take max_sids (entered s sids) ≡ entered s sids
       all_of = take_all max_sids (entered s sids) (omega (arith, longer, room))
 
       new_held : Capped (entered s sids) ws'
       new_held = record {
-        words =
-            written ∙ ap (λ (t : List Sid). if fits_table (entered s t) then write_sids (entered s t) else ws) whole
-            ∙ ap (λ (b : Bool). if b then write_sids (entered s sids) else ws) fits ∙ ap write_sids (sym all_of);
+        words = written true new_fit ∙ ap (λ (t : List Sid). write_sids (entered s t)) whole ∙ ap write_sids (sym all_of);
         sound = ap sids_valid all_of ∙ entered_valid s sids (ap sids_valid (sym whole) ∙ c.sound) rowed.sound fits;
       }
 
@@ -131,9 +137,7 @@ module _ (x ws ws' : List ℕ) (place : ℕ) (rowed : Rowed x) (e : EnteredAs x 
 
       new_number : number_at place ≡ number_of (entered s sids) s
       unfolding number_of
-      new_number = ap number_at (
-          past ∙ ap length whole ∙ sym (ap (place_of s) new ∙ place_past s sids (s ∷ []) (ap (is_in s) (sym whole) ∙ h) ∙ alone)
-          )
+      new_number = ap number_at (past ∙ ap length whole ∙ sym (ap (place_of s) new ∙ place_past s sids (s ∷ []) (ap (is_in s) (sym whole) ∙ h) ∙ alone))
         where
           alone : length sids + place_of s (s ∷ []) ≡ length sids
           alone = ap (λ (n : ℕ). length sids + n) (first_place s []) ∙ omega arith
@@ -158,10 +162,7 @@ module _ (x ws ws' : List ℕ) (place : ℕ) (rowed : Rowed x) (e : EnteredAs x 
       unfit = many_unfit (entered s first) (omega (arith, ap length (entered_new s first h), length-append first (s ∷ []), exact))
 
       none_held : Capped (entered s sids) ws'
-      none_held = record {
-        words = written ∙ ap (λ (b : Bool). if b then write_sids (entered s first) else ws) unfit ∙ c.words ∙ ap write_sids (sym front);
-        sound = ap sids_valid front ∙ c.sound;
-      }
+      none_held = record { words = written false unfit ∙ c.words ∙ ap write_sids (sym front); sound = ap sids_valid front ∙ c.sound }
 
       at_end : max_sids ≤ place_of s (entered s sids)
       at_end = omega (arith, ap (place_of s) (behind either_way.0 either_way.1) ∙ place_past s first _ h, exact)
@@ -171,9 +172,9 @@ module _ (x ws ws' : List ℕ) (place : ℕ) (rowed : Rowed x) (e : EnteredAs x 
       none_fits =
           many_unfit (entered s sids) (omega (arith, at_end, (place_in s s (entered s sids) (entered_in s sids)).0)) ∙ sym (and-false (fits_table sids))
 
-      none_number : (number_at max_sids ≤ number_at place) × (number_at max_sids ≤ number_of (entered s sids) s)
+      none_number : number_at max_sids ≤ number_of (entered s sids) s
       unfolding number_of
-      none_number = (numbers_rise max_sids place (omega arith) (omega (arith, past, full)), numbers_rise max_sids _ (omega arith) at_end)
+      none_number = numbers_rise max_sids _ (omega arith) at_end
 
 -- ---- the contract
 
@@ -184,51 +185,62 @@ below_or a b = go (ltb a b) refl
     go true e = inl (ltb-true a b e)
     go false e = inr (ltb-false a b e)
 
--- what holds of each list of SIDs in each case
-module _ (x ws ws' : List ℕ) (place : ℕ) (rowed : Rowed x) (e : EnteredAs x ws ws' place) (sids : List Sid) (c : Capped sids ws) where
-  cases : (P : Type 0) → ((h : is_in (row_sid x) (take max_sids sids) ≡ true) → P)
-      → ((h : is_in (row_sid x) (take max_sids sids) ≡ false) → length (take max_sids sids) < max_sids → P)
-      → ((h : is_in (row_sid x) (take max_sids sids) ≡ false) → max_sids ≤ length (take max_sids sids) → P) → P
-  cases P a b d =
-      ⊎_elim a (λ h. ⊎_elim (b h) (d h) (below_or (length (take max_sids sids)) max_sids)) (either (is_in (row_sid x) (take max_sids sids)))
+no_some : {P : Type 0} {n : ℕ} → None ≡ Some n → P
+no_some h = cc
 
-  held_so : Capped (entered (row_sid x) sids) ws'
-  held_so = cases _ (known_held x ws ws' place rowed e sids c) (new_held x ws ws' place rowed e sids c) (none_held x ws ws' place rowed e sids c)
+cases : (s : Sid) (ss : List Sid) (P : Type 0) → ((h : is_in s ss ≡ true) → P) → ((h : is_in s ss ≡ false) → length ss < max_sids → P) → ((h : is_in s ss ≡ false) → max_sids ≤ length ss → P) → P
+cases s ss P a b d = ⊎_elim a (λ h. ⊎_elim (b h) (d h) (below_or (length ss) max_sids)) (either (is_in s ss))
 
-  fits_so : fits_table (entered (row_sid x) sids) ≡ (fits_table sids && ltb place max_sids)
-  fits_so =
-      cases _
-      (λ h. ap fits_table (known x ws ws' place rowed e sids c h) ∙ sym (ap (λ (b : Bool). fits_table sids && b) (lt-ltb place max_sids (known_below x ws ws' place rowed e sids c h)) ∙ and-true (fits_table sids)))
-      (λ h r. new_fits x ws ws' place rowed e sids c h r ∙ ap (λ (b : Bool). fits_table sids && b) (sym (lt-ltb place max_sids (omega (arith, past x ws ws' place rowed e sids c h, r)))))
-      (λ h f. none_fits x ws ws' place rowed e sids c h f ∙ ap (λ (b : Bool). fits_table sids && b) (sym (le-ltb place max_sids (omega (arith, past x ws ws' place rowed e sids c h, f)))))
+-- what holds of each list of SIDs where there is room
+module _ {x ws ws' : List ℕ} {i : ℕ} (rowed : Rowed x) (e : EnteredAs x ws ws' (Some i)) (sids : List Sid) (c : Capped sids ws) where
+  some_here : i ≡ place_of (row_sid x) (take max_sids sids)
+  some_here = by (fits_table (entered (row_sid x) (take max_sids sids))) (placed rowed e sids c _ refl)
+    where
+      by : (b : Bool) → Some i ≡ (if b then Some (place_of (row_sid x) (take max_sids sids)) else None) → i ≡ place_of (row_sid x) (take max_sids sids)
+      by true q = cc
+      by false q = cc
 
-  number_so : ltb place max_sids ≡ true → number_at place ≡ number_of (entered (row_sid x) sids) (row_sid x)
-  number_so t =
-      cases _ (known_number x ws ws' place rowed e sids c) (new_number x ws ws' place rowed e sids c)
-      (λ h f. absurd (omega (arith, ltb-true place max_sids t, past x ws ws' place rowed e sids c h, f)))
+  full_not : {P : Type 0} → (h : is_in (row_sid x) (take max_sids sids) ≡ false) → max_sids ≤ length (take max_sids sids) → P
+  full_not h f = no_some (sym (placed rowed e sids c false (unfit rowed e sids c h f)))
 
-  none_so : ltb place max_sids ≡ false → (number_at max_sids ≤ number_at place) × (number_at max_sids ≤ number_of (entered (row_sid x) sids) (row_sid x))
-  none_so t =
-      cases _ (λ h. absurd (omega (arith, ltb-false place max_sids t, known_below x ws ws' place rowed e sids c h)))
-      (λ h r. absurd (omega (arith, ltb-false place max_sids t, past x ws ws' place rowed e sids c h, r)))
-      (none_number x ws ws' place rowed e sids c)
+  some_held : Capped (entered (row_sid x) sids) ws'
+  some_held = cases (row_sid x) (take max_sids sids) _ (known_held rowed e sids c) (new_held rowed e sids c) full_not
 
--- the words stay as many
-pub same_long : {x ws ws' : List ℕ} {place : ℕ} → sid_words_valid ws ≡ true → EnteredAs x ws ws' place → length ws' ≡ length ws
-unfolding sid_words_valid
-same_long {x} {ws} v e =
-    let size : eqb (length ws) sid_words ≡ true = search (and_l, and_r) in
-    ap length e.written ∙ by (fits_table (entered (row_sid x) (sids_at ws))) (eqb-true (length ws) sid_words size)
+  some_fits : fits_table (entered (row_sid x) sids) ≡ (fits_table sids && true)
+  some_fits = cases (row_sid x) (take max_sids sids) _ (λ h. ap fits_table (known rowed e sids c h) ∙ sym (and-true (fits_table sids))) (new_fits rowed e sids c) full_not
+
+  some_number : number_at i ≡ number_of (entered (row_sid x) sids) (row_sid x)
+  some_number = ap number_at some_here ∙ cases (row_sid x) (take max_sids sids) _ (known_number rowed e sids c) (new_number rowed e sids c) full_not
+
+-- and where there is none
+module _ {x ws ws' : List ℕ} (rowed : Rowed x) (e : EnteredAs x ws ws' None) (sids : List Sid) (c : Capped sids ws) where
+  none_so : {P : Type 0} → ((h : is_in (row_sid x) (take max_sids sids) ≡ false) → max_sids ≤ length (take max_sids sids) → P) → P
+  none_so {P} d =
+      cases (row_sid x) (take max_sids sids) P
+      (λ h. no_some (placed rowed e sids c true (known_fit rowed e sids c h)))
+      (λ h r. no_some (placed rowed e sids c true (new_fit rowed e sids c h r))) d
+
+pub given_some : {x ws ws' : List ℕ} {i n : ℕ} → Rowed x → EnteredAs x ws ws' (Some i) → n ≡ number_at i → GivenEntered (row_sid x) ws ws' (Some n)
+given_some r e q = record {
+  held = λ sids c. some_held r e sids c;
+  fits = λ sids c. some_fits r e sids c;
+  number = λ sids c. q ∙ some_number r e sids c;
+  none = λ sids c. tt;
+  same = tt;
+}
+
+none_same : {x ws ws' : List ℕ} → EnteredAs x ws ws' None → ws' ≡ ws
+none_same {x} {ws} {ws'} e = by (fits_table (entered (row_sid x) (sids_at ws))) e.place e.written
   where
-    by : (b : Bool) → length ws ≡ sid_words → length (if b then write_sids (entered (row_sid x) (sids_at ws)) else ws) ≡ length ws
-    by true h = length_sids (entered (row_sid x) (sids_at ws)) ∙ sym h
-    by false h = refl
+    by : (b : Bool) → None ≡ (if b then Some (place_of (row_sid x) (sids_at ws)) else None) → ws' ≡ (if b then write_sids (entered (row_sid x) (sids_at ws)) else ws) → ws' ≡ ws
+    by true q w = no_some q
+    by false q w = w
 
-pub given_entered : {x ws ws' : List ℕ} {place number : ℕ} → Rowed x → EnteredAs x ws ws' place → number ≡ number_at place
-    → GivenEntered (row_sid x) ws ws' (record { room = ltb place max_sids; number = number })
-given_entered {x} {ws} {ws'} {place} r e n = record {
-  held = λ sids c. held_so x ws ws' place r e sids c;
-  fits = λ sids c. fits_so x ws ws' place r e sids c;
-  number = λ sids c t. n ∙ number_so x ws ws' place r e sids c t;
-  none = λ sids c t. let z = none_so x ws ws' place r e sids c t in (rw n z.0, z.1);
+pub given_none : {x ws ws' : List ℕ} → Rowed x → EnteredAs x ws ws' None → GivenEntered (row_sid x) ws ws' None
+given_none r e = record {
+  held = λ sids c. none_so r e sids c (none_held r e sids c);
+  fits = λ sids c. none_so r e sids c (none_fits r e sids c);
+  number = λ sids c. tt;
+  none = λ sids c. none_so r e sids c (none_number r e sids c);
+  same = none_same e;
 }

@@ -7,24 +7,14 @@ ghost use Rattle.sid.specs.Finding.{Rowed};
 ghost use Rattle.given.specs.Given.{GivenEntered};
 
 use sid::enter;
-use sid::layout::MAX_SIDS;
 use sid::number::number_at;
 
-// The SID's number; where the table is full and it is new, there is no room, and the number is none of the table's.
-#[derive(Clone, Copy)]
-pub struct Entered {
-    pub room: bool,
-    pub number: u64,
-}
-
-// The SID of a row. A table that is full stays as it is: what follows in the request is still looked up in it.
-pub fn enter(x: &[u64], sids: &mut [u64]) -> Entered
+// The number of the SID of a row; None where the table is full and it is new. A table that is full stays as it is: what follows in the request
+// is still looked up in it.
+pub fn enter(x: &[u64], sids: &mut [u64]) -> Option<u64>
     requires { (sid_words_valid sids.old ≡ true) × Rowed x.now }
     ensures { GivenEntered (row_sid x.now) sids.old sids.new result }
 {
-    let place = enter::enter(sids, x);
-    Entered {
-        room: place < MAX_SIDS,
-        number: number_at(place),
-    }
+    let place = enter::enter(sids, x)?;
+    Some(number_at(place))
 }

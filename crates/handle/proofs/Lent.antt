@@ -1,16 +1,15 @@
--- The lent list: the steps of the loops of list::load and list::clear_first, by numbers and lists alone. Assumes nothing.
+-- The lent list: the steps of the loop of list::load, by numbers and lists alone. Assumes nothing.
 use mathlib.Core.Path.{◌≡◌, refl, sym, ap, ◌∙◌}
 use mathlib.Core.List.{List, [], ◌∷◌, ◌++◌}
 use Prim.Native.Nat.{ℕ, zero, suc, ◌+◌, ◌≤◌, ◌<◌}
 use native.Mathlib.Numerals.{add-one}
 use native.Mathlib.Omega.{arith}
-use lib.Dec.{ltb}
-use mathlib.Core.Bool.{false, ◌&&◌}
-use mathlib.Core.Logic.{◌⊎◌, inl, inr}
-use borrow.Author.Tests.{ltb-false}
-use Rattle.std.proofs.lemmas.Bool.{and_cases}
-use lib.ListN.{length, get_or, take, drop, set, replicate, length-replicate}
-use lib.Seq.{take_all, take-suc, drop-cons, set_at, length-take-le}
+use lib.Dec.{leb}
+use mathlib.Core.Bool.{Bool, true, false}
+use borrow.Author.Tests.{leb-true, leb-false}
+use Rattle.std.specs.Prelude.{min}
+use lib.ListN.{length, get_or, take, set, replicate, length-replicate}
+use lib.Seq.{take_all, take-suc, length-take-le}
 use Rattle.rules.specs.State.{handle_slots}
 use Rattle.handle.specs.declared.Handle.{Handle}
 use Rattle.handle.specs.Meaning.{none}
@@ -55,28 +54,13 @@ module _ (ys : List Handle) where
       ∙ ap loaded (sym (take-suc ys i none l))
       ∙ ap (λ (j : ℕ). loaded (take j ys)) (sym (add-one i))
 
-  -- the loop is left at the list's end, or once the slots are full
-  pub loads_all : {i : ℕ} {items : List Handle} → Loads i items → i ≤ length ys → (ltb i handle_slots && ltb i (length ys)) ≡ false → items ≡ loaded ys
-  loads_all {i} p l out = p ∙ all_loaded (and_cases (ltb i handle_slots) (ltb i (length ys)) out)
-    where
-      all_loaded : (ltb i handle_slots ≡ false) ⊎ (ltb i (length ys) ≡ false) → loaded (take i ys) ≡ loaded ys
-      all_loaded (inl out) = cut_late (replicate handle_slots none) handle_slots i ys (omega (arith, ltb-false)) l
-      all_loaded (inr out) = ap loaded (take_all i ys (omega (arith, ltb-false)))
+-- what is behind the first 32 records is not loaded
+loaded_front : (ys : List Handle) (n : ℕ) → n ≡ min (length ys) handle_slots → loaded (take n ys) ≡ loaded ys
+loaded_front ys n e = by (leb handle_slots n) refl
+  where
+    by : (b : Bool) → leb handle_slots n ≡ b → loaded (take n ys) ≡ loaded ys
+    by true h = cut_late (replicate handle_slots none) handle_slots n ys (leb-true handle_slots n h) (omega arith)
+    by false h = ap loaded (take_all n ys (omega (arith, leb-false handle_slots n h)))
 
--- ---- clear_first: the first i slots are free
-
--- a free slot more in front
-replicate_more : {A : Type 0} (z : A) (n : ℕ) (ys : List A) → replicate n z ++ z ∷ ys ≡ replicate (suc n) z ++ ys
-replicate_more z zero ys = refl
-replicate_more z (suc n) ys = ap (λ (zs : List _). z ∷ zs) (replicate_more z n ys)
-
-module _ (ys : List Handle) where
-  abbrev pub Clears : ℕ → List Handle → Type 0
-  Clears i zs = zs ≡ replicate i none ++ drop i ys
-
-  pub clears_more : {i : ℕ} {zs : List Handle} → Clears i zs → i < length ys → Clears (i + 1) (set zs i none)
-  clears_more {i} p l =
-      ap (λ (hs : List Handle). set hs i none) (p ∙ ap (λ (hs : List Handle). replicate i none ++ hs) (drop-cons ys i none l))
-      ∙ set_at (replicate i none) (get_or ys i none) (drop (suc i) ys) none i (length-replicate i none)
-      ∙ replicate_more none i (drop (suc i) ys)
-      ∙ ap (λ (j : ℕ). replicate j none ++ drop j ys) (sym (add-one i))
+pub loads_done : (ys : List Handle) {n i : ℕ} {items : List Handle} → Loads (take n ys) i items → length (take n ys) ≤ i → n ≡ min (length ys) handle_slots → items ≡ loaded ys
+loads_done ys {n} {i} p l e = p ∙ ap loaded (take_all i (take n ys) l) ∙ loaded_front ys n e

@@ -6,9 +6,10 @@ use mathlib.Core.List.{List, [], ◌∷◌}
 use Prim.Native.Nat.{ℕ, zero, suc, ◌+◌, ◌≤◌, ◌<◌}
 use native.Mathlib.Numerals.{add-one}
 use native.Mathlib.Omega.{arith}
-use lib.ListN.{length, drop, get_or, drop_of_length-le}
+use lib.ListN.{length, drop, get_or}
 use lib.Seq.{drop-cons}
-use Rattle.std.specs.Prelude.{if◌then◌else◌}
+use Rattle.std.specs.Prelude.{if◌then◌else◌, Option, Some, None, unwrap_or, IfSome}
+use Rattle.handle.specs.First.{FirstOf}
 
 module _ {A B : Type 0} where
   pub record Rest (value : List A → B) (join : B → B) (xs : List A) (n : ℕ) (goal : B) (i : ℕ) : Type 0 where
@@ -29,9 +30,6 @@ module _ {A B : Type 0} where
           ∙ r.whole;
     }
 
-    pub rest_done : Rest value join xs n goal i → n ≤ i → join (value []) ≡ goal
-    rest_done r h = ap (λ (ys : List A). join (value ys)) (sym (drop_of_length-le xs {i = i} (omega arith))) ∙ r.whole
-
 -- ---- the first element that passes a test
 
 module _ {A : Type 0} where
@@ -40,33 +38,24 @@ module _ {A : Type 0} where
     pub none : value [] ≡ zero
     pub step : (x : A) (ys : List A) → value (x ∷ ys) ≡ (if p x then zero else suc (value ys))
 
-  -- none of the first i passes; d is what `get_or` gives past the end
-  pub record Seeking (p : A → Bool) (value : List A → ℕ) (d : A) (xs : List A) (n goal i : ℕ) : Type 0 where
-    pub first : First p value
-    pub rest : Rest value (λ k. i + k) xs n goal i
+  -- the first place that passes is its index; d is what `get_or` gives past the end
+  module _ {p : A → Bool} {value : List A → ℕ} (f : First p value) (d : A) where
+    index_at : (xs : List A) (k : ℕ) → k ≤ length xs → ((j : ℕ) → j < k → p (get_or xs j d) ≡ false) → (k < length xs → p (get_or xs k d) ≡ true) → k ≡ value xs
+    index_at [] k l before here = let z : value [] ≡ zero = f.none in omega arith
+    index_at (x ∷ xs) zero l before here = sym (f.step x xs ∙ ap (λ b. if b then zero else suc (value xs)) (here (omega arith)))
+    index_at (x ∷ xs) (suc k) l before here =
+        ap suc (index_at xs k (omega arith) (λ j h. before (suc j) (omega arith)) (λ h. here (omega arith)))
+        ∙ sym (f.step x xs ∙ ap (λ b. if b then zero else suc (value xs)) (before zero (omega arith)))
 
-  module _ {p : A → Bool} {value : List A → ℕ} where
-    chosen : {x y : A} {ys : List A} {b : Bool} (c : Bool) → First p value → y ≡ x → b ≡ p y → b ≡ c → value (x ∷ ys) ≡ (if c then zero else suc (value ys))
-    chosen {x} {ys = ys} c f q e t = f.step x ys ∙ ap (λ a. if a then zero else suc (value ys)) (ap p (sym q) ∙ sym e ∙ t)
+    pub first_index : (xs : List A) {n : ℕ} → length xs ≡ n → {says : ℕ → Bool → Type 0} → ((k : ℕ) (b : Bool) → k < n → says k b → b ≡ p (get_or xs k d)) → {r : Option ℕ} → FirstOf says n r → unwrap_or r n ≡ value xs
+    first_index xs {n} l says {r = None} t = index_at xs n (omega arith) (λ j h. sym (says j false h (t.before j h))) (λ h. absurd (omega arith))
+    first_index xs {n} l says {r = Some k} t =
+        let in_range = t.here.0 in
+        index_at xs k (omega arith) (λ j h. sym (says j false (omega arith) (t.before j h))) (λ h. sym (says k true in_range t.here.1))
 
-    module _ {d : A} {xs : List A} {n goal i : ℕ} where
-      pub seek_more : {x : A} {b : Bool} → Seeking p value d xs n goal i → i < n → x ≡ get_or xs i d → b ≡ p x → b ≡ false → Seeking p value d xs n goal (i + 1)
-      seek_more s h q e t = record {
-        first = s.first;
-        rest = rest_more d (λ k. i + 1 + k) s.rest h (λ ys. let l : value (get_or xs i d ∷ ys) ≡ suc (value ys) = chosen false s.first q e t in omega arith);
-      }
-
-      pub seek_here : {x : A} {b : Bool} → Seeking p value d xs n goal i → i < n → x ≡ get_or xs i d → b ≡ p x → b ≡ true → i ≡ goal
-      seek_here s h q e t =
-          let l : value (drop i xs) ≡ zero = ap value (drop-cons xs i d (omega arith)) ∙ chosen true s.first q e t in
-          let w : i + value (drop i xs) ≡ goal = s.rest.whole in
-          omega arith
-
-      pub seek_end : Seeking p value d xs n goal i → n ≤ i → n ≡ goal
-      seek_end s h =
-          let w : i + value [] ≡ goal = rest_done s.rest h in
-          let z : value [] ≡ zero = s.first.none in
-          omega arith
+pub first_within : {says : ℕ → Bool → Type 0} {n : ℕ} {r : Option ℕ} → FirstOf says n r → IfSome r (λ k. k < n)
+first_within {r = None} t = tt
+first_within {r = Some k} t = t.here.0
 
 -- ---- whether some element passes a test
 
@@ -74,18 +63,14 @@ or_assoc : (a b c : Bool) → (a || b || c) ≡ (a || (b || c))
 or_assoc true b c = refl
 or_assoc false b c = refl
 
-or_false : (a : Bool) → (a || false) ≡ a
-or_false true = refl
-or_false false = refl
-
 module _ {A : Type 0} where
-  pub record Some (p : A → Bool) (value : List A → Bool) : Type 0 where
+  pub record Any (p : A → Bool) (value : List A → Bool) : Type 0 where
     pub none : value [] ≡ false
     pub step : (x : A) (ys : List A) → value (x ∷ ys) ≡ (p x || value ys)
 
   -- got: one of the first i passes
   pub record Gathering (p : A → Bool) (value : List A → Bool) (d : A) (xs : List A) (n : ℕ) (goal got : Bool) (i : ℕ) : Type 0 where
-    pub some : Some p value
+    pub some : Any p value
     pub rest : Rest value (λ b. got || b) xs n goal i
 
   module _ {p : A → Bool} {value : List A → Bool} {d : A} {xs : List A} {n : ℕ} {goal got : Bool} {i : ℕ} where
@@ -95,6 +80,3 @@ module _ {A : Type 0} where
       rest = rest_more d (λ r. got || b || r) g.rest h (λ ys.
           or_assoc got b (value ys) ∙ ap (λ c. got || (c || value ys)) e ∙ ap (λ c. got || c) (sym (g.some.step (get_or xs i d) ys)));
     }
-
-    pub gather_done : Gathering p value d xs n goal got i → n ≤ i → got ≡ goal
-    gather_done g h = sym (or_false got) ∙ ap (λ b. got || b) (sym g.some.none) ∙ rest_done g.rest h

@@ -18,7 +18,7 @@ use Rattle.rules.specs.Memory.{handle_at}
 use Rattle.rules.proofs.Index.{found_at}
 use Rattle.handle.specs.declared.Handle.{Handle}
 use Rattle.handle.specs.Meaning.{handle_of, slots_of, none, is_free, is_named, refers_to}
-use Rattle.handle.proofs.Rest.{First, Some}
+use Rattle.handle.proofs.Rest.{First, Any}
 
 -- ---- what find, free_slot and refers give, element by element
 
@@ -50,7 +50,7 @@ first_free = record { none = refl; step = λ h hs. by (eqb h.number 0) h hs }
     by true h hs = refl
     by false h hs = refl
 
-pub some_refers : (t : ℕ) → Some (refers_to t) (is_referred t)
+pub some_refers : (t : ℕ) → Any (refers_to t) (is_referred t)
 unfolding lives member handle_at handle_token
 some_refers t = record { none = refl; step = λ h hs. by (eqb h.number 0) h hs }
   where

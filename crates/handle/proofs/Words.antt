@@ -89,7 +89,3 @@ zeros_free (suc n) (suc (suc k)) = ap (λ (hs : List Handle). none ∷ hs) (zero
 pub slot_stored : (ws : List ℕ) (i : ℕ) (h : Handle) {w : ℕ} → i < handle_slots → length ws ≡ handle_slots * slot_words → h.station < word16 → h.mask < word16 → w ≡ first_word h
     → records_in (set (set ws (i * slot_words) w) (i * slot_words + 1) h.token) ≡ set (records_in ws) i h
 slot_stored ws i h l f s m e = ap (λ (v : ℕ). records_in (set (set ws (i * slot_words) v) (i * slot_words + 1) h.token)) e ∙ slot_put h s m ws i l f
-
--- the two are in the array
-pub within : (i j : ℕ) (ws : List ℕ) → length ws ≡ handle_slots * slot_words → i < handle_slots → j ≤ 1 → i * slot_words + j < length ws
-within i j ws e l h = omega arith

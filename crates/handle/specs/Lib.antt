@@ -1,3 +1,4 @@
 pub mod Meaning
+pub mod First
 pub mod Words
 pub mod Loaded

@@ -1,13 +1,14 @@
 // Handles: the list of 32 slots as words, which a call passes on; `list` has it as it is lent.
 #![tactic(auto)]
 
-ghost use Rattle.std.specs.Prelude.{◌≡◌, map, ◌*◌, ◌/◌, ◌%◌, ◌≤◌, ◌<◌, length, get_or, set};
+ghost use Rattle.std.specs.Prelude.{◌≡◌, map, ◌*◌, ◌/◌, ◌%◌, ◌<◌, length, get_or, set, unwrap_or, IfSome};
 ghost use Rattle.rules.specs.Basic.{member, word32};
 ghost use Rattle.rules.specs.Table.{lives};
 ghost use Rattle.rules.specs.Index.{free_index, found_index};
 ghost use Rattle.rules.specs.Handle.{is_handle};
 ghost use Rattle.rules.specs.State.{handle_token, handle_slots};
 ghost use Rattle.handle.specs.Meaning.{slots_of, none, is_free, is_named, refers_to};
+ghost use Rattle.handle.specs.First.{FirstOf};
 ghost use Rattle.handle.specs.Words.{word16, slot_words, first_word, records_in};
 
 use table::WORD_32;
@@ -25,7 +26,7 @@ const WORD_16: u64 = 65536;
 
 // 16 bytes, none of them padding.
 #[repr(C)]
-#[derive(Clone, Copy)]
+#[derive(Clone, Copy, PartialEq, Eq)]
 pub struct Handle {
     pub station: u16,
     pub mask: u16,
@@ -114,43 +115,43 @@ pub fn put(words: &mut [u64], slot: usize, h: Handle)
 
 // ---- the list
 
-// The first live handle of this station and number, front to back, or SLOTS.
-pub fn find(words: &[u64; HANDLE_WORDS], station: u32, number: u32) -> usize
-    ensures { (result ≡ found_index (is_handle station number) (slots_of (records_in words.now))) × (result ≤ handle_slots) }
+// The first slot whose handle passes.
+fn position<F: Fn(Handle) -> bool>(words: &[u64; HANDLE_WORDS], passes: F) -> Option<usize>
+    requires { F.IsAlwaysCallable passes }
+    ensures { FirstOf (λ k. F.post passes (get_or (records_in words.now) k none)) handle_slots result }
 {
-    let mut i: usize = 0;
-    while i < SLOTS {
-        if is_named(at(words, i), station, number) {
-            return i;
+    for slot in 0..SLOTS {
+        if passes(at(words, slot)) {
+            return Some(slot);
         }
-        i += 1;
     }
-    SLOTS
+    None
 }
 
-// The lowest free slot, or SLOTS.
-pub fn free_slot(words: &[u64; HANDLE_WORDS]) -> usize
-    ensures { (result ≡ free_index (slots_of (records_in words.now))) × (result ≤ handle_slots) }
+// The first live handle of this station and number, front to back.
+pub fn find(words: &[u64; HANDLE_WORDS], station: u32, number: u32) -> Option<usize>
+    ensures index { unwrap_or result handle_slots ≡ found_index (is_handle station number) (slots_of (records_in words.now)) }
+    ensures within { IfSome result (λ k. k < handle_slots) }
 {
-    let mut i: usize = 0;
-    while i < SLOTS {
-        if is_free(at(words, i)) {
-            return i;
-        }
-        i += 1;
-    }
-    SLOTS
+    position(words, |h| is_named(h, station, number))
 }
 
-// Some live handle refers to the token, were this slot free; a slot past the end is none.
+// The lowest free slot.
+pub fn free_slot(words: &[u64; HANDLE_WORDS]) -> Option<usize>
+    ensures index { unwrap_or result handle_slots ≡ free_index (slots_of (records_in words.now)) }
+    ensures within { IfSome result (λ k. k < handle_slots) }
+{
+    position(words, is_free)
+}
+
+// Some live handle refers to the token, were this slot free; a slot past the end is none. The loop is not left early: an exit at
+// the first makes it slower.
 pub fn refers(words: &[u64; HANDLE_WORDS], freed: usize, token: u64) -> bool
     ensures { result ≡ member token (map handle_token (lives (slots_of (set (records_in words.now) freed none)))) }
 {
     let mut found = false;
-    let mut i: usize = 0;
-    while i < SLOTS {
+    for i in 0..SLOTS {
         found = found | ((i != freed) & refers_to(at(words, i), token));
-        i += 1;
     }
     found
 }
@@ -164,5 +165,5 @@ pub fn place(handles: Handles, slot: usize, h: Handle) -> Handles
     }
     let mut words = handles.words;
     put(&mut words, slot, h);
-    Handles { words: words }
+    Handles { words }
 }

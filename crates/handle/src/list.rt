@@ -1,37 +1,24 @@
 // The handle list as a host lends it, a slice of records. Each function over it is thin: it crosses to the words, or stores records.
-ghost use Rattle.std.specs.Prelude.{◌≡◌, ◌++◌, ◌*◌, ◌≤◌, length, set, replicate, drop};
+ghost use Rattle.std.specs.Prelude.{◌≡◌, ◌++◌, ◌≤◌, ◌<◌, length, set, replicate, drop, unwrap_or, IfSome};
 ghost use Rattle.rules.specs.Index.{found_index};
 ghost use Rattle.rules.specs.Handle.{is_handle};
 ghost use Rattle.rules.specs.State.{handle_slots};
 ghost use Rattle.handle.specs.Meaning.{slots_of, none};
-ghost use Rattle.handle.specs.Words.{slot_words, records_in};
+ghost use Rattle.handle.specs.Words.{records_in};
 ghost use Rattle.handle.specs.Loaded.{loaded};
 
 use crate::{HANDLE_WORDS, Handle, Handles, NONE, SLOTS};
-
-fn no_words() -> [u64; HANDLE_WORDS]
-    ensures { result ≡ replicate (handle_slots * slot_words) 0 }
-{
-    [0; HANDLE_WORDS]
-}
-
-fn of_words(words: [u64; HANDLE_WORDS]) -> Handles
-    ensures { result.words ≡ words }
-{
-    Handles { words: words }
-}
 
 // The first 32 records as words; free slots where the list is shorter.
 pub fn load(list: &[Handle]) -> Handles
     ensures { records_in result.words ≡ loaded list.now }
 {
-    let mut words = no_words();
-    let mut slot: usize = 0;
-    while (slot < SLOTS) & (slot < list.len()) {
-        crate::put(&mut words, slot, list[slot]);
-        slot = slot + 1;
+    let mut words = [0; HANDLE_WORDS];
+    let n = list.len().min(SLOTS);
+    for (slot, h) in list[..n].iter().enumerate() {
+        crate::put(&mut words, slot, *h);
     }
-    of_words(words)
+    Handles { words }
 }
 
 // The list with h in a slot; unchanged for a slot past the end.
@@ -55,22 +42,13 @@ pub fn clear_first(list: &mut [Handle], n: usize)
     requires { n ≤ length list.old }
     ensures { list.new ≡ replicate n none ++ drop n list.old }
 {
-    let mut i: usize = 0;
-    while i < n {
-        list[i] = NONE;
-        i = i + 1;
-    }
+    list[..n].fill(NONE);
 }
 
-fn find_in(handles: Handles, station: u32, number: u32) -> usize
-    ensures { result ≡ found_index (is_handle station number) (slots_of (records_in handles.words)) }
+// The slot of this station's live handle of that number, front to back among the first 32.
+pub fn find(list: &[Handle], station: u32, number: u32) -> Option<usize>
+    ensures index { unwrap_or result handle_slots ≡ found_index (is_handle station number) (slots_of (loaded list.now)) }
+    ensures within { IfSome result (λ k. k < handle_slots) }
 {
-    crate::find(&handles.words, station, number)
-}
-
-// The slot of this station's live handle of that number, front to back among the first 32; 32 if there is none.
-pub fn find(list: &[Handle], station: u32, number: u32) -> usize
-    ensures { result ≡ found_index (is_handle station number) (slots_of (loaded list.now)) }
-{
-    find_in(load(list), station, number)
+    crate::find(&load(list).words, station, number)
 }

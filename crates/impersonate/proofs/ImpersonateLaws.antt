@@ -1,18 +1,17 @@
 -- Requests 12 and 13, part by part and end by end: what the calls gave is what the rules decide. Assumes nothing.
 use Prim.Native.Nat.{ℕ, ◌<◌, min}
-use native.Mathlib.Omega.{arith}
 use mathlib.Core.Path.{◌≡◌, refl, sym, ap, ap₂, ◌∙◌}
 use mathlib.Core.Bool.{Bool, true, false, not, ◌&&◌, ◌||◌, beq}
 use mathlib.Core.Logic.{inl, inr}
 use mathlib.Core.List.{List, [], ◌∷◌}
 use lib.Dec.{eqb, leb, ltb}
-use borrow.Author.Tests.{eqb-true, eq-eqb, ne_eqb, leb-true, leb-false, lt-ltb, le-ltb}
-use Rattle.std.specs.Prelude.{if◌then◌else◌}
+use borrow.Author.Tests.{eqb-true, leb-true, leb-false, lt-ltb, le-ltb}
+use Rattle.std.specs.Prelude.{Option, None, Some, unwrap_or, Ok, Err, if◌then◌else◌}
 use Rattle.rules.specs.Basic.{implies, both_or_neither}
 use Rattle.rules.specs.Number.{encode, encode_all}
 use Rattle.rules.specs.Mask as Mask
 use Rattle.rules.specs.Privileges as Privileges
-use Rattle.rules.specs.Refusal.{refusal, bad_field, restricted_server}
+use Rattle.rules.specs.Refusal.{bad_field, restricted_server}
 use Rattle.rules.specs.Token as rules
 use Rattle.rules.specs.Token.{impersonation, identification, is_restricted}
 use Rattle.rules.specs.Growth.{Live}
@@ -33,13 +32,16 @@ use Rattle.control.specs.Stations.{CallerNumber, ClientGiven}
 use Rattle.control.specs.declared.stations.Client.{Client}
 use Rattle.state.specs.TokenCalls.{IdentityGiven, RestrictedGiven, Held, Used}
 use Rattle.state.specs.ReleaseFacts.{PartsIn, client, ActsFrom}
+use Rattle.answer.specs.Refusal.{refusal_of}
 use Rattle.answer.specs.declared.Answer.TheVariants as answers
-use Rattle.decide.specs.declared.outcome.Outcome.{Outcome}
-use Rattle.decide.specs.Carried.{Ends, Carried}
-use Rattle.decide.proofs.Deciding.{refuses, ends_with, used_parts}
-use Rattle.decide.proofs.LookupLaws.{LookedUp, looked_up, looked_up_found, handle_refuses}
+use Rattle.answer.specs.declared.refusal.Refusal.{Refusal}
+use Rattle.answer.specs.declared.refusal.Refusal.TheVariants as refusal
+use Rattle.decide.specs.Carried.{ends, Carried}
+use Rattle.decide.specs.Lookup.{LookedUp}
+use Rattle.decide.proofs.Deciding.{stays, refuses, ends_with, used_parts}
+use Rattle.decide.proofs.LookupLaws.{looked_up, looked_up_found, handle_refuses}
 use Rattle.impersonate.specs.declared.Gate.{Gate}
-use Rattle.impersonate.specs.Impersonate.{GateOf, GateRead, passed, refusal_number, level_in_force, MarksUsed, Acted}
+use Rattle.impersonate.specs.Impersonate.{GateOf, GateRead, passed, first_refusal, level_in_force, MarksUsed, Acted}
 
 -- ---- the gate
 
@@ -80,34 +82,6 @@ gate_read {a = a} {b} {x} {y} c f g p q h = record {
             ∙ ap₂ (λ (u w : rules.Identity). not (leb w.integrity u.integrity)) server other;
       };
 }
-
--- ---- what it decides
-
-module _ (g : Gate) (type : ℕ) where
-  pub bad_type : (type ≡ impersonation → ⊥) → 5 ≡ refusal_number g type
-  bad_type f = rw (ne_eqb type impersonation f)
-
-  module _ (is : type ≡ impersonation) {b : Bool} (p : b ≡ passed g) where
-    pub may_act_lem : (b || not g.barred) ≡ true → 0 ≡ refusal_number g type
-    may_act_lem e = rw (eq-eqb type impersonation is, sym p, e)
-
-    pub may_not : (b || not g.barred) ≡ false → 7 ≡ refusal_number g type
-    may_not e = rw (eq-eqb type impersonation is, sym p, e)
-
-at_most_lem : (own : ℕ) (uncapped : Bool) → (uncapped || leb own identification) ≡ true → own ≡ if uncapped then own else min own identification
-at_most_lem own true e = refl
-at_most_lem own false e = let l = leb-true own identification e in omega arith
-
-cut : (own : ℕ) (uncapped : Bool) → (uncapped || leb own identification) ≡ false → identification ≡ if uncapped then own else min own identification
-cut own true e = let z : ◌≡◌ {A = ℕ} 0 1 = cc in absurd (omega arith)
-cut own false e = let l = leb-false own identification e in omega arith
-
-module _ (g : Gate) (own : ℕ) {b : Bool} (p : b ≡ passed g) where
-  pub own_level : (b && not g.higher || leb own identification) ≡ true → own ≡ level_in_force g own
-  own_level e = rw (sym p) (at_most_lem own (b && not g.higher) e)
-
-  pub capped : (b && not g.higher || leb own identification) ≡ false → identification ≡ level_in_force g own
-  capped e = rw (sym p) (cut own (b && not g.higher) e)
 
 -- ---- the effect: the mark leaves the token what it was
 
@@ -150,25 +124,20 @@ acted {token = token} {level} {s} in8 u w = record {
 abbrev decide : (type allowed : Bool) (rest : Decision) → Decision
 decide type allowed rest = need type else bad_field then need allowed else restricted_server then rest
 
-abbrev numbered : (type allowed : Bool) → ℕ
-numbered type allowed = if type then (if allowed then 0 else 7) else 5
+abbrev first : (type allowed : Bool) → Option Refusal
+first type allowed = if type then (if allowed then None else Some refusal.RestrictedServer) else Some refusal.BadField
 
-small : (a b : Bool) → numbered a b < 128
-small true true = omega arith
-small true false = omega arith
-small false b = omega arith
+stops : (σ : State) (a b : Bool) (rest : Decision) {e : Refusal} → Some e ≡ first a b → carried_out σ (decide a b rest) ≡ stays σ (refusal_of e)
+unfolding carried_out
+stops σ true true rest f = cc
+stops σ true false rest f = ap (λ (o : Option Refusal). stays σ (refusal_of (unwrap_or o refusal.RestrictedServer))) (sym f)
+stops σ false b rest f = ap (λ (o : Option Refusal). stays σ (refusal_of (unwrap_or o refusal.BadField))) (sym f)
 
-stops : (σ : State) (a b : Bool) (rest : Decision) → (numbered a b ≡ 0 → ⊥) → carried_out σ (decide a b rest) ≡ record { state = σ; answer = numbered a b ∷ [] }
-unfolding carried_out refusal
-stops σ true true rest f = absurd (f refl)
-stops σ true false rest f = refl
-stops σ false b rest f = refl
-
-goes_on : (σ : State) (a b : Bool) (rest : Decision) → numbered a b ≡ 0 → (carried_out σ (decide a b rest) ≡ carried_out σ rest) × (a ≡ true)
+goes_on : (σ : State) (a b : Bool) (rest : Decision) → None ≡ first a b → (carried_out σ (decide a b rest) ≡ carried_out σ rest) × (a ≡ true)
 unfolding carried_out
 goes_on σ true true rest e = (refl, refl)
-goes_on σ true false rest e = absurd (omega arith)
-goes_on σ false b rest e = absurd (omega arith)
+goes_on σ true false rest e = cc
+goes_on σ false b rest e = cc
 
 not_twice : (b : Bool) → not (not b) ≡ b
 not_twice true = refl
@@ -194,12 +163,12 @@ module _ {σ : State} {s : ℕ} {t : rules.Token} {g : Gate} (k : GateOf σ s t 
   unfolding in_force
   gate_level = ap₂ (λ (x y : Bool). if x && y then t.identity.level else min t.identity.level identification) gate_passes (sym (not_twice _) ∙ ap not (sym k.higher))
 
-module _ {s n : ℕ} {hs : List Handle} {cs ts ds : List ℕ} {h : Handle} {j : ℕ} (l : LookedUp s n Mask.impersonate hs h j) where
-  pub no_handle_lem : (j ≡ 0 → ⊥) → (r : Outcome) → Ends (answers.Refused j) r → Carried (λ σ. impersonate σ s n) ts ds hs cs ts ds cs r
+module _ {s n : ℕ} {hs : List Handle} {cs ts ds : List ℕ} where
+  pub no_handle_lem : {e : Refusal} → LookedUp s n Mask.impersonate hs (Err e) → Carried (λ σ. impersonate σ s n) ts ds hs cs ts ds cs (Err e)
   unfolding impersonate
-  no_handle_lem f r e = handle_refuses l _ r e f
+  no_handle_lem l = handle_refuses l _
 
-  module _ (z : j ≡ 0) {own : Identity} (a : IdentityGiven h.token ts own) {g : Gate} (c : GateRead h.token s ts cs g) {k : ℕ} (q : k ≡ refusal_number g own.kind) where
+  module _ {h : Handle} (l : LookedUp s n Mask.impersonate hs (Ok h)) {own : Identity} (a : IdentityGiven h.token ts own) {g : Gate} (c : GateRead h.token s ts cs g) where
     module _ (σ : State) (v : valid σ ≡ true) (p : PartsIn σ ts ds hs cs) where
       abbrev t : rules.Token
       t = state.token_of σ h.token
@@ -218,38 +187,37 @@ module _ {s n : ℕ} {hs : List Handle} {cs ts ds : List ℕ} {h : Handle} {j : 
 
       decided : carried_out σ (impersonate σ s n) ≡ carried_out σ (decide (typed own) (allowed g) (success after (encode (level_in_force g own.level))))
       unfolding impersonate
-      decided = looked_up l σ v p.handles _ z ∙ rw (level, gate_may gate, sym identity)
+      decided = looked_up l σ v p.handles _ ∙ rw (level, gate_may gate, sym identity)
 
-      refused : (k ≡ 0 → ⊥) → carried_out σ (impersonate σ s n) ≡ record { state = σ; answer = k ∷ [] }
-      refused f = decided ∙ rw q (stops σ (typed own) (allowed g) _ (rw q at f))
-
-      went_on : k ≡ 0 → (carried_out σ (impersonate σ s n) ≡ record { state = after; answer = 0 ∷ encode (level_in_force g own.level) }) × (typed own ≡ true)
+      went_on : None ≡ first_refusal g own.kind
+          → (carried_out σ (impersonate σ s n) ≡ record { state = after; answer = 0 ∷ encode (level_in_force g own.level) }) × (typed own ≡ true)
       unfolding carried_out
-      went_on e = let o = goes_on σ (typed own) (allowed g) (success after (encode (level_in_force g own.level))) (sym q ∙ e) in (decided ∙ o.0, o.1)
+      went_on e = let o = goes_on σ (typed own) (allowed g) (success after (encode (level_in_force g own.level))) e in (decided ∙ o.0, o.1)
 
-      after_parts : k ≡ 0 → {cs' ts' ds' : List ℕ} → Acted g h.token (level_in_force g own.level) s ts ds hs cs ts' ds' cs' → PartsIn after ts' ds' hs cs'
+      after_parts : None ≡ first_refusal g own.kind → {cs' ts' ds' : List ℕ} → Acted g h.token (level_in_force g own.level) s ts ds hs cs ts' ds' cs'
+          → PartsIn after ts' ds' hs cs'
       after_parts e w =
-          let i = (looked_up_found l σ v p.handles z).token in
+          let i = (looked_up_found l σ v p.handles).token in
           w.parts σ v p gate i.was i.number
           (ap (λ (x : rules.Identity). x.type) (sym identity) ∙ eqb-true own.kind impersonation (went_on e).1)
           (rw (sym level) (in_force_lem σ s t))
 
-    pub not_allowed : (k ≡ 0 → ⊥) → (r : Outcome) → Ends (answers.Refused k) r → Carried (λ σ. impersonate σ s n) ts ds hs cs ts ds cs r
-    not_allowed f r e = refuses k r e (rw q (small (typed own) (allowed g))) (λ σ v p. refused σ v p f)
+    pub not_allowed : {e : Refusal} → Some e ≡ first_refusal g own.kind → Carried (λ σ. impersonate σ s n) ts ds hs cs ts ds cs (Err e)
+    not_allowed {e} q = refuses e (λ σ v p. decided σ v p ∙ stops σ (typed own) (allowed g) _ q)
 
-    pub impersonated : k ≡ 0 → {level : ℕ} → level ≡ level_in_force g own.level → {cs' ts' ds' : List ℕ} → Acted g h.token level s ts ds hs cs ts' ds' cs'
-        → (r : Outcome) → Ends (answers.Value level) r → Carried (λ σ. impersonate σ s n) ts ds hs cs ts' ds' cs' r
-    impersonated e {level} same w r d =
-        ends_with (answers.Value level) r d (λ σ v p. tt)
+    pub impersonated : None ≡ first_refusal g own.kind → {level : ℕ} → level ≡ level_in_force g own.level → {cs' ts' ds' : List ℕ} → Acted g h.token level s ts ds hs cs ts' ds' cs'
+        → Carried (λ σ. impersonate σ s n) ts ds hs cs ts' ds' cs' (Ok (ends (answers.Value level)))
+    impersonated e {level} same w =
+        ends_with (answers.Value level) (λ σ v p. tt)
         (λ σ v p. rw (went_on σ v p e).0 (after_parts σ v p e (rw same at w)))
         (λ σ v p. rw ((went_on σ v p e).0, same))
 
 -- ---- request 13
 
 pub reverted : {s : ℕ} {hs : List Handle} {cs ts ds : List ℕ} {x : Client} → ClientGiven s cs x → {cs' ts' ds' : List ℕ} → ActsFrom s 0 0 ts ds hs cs ts' ds' cs'
-    → (r : Outcome) → Ends (answers.Values x.token x.level) r → Carried (λ σ. revert σ s) ts ds hs cs ts' ds' cs' r
+    → Carried (λ σ. revert σ s) ts ds hs cs ts' ds' cs' (Ok (ends (answers.Values x.token x.level)))
 unfolding revert carried_out no_client
-reverted {x = x} c w r d =
-    ends_with (answers.Values x.token x.level) r d (λ σ v p. tt)
+reverted {x = x} c w =
+    ends_with (answers.Values x.token x.level) (λ σ v p. tt)
     (λ σ v p. w.parts σ v p (inl refl))
     (λ σ v p. ap (λ (y : stations.Client). 0 ∷ encode_all (y.token ∷ y.level ∷ [])) (c.client σ p.control))

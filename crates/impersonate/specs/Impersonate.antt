@@ -1,5 +1,5 @@
 -- What the parts of requests 12 and 13 give, for every valid state that the parts hold. Assumes nothing.
-use Rattle.std.specs.Prelude.{ℕ, ◌≤◌, min, ◌≡◌, Bool, true, not, ◌&&◌, ◌||◌, List, eqb, leb, if◌then◌else◌}
+use Rattle.std.specs.Prelude.{ℕ, ◌≤◌, min, ◌≡◌, Bool, true, not, ◌&&◌, ◌||◌, Option, None, Some, List, eqb, leb, if◌then◌else◌}
 use Rattle.rules.specs.Basic.{implies}
 use Rattle.rules.specs.Privileges as Privileges
 use Rattle.rules.specs.Token.{Token, impersonation, identification, is_restricted}
@@ -12,6 +12,8 @@ use Rattle.handle.specs.declared.Handle.{Handle}
 use Rattle.control.specs.Control.{ControlIn}
 use Rattle.state.specs.Parts.{TokensIn}
 use Rattle.state.specs.ReleaseFacts.{PartsIn, client}
+use Rattle.answer.specs.declared.refusal.Refusal.{Refusal}
+use Rattle.answer.specs.declared.refusal.Refusal.TheVariants as refusal
 use Rattle.impersonate.specs.declared.Gate.{Gate}
 
 -- ---- the gate, of a station and a client
@@ -28,9 +30,10 @@ pub record GateRead (token s : ℕ) (ts cs : List ℕ) (g : Gate) : Type 0 where
 abbrev pub passed : Gate → Bool
 passed g = g.alike || g.held
 
--- the first refusal's number, 0 for none
-abbrev pub refusal_number : Gate → (type : ℕ) → ℕ
-refusal_number g type = if eqb type impersonation then (if passed g || not g.barred then 0 else 7) else 5
+-- the first refusal, if any
+abbrev pub first_refusal : Gate → (type : ℕ) → Option Refusal
+first_refusal g type =
+    if eqb type impersonation then (if passed g || not g.barred then None else Some refusal.RestrictedServer) else Some refusal.BadField
 
 abbrev pub level_in_force : Gate → (own : ℕ) → ℕ
 level_in_force g own = if passed g && not g.higher then own else min own identification

@@ -1,25 +1,21 @@
 // Requests 12 and 13: a station acts for another token, and for none. The server is the caller's primary token, the client the handle's.
 #![tactic(auto)]
 
-ghost use Rattle.std.specs.Prelude.{◌≡◌, ◌*◌, ◌<◌, length};
+ghost use Rattle.std.specs.Prelude.{◌≡◌, Ok};
 ghost use Rattle.rules.specs.Impersonate as rules;
-ghost use Rattle.rules.specs.State.{token_slots, station_count};
-ghost use Rattle.rules.specs.Memory.{token_words, control_words};
 ghost use Rattle.handle.specs.Words.{records_in};
-ghost use Rattle.state.specs.Parts.{Lent};
-ghost use Rattle.decide.specs.Carried.{Carried};
-ghost use Rattle.impersonate.specs.Impersonate.{passed, GateRead, refusal_number, level_in_force, MarksUsed, Acted};
+ghost use Rattle.state.specs.Parts.{SameParts, WordsAlone};
+ghost use Rattle.decide.specs.Lookup.{refused};
+ghost use Rattle.decide.specs.Carried.{CarriedOut};
+ghost use Rattle.impersonate.specs.Impersonate.{passed, GateRead, first_refusal, level_in_force, MarksUsed, Acted};
 
-use answer::{Answer, refusal};
-use control::stations::{caller_number, client_of};
-use decide::lookup::{handle_refusal, mask_of};
-use decide::outcome;
-use decide::outcome::Outcome;
-use handle::HANDLE_WORDS;
+use answer::{Answer, Refusal};
+use control::stations::Station;
+use decide::lookup::looked_up;
+use decide::outcome::{Outcome, ends};
+use privilege::mask::Mask;
 use privilege::privileges::Privileges;
-use state::handles::find_handle;
-use state::release;
-use state::tokens::{held, identity_of, is_restricted, used};
+use state::parts::Parts;
 use token::Identity;
 
 // The level that a cap leaves at most.
@@ -47,117 +43,85 @@ impl Gate {
     }
 }
 
-fn gate_of(token: u64, station: u32, tokens: &[u64], control: &[u64]) -> Gate
-    requires { (length tokens.now ≡ token_slots * token_words) × (length control.now ≡ control_words) × (station < station_count) }
-    ensures { GateRead token station tokens.now control.now result }
+fn gate_of(parts: &Parts, station: Station, token: u64) -> Gate
+    ensures { GateRead token station.number parts.now.tokens.now parts.now.control.now result }
 {
-    let own = caller_number(station, control);
-    let server = identity_of(own, tokens);
-    let client = identity_of(token, tokens);
-    let server_restricted = is_restricted(own, tokens);
-    let client_restricted = is_restricted(token, tokens);
-    let may = held(Privileges::IMPERSONATE, station, tokens, control);
+    let own = parts.caller_number(station);
+    let server = parts.identity_of(own);
+    let client = parts.identity_of(token);
+    let server_restricted = parts.is_restricted(own);
+    let client_restricted = parts.is_restricted(token);
     Gate {
         alike: (server.user == client.user) & (server_restricted == client_restricted),
-        held: may,
+        held: parts.held(Privileges::IMPERSONATE, station),
         barred: server_restricted & !client_restricted,
         higher: client.integrity > server.integrity,
     }
 }
 
-// What a client of this type is refused for: 0 if nothing.
-fn refusal_of(g: Gate, kind: u8) -> u64
-    ensures { result ≡ refusal_number g kind }
+// What a client of this type is refused for.
+fn check(g: Gate, kind: u8) -> Result<(), Refusal>
+    ensures { refused result ≡ first_refusal g kind }
 {
     if kind != Identity::IMPERSONATION {
-        return refusal::BAD_FIELD;
+        return Err(Refusal::BadField);
     }
     if g.passed() | !g.barred {
-        return 0;
+        Ok(())
+    } else {
+        Err(Refusal::RestrictedServer)
     }
-    refusal::RESTRICTED_SERVER
 }
 
 // The client's own level, but at most Identification where gate one did not pass, and for a client of higher integrity.
 fn level_in_force(g: Gate, own: u8) -> u8
     ensures { result ≡ level_in_force g own }
 {
-    let uncapped = g.passed() & !g.higher;
-    if uncapped | (own <= IDENTIFICATION) {
+    if g.passed() & !g.higher {
         own
     } else {
-        IDENTIFICATION
+        own.min(IDENTIFICATION)
     }
 }
 
 // Impersonate is used only where gate one needed it.
-fn mark(g: Gate, station: u32, tokens: &mut [u64], control: &[u64])
-    requires { (length tokens.old ≡ token_slots * token_words) × (length control.now ≡ control_words) × (station < station_count) }
-    ensures { MarksUsed g station tokens.old control.now tokens.new }
+fn mark(parts: &mut Parts, station: Station, g: Gate)
+    ensures alone { WordsAlone parts.old parts.new }
+    ensures marked { MarksUsed g station.number parts.old.tokens.now parts.old.control.now parts.new.tokens.now }
 {
     if !g.alike & g.held {
-        used(Privileges::IMPERSONATE, station, tokens, control);
+        parts.used(Privileges::IMPERSONATE, station);
     }
 }
 
 // The effect, of a client that is not refused: it takes the place of an earlier one.
-fn act(
-    g: Gate,
-    token: u64,
-    level: u64,
-    station: u32,
-    handles: &[u64; HANDLE_WORDS],
-    tokens: &mut [u64],
-    dacls: &mut [u8],
-    control: &mut [u64],
-)
-    requires { Lent tokens.old dacls.old control.old × (station < station_count) }
-    ensures { Acted g token level station tokens.old dacls.old (records_in handles.now) control.old tokens.new dacls.new control.new }
+fn act(parts: &mut Parts, station: Station, g: Gate, token: u64, level: u64)
+    ensures same { SameParts parts.old parts.new }
+    ensures acted { Acted g token level station.number parts.old.tokens.now parts.old.dacls.now (records_in parts.old.handles.now) parts.old.control.now parts.new.tokens.now parts.new.dacls.now parts.new.control.now }
 {
-    mark(g, station, tokens, control);
-    release::act_for(station, token, level, handles, tokens, dacls, control);
+    mark(parts, station, g);
+    parts.act_for(station, token, level);
 }
 
-pub fn impersonate(
-    station: u32,
-    number: u32,
-    handles: &[u64; HANDLE_WORDS],
-    tokens: &mut [u64],
-    dacls: &mut [u8],
-    control: &mut [u64],
-) -> Outcome
-    requires { Lent tokens.old dacls.old control.old × (station < station_count) }
-    ensures { Carried (λ σ. rules.impersonate σ station number) tokens.old dacls.old (records_in handles.now) control.old tokens.new dacls.new control.new result }
+pub fn impersonate(parts: &mut Parts, station: Station, number: u32) -> Result<Outcome, Refusal>
+    ensures same { SameParts parts.old parts.new }
+    ensures carried { CarriedOut (λ σ. rules.impersonate σ station.number number) parts.old parts.new result }
 {
-    let found = find_handle(station, number, handles);
-    let refused = handle_refusal(found, mask_of(found).may_impersonate());
-    if refused != 0 {
-        return outcome::refused(refused);
-    }
-    let token = found.token;
-    let client = identity_of(token, tokens);
-    let g = gate_of(token, station, tokens, control);
-    let refusal = refusal_of(g, client.kind);
-    if refusal != 0 {
-        return outcome::refused(refusal);
-    }
+    let token = looked_up(parts, station, number, Mask::IMPERSONATE)?.token;
+    let client = parts.identity_of(token);
+    let g = gate_of(parts, station, token);
+    check(g, client.kind)?;
     let level = level_in_force(g, client.level) as u64;
-    act(g, token, level, station, handles, tokens, dacls, control);
-    outcome::ends(Answer::Value(level))
+    act(parts, station, g, token, level);
+    Ok(ends(Answer::Value(level)))
 }
 
-// What the station acted for is given up, and told.
-pub fn revert(
-    station: u32,
-    handles: &[u64; HANDLE_WORDS],
-    tokens: &mut [u64],
-    dacls: &mut [u8],
-    control: &mut [u64],
-) -> Outcome
-    requires { Lent tokens.old dacls.old control.old × (station < station_count) }
-    ensures { Carried (λ σ. rules.revert σ station) tokens.old dacls.old (records_in handles.now) control.old tokens.new dacls.new control.new result }
+// What the station acted for is given up, and told: nothing is refused.
+pub fn revert(parts: &mut Parts, station: Station) -> Outcome
+    ensures same { SameParts parts.old parts.new }
+    ensures carried { CarriedOut (λ σ. rules.revert σ station.number) parts.old parts.new (Ok result) }
 {
-    let before = client_of(station, control);
-    release::act_for(station, 0, 0, handles, tokens, dacls, control);
-    outcome::ends(Answer::Values(before.token, before.level))
+    let before = parts.client_of(station);
+    parts.act_for(station, 0, 0);
+    ends(Answer::Values(before.token, before.level))
 }

@@ -1,15 +1,15 @@
 -- Request 11, part by part and end by end: what the calls gave is what the rules decide. Assumes nothing.
 use Prim.Native.Nat.{ℕ, ◌<◌}
-use native.Mathlib.Omega.{arith}
 use mathlib.Core.Path.{◌≡◌, refl, sym, ap, ap₂, ◌∙◌}
-use mathlib.Core.Bool.{Bool, true, false, not, ◌&&◌, ◌||◌}
+use mathlib.Core.Bool.{Bool, true, false, ◌&&◌, ◌||◌}
 use mathlib.Core.List.{List, [], ◌∷◌}
 use lib.Dec.{eqb}
-use borrow.Author.Tests.{eqb-true, eq-eqb, ne_eqb, not-true, not-false}
+use borrow.Author.Tests.{eqb-true}
+use Rattle.std.specs.Prelude.{Option, None, Some, unwrap_or, Ok, Err}
 use Rattle.rules.specs.Bits.{has}
 use Rattle.rules.specs.Mask.{assign_primary}
 use Rattle.rules.specs.Privileges.{assign_primary_token, tcb}
-use Rattle.rules.specs.Refusal.{refusal, privilege_not_held, bad_field, install_mismatch}
+use Rattle.rules.specs.Refusal.{privilege_not_held, bad_field, install_mismatch}
 use Rattle.rules.specs.Token as rules
 use Rattle.rules.specs.Token.{primary}
 use Rattle.rules.specs.Valid.{valid}
@@ -23,14 +23,17 @@ use Rattle.rules.proofs.Kept.{mark, marks, same_identity}
 use Rattle.handle.specs.declared.Handle.{Handle}
 use Rattle.token.specs.declared.Identity.{Identity}
 use Rattle.control.specs.Stations.{CallerNumber}
-use Rattle.state.specs.TokenCalls.{IdentityGiven, Held, Used}
+use Rattle.state.specs.TokenCalls.{IdentityGiven, Used}
 use Rattle.state.specs.ReleaseFacts.{PartsIn, Installed}
+use Rattle.answer.specs.Refusal.{refusal_of}
 use Rattle.answer.specs.declared.Answer.TheVariants as answers
-use Rattle.decide.specs.declared.outcome.Outcome.{Outcome}
-use Rattle.decide.specs.Carried.{Ends, Carried}
-use Rattle.decide.proofs.Deciding.{refuses, ends_with, used_parts}
-use Rattle.decide.proofs.LookupLaws.{LookedUp, looked_up, looked_up_found, handle_refuses}
-use Rattle.install.specs.Install.{Matching, refusal_number, Checked, MarksUsed, Placed}
+use Rattle.answer.specs.declared.refusal.Refusal.{Refusal}
+use Rattle.answer.specs.declared.refusal.Refusal.TheVariants as refusal
+use Rattle.decide.specs.Carried.{ends, Carried}
+use Rattle.decide.specs.Lookup.{LookedUp}
+use Rattle.decide.proofs.Deciding.{stays, refuses, ends_with, used_parts}
+use Rattle.decide.proofs.LookupLaws.{looked_up, looked_up_found, handle_refuses}
+use Rattle.install.specs.Install.{Matching, first_refusal, Checked, MarksUsed, Placed}
 
 -- ---- the checks
 
@@ -44,45 +47,20 @@ matching {own = own} c f g = record {
       ap₂ (λ (x y : rules.Identity). eqb x.user y.user && eqb x.session y.session) p q;
 }
 
-module _ {same : Bool} {token s : ℕ} {ts cs : List ℕ} {may : Bool} (a : Held assign_primary_token s ts cs may) where
-  pub not_held : not may ≡ true → Checked same token s ts cs 4
-  not_held f = record { small = omega arith; refusal = λ σ v i j. rw (sym (a.held σ v i j) ∙ not-true may f) }
-
-  module _ (ok : not may ≡ false) {t : Identity} (g : IdentityGiven token ts t) where
-    pub not_primary : (t.kind ≡ primary → ⊥) → Checked same token s ts cs 5
-    not_primary f = record {
-      small = omega arith;
-      refusal = λ σ v i j. rw (sym (a.held σ v i j) ∙ not-false may ok, sym (g.identity σ v i)) (rw (ne_eqb t.kind primary f));
-    }
-
-    module _ (is : t.kind ≡ primary) {trusted : Bool} (b : Held tcb s ts cs trusted) where
-      tested : (k : ℕ) → k < 128 → k ≡ refusal_number true true (same || trusted) → Checked same token s ts cs k
-      tested k l e = record {
-        small = l;
-        refusal = λ σ v i j.
-            rw (sym (a.held σ v i j) ∙ not-false may ok, sym (g.identity σ v i)) (rw (eq-eqb t.kind primary is, sym (b.held σ v i j)) e);
-      }
-
-      pub allowed : (same || trusted) ≡ true → Checked same token s ts cs 0
-      allowed e = tested 0 (omega arith) (rw e)
-
-      pub mismatched : (same || trusted) ≡ false → Checked same token s ts cs 7
-      mismatched e = tested 7 (omega arith) (rw e)
-
 -- ---- the used bits
 
 module _ {same : Bool} {s : ℕ} {cs ts ts' : List ℕ} (a : Used assign_primary_token s ts cs ts') where
-  pub marks_one : not same ≡ false → MarksUsed same s ts cs ts'
+  pub marks_one : same ≡ true → MarksUsed same s ts cs ts'
   unfolding marked
-  marks_one f = record { parts = λ σ v t e p. rw (sym e ∙ not-false same f) (used_parts σ v a p) }
+  marks_one f = record { parts = λ σ v t e p. rw (sym e ∙ f) (used_parts σ v a p) }
 
-  pub marks_both : not same ≡ true → s < station_count → {ts'' : List ℕ} → Used tcb s ts' cs ts'' → MarksUsed same s ts cs ts''
+  pub marks_both : same ≡ false → s < station_count → {ts'' : List ℕ} → Used tcb s ts' cs ts'' → MarksUsed same s ts cs ts''
   unfolding marked has
   marks_both f in8 b = record {
     parts = λ σ v t e p.
         let once = used assign_primary_token s σ in
         let ok : valid once ≡ true = facts_valid once (mark σ s assign_primary_token (valid_facts σ v) in8 refl).step.facts in
-        rw (sym e ∙ not-true same f) (used_parts once ok b (used_parts σ v a p));
+        rw (sym e ∙ f) (used_parts once ok b (used_parts σ v a p));
   }
 
 -- ---- the effect: the marks leave the token what it was
@@ -106,27 +84,26 @@ placed {token = token} {s = s} in8 u w = record {
 abbrev decide : (held primary allowed : Bool) (rest : Decision) → Decision
 decide held primary allowed rest = need held else privilege_not_held then need primary else bad_field then need allowed else install_mismatch then rest
 
-stops : (σ : State) (a b c : Bool) (rest : Decision) → (refusal_number a b c ≡ 0 → ⊥)
-    → carried_out σ (decide a b c rest) ≡ record { state = σ; answer = refusal_number a b c ∷ [] }
-unfolding carried_out refusal
-stops σ true true true rest f = absurd (f refl)
-stops σ true true false rest f = refl
-stops σ true false c rest f = refl
-stops σ false b c rest f = refl
+stops : (σ : State) (a b c : Bool) (rest : Decision) {e : Refusal} → Some e ≡ first_refusal a b c → carried_out σ (decide a b c rest) ≡ stays σ (refusal_of e)
+unfolding carried_out
+stops σ true true true rest f = cc
+stops σ true true false rest f = ap (λ (o : Option Refusal). stays σ (refusal_of (unwrap_or o refusal.InstallMismatch))) (sym f)
+stops σ true false c rest f = ap (λ (o : Option Refusal). stays σ (refusal_of (unwrap_or o refusal.BadField))) (sym f)
+stops σ false b c rest f = ap (λ (o : Option Refusal). stays σ (refusal_of (unwrap_or o refusal.PrivilegeNotHeld))) (sym f)
 
-passes : (σ : State) (a b c : Bool) (rest : Decision) → refusal_number a b c ≡ 0 → (carried_out σ (decide a b c rest) ≡ carried_out σ rest) × (b ≡ true)
+passes : (σ : State) (a b c : Bool) (rest : Decision) → None ≡ first_refusal a b c → (carried_out σ (decide a b c rest) ≡ carried_out σ rest) × (b ≡ true)
 unfolding carried_out
 passes σ true true true rest e = (refl, refl)
-passes σ true true false rest e = absurd (omega arith)
-passes σ true false c rest e = absurd (omega arith)
-passes σ false b c rest e = absurd (omega arith)
+passes σ true true false rest e = cc
+passes σ true false c rest e = cc
+passes σ false b c rest e = cc
 
-module _ {s n : ℕ} {hs : List Handle} {cs ts ds : List ℕ} {h : Handle} {j : ℕ} (l : LookedUp s n assign_primary hs h j) where
-  pub no_handle_lem : (j ≡ 0 → ⊥) → (r : Outcome) → Ends (answers.Refused j) r → Carried (λ σ. install σ s n) ts ds hs cs ts ds cs r
+module _ {s n : ℕ} {hs : List Handle} {cs ts ds : List ℕ} where
+  pub no_handle_lem : {e : Refusal} → LookedUp s n assign_primary hs (Err e) → Carried (λ σ. install σ s n) ts ds hs cs ts ds cs (Err e)
   unfolding install
-  no_handle_lem f r e = handle_refuses l _ r e f
+  no_handle_lem l = handle_refuses l _
 
-  module _ (z : j ≡ 0) {same : Bool} (m : Matching h.token s ts cs same) {k : ℕ} (c : Checked same h.token s ts cs k) where
+  module _ {h : Handle} (l : LookedUp s n assign_primary hs (Ok h)) {same : Bool} (m : Matching h.token s ts cs same) where
     module _ (σ : State) (v : valid σ ≡ true) (p : PartsIn σ ts ds hs cs) where
       abbrev new : rules.Token
       new = state.token_of σ h.token
@@ -136,29 +113,22 @@ module _ {s n : ℕ} {hs : List Handle} {cs ts ds : List ℕ} {h : Handle} {j : 
 
       decided : carried_out σ (install σ s n) ≡ carried_out σ (decide (held σ s assign_primary_token) (eqb new.identity.type primary) (same || held σ s tcb) (success after []))
       unfolding install
-      decided = looked_up l σ v p.handles _ z ∙ rw (m.same σ v p.tokens p.control)
+      decided = looked_up l σ v p.handles _ ∙ rw (m.same σ v p.tokens p.control)
 
-      checked : k ≡ refusal_number (held σ s assign_primary_token) (eqb new.identity.type primary) (same || held σ s tcb)
-      checked = c.refusal σ v p.tokens p.control
+    pub not_allowed : {e : Refusal} → Checked same h.token s ts cs (Err e) → Carried (λ σ. install σ s n) ts ds hs cs ts ds cs (Err e)
+    not_allowed {e} c = refuses e (λ σ v p. decided σ v p ∙ stops σ _ _ _ _ (c.refusal σ v p.tokens p.control))
 
-      refused : (k ≡ 0 → ⊥) → carried_out σ (install σ s n) ≡ record { state = σ; answer = k ∷ [] }
-      refused f = decided ∙ rw checked (stops σ _ _ _ _ (rw checked at f))
-
-      passed : k ≡ 0 → (carried_out σ (install σ s n) ≡ record { state = after; answer = 0 ∷ [] }) × (eqb new.identity.type primary ≡ true)
+    module _ (c : Checked same h.token s ts cs (Ok tt)) where
+      passed : (σ : State) (v : valid σ ≡ true) (p : PartsIn σ ts ds hs cs)
+          → (carried_out σ (install σ s n) ≡ record { state = after σ v p; answer = 0 ∷ [] }) × (eqb (new σ v p).identity.type primary ≡ true)
       unfolding carried_out
-      passed e =
-          let q = passes σ (held σ s assign_primary_token) (eqb new.identity.type primary) (same || held σ s tcb) (success after []) (sym checked ∙ e) in
-          (decided ∙ q.0, q.1)
+      passed σ v p =
+          let q = passes σ (held σ s assign_primary_token) (eqb (new σ v p).identity.type primary) (same || held σ s tcb) (success (after σ v p) []) (c.refusal σ v p.tokens p.control) in
+          (decided σ v p ∙ q.0, q.1)
 
-      after_parts : k ≡ 0 → {cs' ts' ds' : List ℕ} → Placed same h.token s ts ds hs cs ts' ds' cs' → PartsIn after ts' ds' hs cs'
-      after_parts e w =
-          let i = (looked_up_found l σ v p.handles z).token in
-          w.parts σ v p (m.same σ v p.tokens p.control) i.was i.number (eqb-true new.identity.type primary (passed e).1)
-
-    pub not_allowed : (k ≡ 0 → ⊥) → (r : Outcome) → Ends (answers.Refused k) r → Carried (λ σ. install σ s n) ts ds hs cs ts ds cs r
-    not_allowed f r e = refuses k r e c.small (λ σ v p. refused σ v p f)
-
-    pub installed : k ≡ 0 → {cs' ts' ds' : List ℕ} → Placed same h.token s ts ds hs cs ts' ds' cs' → (r : Outcome) → Ends answers.Done r
-        → Carried (λ σ. install σ s n) ts ds hs cs ts' ds' cs' r
-    installed e w r d =
-        ends_with answers.Done r d (λ σ v p. tt) (λ σ v p. rw (passed σ v p e).0 (after_parts σ v p e w)) (λ σ v p. rw (passed σ v p e).0)
+      pub installed : {cs' ts' ds' : List ℕ} → Placed same h.token s ts ds hs cs ts' ds' cs' → Carried (λ σ. install σ s n) ts ds hs cs ts' ds' cs' (Ok (ends answers.Done))
+      installed w = ends_with answers.Done (λ σ v p. tt)
+          (λ σ v p.
+          let i = (looked_up_found l σ v p.handles).token in
+          rw (passed σ v p).0 (w.parts σ v p (m.same σ v p.tokens p.control) i.was i.number (eqb-true (new σ v p).identity.type primary (passed σ v p).1)))
+          (λ σ v p. rw (passed σ v p).0)

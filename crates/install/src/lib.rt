@@ -1,107 +1,75 @@
 // Request 11: a token becomes the caller's primary one.
 #![tactic(auto)]
 
-ghost use Rattle.std.specs.Prelude.{◌≡◌, ◌*◌, ◌<◌, length};
 ghost use Rattle.rules.specs.Install as rules;
-ghost use Rattle.rules.specs.State.{token_slots, station_count};
-ghost use Rattle.rules.specs.Memory.{token_words, control_words};
 ghost use Rattle.handle.specs.Words.{records_in};
-ghost use Rattle.state.specs.Parts.{Lent};
-ghost use Rattle.decide.specs.Carried.{Carried};
+ghost use Rattle.state.specs.Parts.{SameParts, WordsAlone};
+ghost use Rattle.decide.specs.Carried.{CarriedOut};
 ghost use Rattle.install.specs.Install.{Matching, Checked, MarksUsed, Placed};
 
-use answer::{Answer, refusal};
-use control::stations::caller_number;
-use decide::lookup::{handle_refusal, mask_of};
-use decide::outcome;
-use decide::outcome::Outcome;
-use handle::HANDLE_WORDS;
+use answer::{Answer, Refusal};
+use control::stations::Station;
+use decide::lookup::looked_up;
+use decide::outcome::{Outcome, ends};
+use privilege::mask::Mask;
 use privilege::privileges::Privileges;
-use state::handles::find_handle;
-use state::release;
-use state::tokens::{held, identity_of, used};
+use state::parts::Parts;
 use token::Identity;
 
 // The token is of the caller's user and session.
-fn matching(token: u64, station: u32, tokens: &[u64], control: &[u64]) -> bool
-    requires { (length tokens.now ≡ token_slots * token_words) × (length control.now ≡ control_words) × (station < station_count) }
-    ensures { Matching token station tokens.now control.now result }
+fn matching(parts: &Parts, station: Station, token: u64) -> bool
+    ensures { Matching token station.number parts.now.tokens.now parts.now.control.now result }
 {
-    let own = caller_number(station, control);
-    let a = identity_of(token, tokens);
-    let b = identity_of(own, tokens);
+    let own = parts.caller_number(station);
+    let a = parts.identity_of(token);
+    let b = parts.identity_of(own);
     (a.user == b.user) & (a.session == b.session)
 }
 
-// What the token is refused for, where it matches the caller's or doesn't: 0 if nothing.
-fn refusal_of(same: bool, token: u64, station: u32, tokens: &[u64], control: &[u64]) -> u64
-    requires { (length tokens.now ≡ token_slots * token_words) × (length control.now ≡ control_words) × (station < station_count) }
-    ensures { Checked same token station tokens.now control.now result }
+// What the token is refused for, where it matches the caller's or doesn't.
+fn check(parts: &Parts, station: Station, same: bool, token: u64) -> Result<(), Refusal>
+    ensures { Checked same token station.number parts.now.tokens.now parts.now.control.now result }
 {
-    if !held(Privileges::ASSIGN_PRIMARY, station, tokens, control) {
-        return refusal::PRIVILEGE_NOT_HELD;
+    if !parts.held(Privileges::ASSIGN_PRIMARY, station) {
+        return Err(Refusal::PrivilegeNotHeld);
     }
-    let new = identity_of(token, tokens);
-    if new.kind != Identity::PRIMARY {
-        return refusal::BAD_FIELD;
+    if parts.identity_of(token).kind != Identity::PRIMARY {
+        return Err(Refusal::BadField);
     }
-    let trusted = held(Privileges::TCB, station, tokens, control);
-    if same | trusted {
-        return 0;
+    if same | parts.held(Privileges::TCB, station) {
+        Ok(())
+    } else {
+        Err(Refusal::InstallMismatch)
     }
-    refusal::INSTALL_MISMATCH
 }
 
 // The used bits fall on the token that is the caller's primary one now; Tcb counts only where the tokens don't match.
-fn mark(same: bool, station: u32, tokens: &mut [u64], control: &[u64])
-    requires { (length tokens.old ≡ token_slots * token_words) × (length control.now ≡ control_words) × (station < station_count) }
-    ensures { MarksUsed same station tokens.old control.now tokens.new }
+fn mark(parts: &mut Parts, station: Station, same: bool)
+    ensures alone { WordsAlone parts.old parts.new }
+    ensures marked { MarksUsed same station.number parts.old.tokens.now parts.old.control.now parts.new.tokens.now }
 {
-    used(Privileges::ASSIGN_PRIMARY, station, tokens, control);
+    parts.used(Privileges::ASSIGN_PRIMARY, station);
     if !same {
-        used(Privileges::TCB, station, tokens, control);
+        parts.used(Privileges::TCB, station);
     }
 }
 
 // The effect, of a token that is not refused.
-fn place(
-    same: bool,
-    token: u64,
-    station: u32,
-    handles: &[u64; HANDLE_WORDS],
-    tokens: &mut [u64],
-    dacls: &mut [u8],
-    control: &mut [u64],
-)
-    requires { Lent tokens.old dacls.old control.old × (station < station_count) }
-    ensures { Placed same token station tokens.old dacls.old (records_in handles.now) control.old tokens.new dacls.new control.new }
+fn place(parts: &mut Parts, station: Station, same: bool, token: u64)
+    ensures same { SameParts parts.old parts.new }
+    ensures placed { Placed same token station.number parts.old.tokens.now parts.old.dacls.now (records_in parts.old.handles.now) parts.old.control.now parts.new.tokens.now parts.new.dacls.now parts.new.control.now }
 {
-    mark(same, station, tokens, control);
-    release::install(station, token, handles, tokens, dacls, control);
+    mark(parts, station, same);
+    parts.install(station, token);
 }
 
-pub fn install(
-    station: u32,
-    number: u32,
-    handles: &[u64; HANDLE_WORDS],
-    tokens: &mut [u64],
-    dacls: &mut [u8],
-    control: &mut [u64],
-) -> Outcome
-    requires { Lent tokens.old dacls.old control.old × (station < station_count) }
-    ensures { Carried (λ σ. rules.install σ station number) tokens.old dacls.old (records_in handles.now) control.old tokens.new dacls.new control.new result }
+pub fn install(parts: &mut Parts, station: Station, number: u32) -> Result<Outcome, Refusal>
+    ensures same { SameParts parts.old parts.new }
+    ensures carried { CarriedOut (λ σ. rules.install σ station.number number) parts.old parts.new result }
 {
-    let found = find_handle(station, number, handles);
-    let refused = handle_refusal(found, mask_of(found).may_assign_primary());
-    if refused != 0 {
-        return outcome::refused(refused);
-    }
-    let token = found.token;
-    let same = matching(token, station, tokens, control);
-    let refusal = refusal_of(same, token, station, tokens, control);
-    if refusal != 0 {
-        return outcome::refused(refusal);
-    }
-    place(same, token, station, handles, tokens, dacls, control);
-    outcome::ends(Answer::Done)
+    let token = looked_up(parts, station, number, Mask::ASSIGN_PRIMARY)?.token;
+    let same = matching(parts, station, token);
+    check(parts, station, same, token)?;
+    place(parts, station, same, token);
+    Ok(ends(Answer::Done))
 }

@@ -1,14 +1,13 @@
 -- Request 17, part by part and end by end: what the calls gave is what the rules decide. Assumes nothing.
-use Prim.Native.Nat.{ℕ, ◌≤◌, ◌<◌}
+use Prim.Native.Nat.{ℕ, ◌<◌}
 use native.Mathlib.Omega.{arith}
-use mathlib.Core.Path.{◌≡◌, refl, sym, ap, ◌∙◌}
+use mathlib.Core.Path.{◌≡◌, refl, sym, ap, ap₂, ◌∙◌}
 use mathlib.Core.Bool.{Bool, true, false, not}
-use mathlib.Core.Logic.{⊎_elim}
-use mathlib.Core.List.{List, [], ◌∷◌}
-use lib.Dec.{eqb}
+use mathlib.Core.List.{List, ◌∷◌}
+use lib.Dec.{eqb, ltb}
 use lib.ListN.{length, get_or, set, length-set, get_or-eq_default}
-use borrow.Author.Tests.{eq-eqb, ne_eqb, not-false}
-use Rattle.std.specs.Prelude.{if◌then◌else◌}
+use borrow.Author.Tests.{eq-eqb, ne_eqb, lt-ltb}
+use Rattle.std.specs.Prelude.{Option, None, Some, unwrap_or, Result, Ok, Err, if◌then◌else◌}
 use Rattle.rules.specs.Bits.{has}
 use Rattle.rules.specs.Number.{encode}
 use Rattle.rules.specs.Mask as Mask
@@ -17,7 +16,7 @@ use Rattle.rules.specs.Refusal.{not_linked, table_full}
 use Rattle.rules.specs.Privileges.{tcb}
 use Rattle.rules.specs.Token as tokens
 use Rattle.rules.specs.Token.{max_dacl, new_token, impersonation, identification, with_elevation}
-use Rattle.rules.specs.Table.{Slot, free, live, is_live, or_else}
+use Rattle.rules.specs.Table.{Slot, free, is_live, or_else}
 use Rattle.rules.specs.Handle as rules
 use Rattle.rules.specs.Pair as Pair
 use Rattle.rules.specs.Pair.{no_pair, partner}
@@ -30,7 +29,6 @@ use Rattle.rules.specs.Memory.{token_words, token_counter, head, token_row, dacl
 use Rattle.rules.specs.Duplicate.{retyped, copied}
 use Rattle.rules.specs.Link.{partner_of, clone, get_linked}
 use Rattle.rules.specs.Decision.{Decision, need◌else◌then◌, success, carried_out, can_issue, issued}
-use Rattle.rules.proofs.Logic.{not_both, either}
 use Rattle.rules.proofs.Tables.{on_if}
 use Rattle.rules.proofs.Index.{found_at}
 use Rattle.rules.proofs.Facts.{valid_facts, facts_valid}
@@ -38,7 +36,6 @@ use Rattle.rules.proofs.Steps.{partner_live}
 use Rattle.rules.proofs.Kept.{mark}
 use Rattle.handle.specs.Meaning.{handle_of}
 use Rattle.handle.specs.declared.Handle.{Handle}
-use Rattle.token.proofs.Finding.{no_slot}
 use Rattle.control.specs.Control.{ControlIn}
 use Rattle.control.specs.Counters.{NextGiven}
 use Rattle.control.specs.Pairs.{pair_of, RowGiven, PairFound}
@@ -50,12 +47,16 @@ use Rattle.state.specs.ReleaseFacts.{PartsIn}
 use Rattle.state.specs.declared.handles.Change.{Change}
 use Rattle.state.proofs.FormedLaws.{valid_formed, pairs_back, tokens_same}
 use Rattle.state.proofs.InPlace.{no_token_lem}
+use Rattle.state.proofs.Slots.{some_found}
 use Rattle.answer.specs.declared.Answer.TheVariants as answers
+use Rattle.answer.specs.declared.refusal.Refusal.{Refusal}
+use Rattle.answer.specs.declared.refusal.Refusal.TheVariants as refusal
 use Rattle.decide.specs.declared.outcome.Outcome.{Outcome}
-use Rattle.decide.specs.Carried.{Ends, Carried}
+use Rattle.decide.specs.Carried.{Carried}
+use Rattle.decide.specs.Lookup.{LookedUp}
 use Rattle.decide.specs.Issue.{IssueRoom, RowIssued}
 use Rattle.decide.proofs.Deciding.{fails, holds, refuses, used_parts, carried_as}
-use Rattle.decide.proofs.LookupLaws.{LookedUp, looked_up, handle_refuses}
+use Rattle.decide.proofs.LookupLaws.{looked_up, handle_refuses}
 use Rattle.decide.proofs.Issuing.{room_refuses}
 use Rattle.copy.specs.Copies.{RowCopied, Remade}
 use Rattle.copy.proofs.Copies.{issues_made}
@@ -67,47 +68,56 @@ alone : (token : ℕ) → partner token no_pair ≡ 0
 unfolding partner no_pair
 alone token = on_if (λ (n : ℕ). n ≡ 0) (eqb 0 token) _ _ (λ e. refl) (λ e. refl)
 
-module _ (token : ℕ) {place : ℕ} {cs : List ℕ} (f : PairFound (Pair.has token) cs place) where
-  pair_at_lem : (σ : State) → valid σ ≡ true → ControlIn σ cs → get_or σ.pairs place free ≡ state.pair_of σ token
-  unfolding state.pair_of
-  pair_at_lem σ v i =
-      ap (λ (j : ℕ). get_or σ.pairs j free) (f.index ∙ ap (found_index (Pair.has token)) (pairs_back σ (valid_formed σ v) cs i))
-      ∙ sym (found_at (Pair.has token) σ.pairs)
+module _ (token : ℕ) {place : Option ℕ} {cs : List ℕ} (f : PairFound (Pair.has token) cs place) (σ : State) (v : valid σ ≡ true) (i : ControlIn σ cs) where
+  place_is : unwrap_or place pair_slots ≡ found_index (Pair.has token) σ.pairs
+  place_is = f.index ∙ ap (found_index (Pair.has token)) (pairs_back σ (valid_formed σ v) cs i)
 
-  pub no_partner : pair_slots ≤ place → PartnerGiven token cs 0
-  unfolding partner_of or_else
-  no_partner past = record {
-    partner = λ σ v i.
-        let long = (valid_facts σ v).loose.pairs_sized in
-        sym (ap (λ (p : Slot Pair.Pair). partner token (or_else no_pair p)) (sym (pair_at_lem σ v i) ∙ get_or-eq_default σ.pairs free (omega arith)) ∙ alone token);
+  stands : get_or σ.pairs (unwrap_or place pair_slots) free ≡ state.pair_of σ token
+  unfolding state.pair_of
+  stands = ap (λ (j : ℕ). get_or σ.pairs j free) place_is ∙ sym (found_at (Pair.has token) σ.pairs)
+
+  live_within : is_live (state.pair_of σ token) ≡ ltb (unwrap_or place pair_slots) pair_slots
+  unfolding state.pair_of
+  live_within = some_found (Pair.has token) σ.pairs ∙ ap₂ ltb (sym place_is) (valid_facts σ v).loose.pairs_sized
+
+pub no_partner : {token : ℕ} {cs : List ℕ} → PairFound (Pair.has token) cs None → PartnerGiven token cs None
+unfolding partner_of or_else
+no_partner {token} f = record {
+  partner = λ σ v i.
+      let long = (valid_facts σ v).loose.pairs_sized in
+      sym (ap (λ (p : Slot Pair.Pair). partner token (or_else no_pair p)) (sym (stands token f σ v i) ∙ get_or-eq_default σ.pairs free (omega arith)) ∙ alone token);
+  linked = λ σ v i. sym (live_within token f σ v i);
+}
+
+module _ {token place : ℕ} {cs : List ℕ} (f : PairFound (Pair.has token) cs (Some place)) {r : Control.Pair} (g : RowGiven place cs r) where
+  is_partner : {other : ℕ} → other ≡ partner token (pair_of r.session r.elevated r.filtered) → PartnerGiven token cs (Some other)
+  unfolding partner_of
+  is_partner e = record {
+    partner = λ σ v i. e ∙ ap (partner token) (row_held σ i f.within g ∙ ap (or_else no_pair) (stands token f σ v i));
+    linked = λ σ v i. sym (live_within token f σ v i ∙ lt-ltb place pair_slots f.within);
   }
 
-  module _ {r : Control.Pair} (l : place < pair_slots) (g : RowGiven place cs r) where
-    partner_is : (σ : State) → valid σ ≡ true → ControlIn σ cs → partner token (pair_of r.session r.elevated r.filtered) ≡ partner_of σ token
-    unfolding partner_of
-    partner_is σ v i = ap (partner token) (row_held σ i l g ∙ ap (or_else no_pair) (pair_at_lem σ v i))
+  pub is_elevated : r.elevated ≡ token → PartnerGiven token cs (Some r.filtered)
+  unfolding partner
+  is_elevated e = is_partner (sym (ap (λ (b : Bool). if b then r.filtered else r.elevated) (eq-eqb r.elevated token e)))
 
-    pub is_elevated : r.elevated ≡ token → PartnerGiven token cs r.filtered
-    unfolding partner
-    is_elevated e = record { partner = λ σ v i. sym (ap (λ (b : Bool). if b then r.filtered else r.elevated) (eq-eqb r.elevated token e)) ∙ partner_is σ v i }
-
-    pub is_filtered : (r.elevated ≡ token → ⊥) → PartnerGiven token cs r.elevated
-    unfolding partner
-    is_filtered e = record { partner = λ σ v i. sym (ap (λ (b : Bool). if b then r.filtered else r.elevated) (ne_eqb r.elevated token e)) ∙ partner_is σ v i }
+  pub is_filtered : (r.elevated ≡ token → ⊥) → PartnerGiven token cs (Some r.elevated)
+  unfolding partner
+  is_filtered e = is_partner (sym (ap (λ (b : Bool). if b then r.filtered else r.elevated) (ne_eqb r.elevated token e)))
 
 -- ---- a handle on it
 
 module _ {s other : ℕ} {hs : List Handle} {cs ts ds : List ℕ} {b : Bool} (k : HandleRoom hs cs b) where
-  pub no_handle_left : {r : Outcome} → not b ≡ true → Ends (answers.Refused 8) r → PartnerOpened s other ts ds hs cs ts cs r
-  no_handle_left {r} t e = record { carried = refuses 8 r e (omega arith) (λ σ v p. fails (can_add_handle σ) σ 8 _ (ap not (sym (k.room σ v p.handles p.control)) ∙ t)) }
+  pub no_handle_left : b ≡ false → PartnerOpened s other ts ds hs cs ts ds cs (Err refusal.TableFull)
+  no_handle_left t = record { carried = refuses refusal.TableFull (λ σ v p. fails (can_add_handle σ) σ table_full _ (ap not (sym (k.room σ v p.handles p.control) ∙ t))) }
 
-  pub opens : {cs' ts' : List ℕ} → s < station_count → not b ≡ false → Used tcb s ts cs ts' → (x : Change) → HandleAdded s other all_rights hs cs cs' x
-      → PartnerOpened s other ts ds hs cs ts' cs' (record { answer = answers.Value x.handle.number; change = x })
+  pub opens : {cs' ts' : List ℕ} → s < station_count → b ≡ true → Used tcb s ts cs ts' → {x : Change} → HandleAdded s other all_rights hs cs cs' x
+      → PartnerOpened s other ts ds hs cs ts' ds cs' (Ok (record { answer = answers.Value x.handle.number; change = Some x }))
   unfolding carried_out has add_handle with_handles used change_token put_token with_tokens
-  opens in8 t u x a =
+  opens in8 t u {x} a =
       let served : (σ : State) → valid σ ≡ true → PartsIn σ ts ds hs cs
       → carried_out σ (need can_add_handle σ else table_full then success (add_handle s other all_rights (used tcb s σ)) (encode σ.handles.next)) ≡ record { state = add_handle s other all_rights (used tcb s σ); answer = 0 ∷ encode σ.handles.next } =
-      λ σ v p. rw (sym (k.room σ v p.handles p.control) ∙ not-false b t) in
+      λ σ v p. rw (sym (k.room σ v p.handles p.control) ∙ t) in
       record {
         carried = record {
           parts = λ σ v p.
@@ -133,24 +143,19 @@ relabelled n l = record {
 }
 
 module _ {s slot : ℕ} {hs : List Handle} {cs ts ds : List ℕ} {b : Bool} (i : IssueRoom ts hs cs b) where
-  pub no_clone : {r : Outcome} → not b ≡ true → Ends (answers.Refused 8) r → CloneIssued s slot ts ds hs cs ts ds cs r
-  no_clone t e = record { carried = λ n at. room_refuses i (λ σ. issued s Mask.query (clone σ.tokens.next (token_of σ n)) σ) t e }
+  pub no_clone : b ≡ false → CloneIssued s slot ts ds hs cs ts ds cs (Err refusal.TableFull)
+  no_clone t = record { carried = λ n at. room_refuses i (λ σ. issued s Mask.query (clone σ.tokens.next (token_of σ n)) σ) (ap not t) }
 
-  pub clones : {n : ℕ} {ws ws' bs cs' ts' ds' : List ℕ} {r : Outcome} → not b ≡ false → NextGiven token_counter cs n → RowCopied token_words slot ts ws → Remade (clone n) ws ws'
-      → RowCopied max_dacl slot ds bs → RowIssued s Mask.query ws' bs ts ds hs cs ts' ds' cs' r → CloneIssued s slot ts ds hs cs ts' ds' cs' r
+  pub clones : {n : ℕ} {ws ws' bs cs' ts' ds' : List ℕ} {r : Outcome} → b ≡ true → NextGiven token_counter cs n → RowCopied token_words slot ts ws → Remade (clone n) ws ws'
+      → RowCopied max_dacl slot ds bs → RowIssued s Mask.query ws' bs ts ds hs cs ts' ds' cs' r → CloneIssued s slot ts ds hs cs ts' ds' cs' (Ok r)
   unfolding clone with_elevation copied dacl_row
   clones t k w c d e = record {
     carried = λ n at.
-        carried_as (λ σ v p. holds (can_issue σ) σ table_full _ (ap not (sym (i.room σ v p)) ∙ t))
+        carried_as (λ σ v p. holds (can_issue σ) σ table_full _ (ap not (sym (i.room σ v p) ∙ t)))
         ((issues_made clone w.inside k (λ x v q. c.made.row x (w.row ∙ q)) (λ x q. d.row ∙ q) e).carried n at);
   }
 
 -- ---- the decision
-
-not_live : {A : Type 0} (p : Slot A) → is_live p ≡ false → p ≡ free
-unfolding is_live
-not_live free e = refl
-not_live (live a) e = absurd (not_both refl e)
 
 -- the rule, once the handle is found
 abbrev go : ℕ → State → rules.Handle → tokens.Token → Decision
@@ -163,51 +168,48 @@ go s σ h t =
     (need can_issue σ else table_full then
     issued s Mask.query (clone σ.tokens.next (token_of σ (partner_of σ h.token))) σ)
 
-module _ {s n : ℕ} {hs : List Handle} {cs ts ds : List ℕ} {h : Handle} {k : ℕ} (l : LookedUp s n Mask.query hs h k) where
-  pub linked_not_found : {r : Outcome} → (k ≡ 0 → ⊥) → Ends (answers.Refused k) r → Carried (λ σ. get_linked σ s n) ts ds hs cs ts ds cs r
+module _ {s n : ℕ} {hs : List Handle} {cs ts ds : List ℕ} where
+  pub linked_not_found : {e : Refusal} → LookedUp s n Mask.query hs (Err e) → Carried (λ σ. get_linked σ s n) ts ds hs cs ts ds cs (Err e)
   unfolding get_linked
-  linked_not_found {r} f e = handle_refuses l (go s) r e f
+  linked_not_found l = handle_refuses l (go s)
 
-  module _ (z : k ≡ 0) {other slot : ℕ} (g : PartnerGiven h.token cs other) (at : FoundAt other ts slot) where
+  module _ {h : Handle} (l : LookedUp s n Mask.query hs (Ok h)) where
     decided : (σ : State) → valid σ ≡ true → PartsIn σ ts ds hs cs → carried_out σ (get_linked σ s n) ≡ carried_out σ (go s σ (handle_of h) (token_of σ h.token))
     unfolding get_linked
-    decided σ v p = looked_up l σ v p.handles (go s σ) z
+    decided σ v p = looked_up l σ v p.handles (go s σ)
 
-    -- a live pair's token is in a slot, and no token has number 0
-    unlinked : token_slots ≤ slot → (σ : State) → valid σ ≡ true → PartsIn σ ts ds hs cs → is_live (state.pair_of σ h.token) ≡ false
-    unfolding no_token new_token
-    unlinked past σ v p = ⊎_elim (λ t.
-        let is = partner_live σ h.token (valid_facts σ v) t in
-        let given = ((valid_formed σ v).tokens _ is.was).1 in
-        let same = g.partner σ v p.control in
-        let none = ap (λ (x : tokens.Token). x.number) (ap (token_of σ) (sym same) ∙ no_token_lem other at v p.tokens past) in
-        absurd (omega arith)) (λ t. t) (either (is_live (state.pair_of σ h.token)))
+    pub in_no_pair : PartnerGiven h.token cs None → Carried (λ σ. get_linked σ s n) ts ds hs cs ts ds cs (Err refusal.NotLinked)
+    in_no_pair g = refuses refusal.NotLinked (λ σ v p. decided σ v p ∙ fails (is_live (state.pair_of σ h.token)) σ not_linked _ (ap not (sym (g.linked σ v p.control))))
 
-    linked : slot < token_slots → (σ : State) → valid σ ≡ true → PartsIn σ ts ds hs cs → is_live (state.pair_of σ h.token) ≡ true
-    unfolding partner_of or_else
-    linked in16 σ v p = ⊎_elim (λ t. t) (λ t.
-        let zero_number = g.partner σ v p.control ∙ ap (λ (x : Slot Pair.Pair). partner h.token (or_else no_pair x)) (not_live _ t) ∙ alone h.token in
-        let none = (no_slot ts {x = other} (omega arith)).0 [] in
-        let same = at [] in
-        absurd (omega arith)) (either (is_live (state.pair_of σ h.token)))
+    module _ {other : ℕ} (g : PartnerGiven h.token cs (Some other)) where
+      -- a live pair's token is in a slot, and no token has number 0
+      lost : FoundAt other ts token_slots → (σ : State) → valid σ ≡ true → PartsIn σ ts ds hs cs → ⊥
+      unfolding no_token new_token
+      lost at σ v p =
+          let is = partner_live σ h.token (valid_facts σ v) (sym (g.linked σ v p.control)) in
+          let given = ((valid_formed σ v).tokens _ is.was).1 in
+          let same = g.partner σ v p.control in
+          let none = ap (λ (x : tokens.Token). x.number) (ap (token_of σ) (sym same) ∙ no_token_lem other at v p.tokens (omega arith)) in
+          absurd (omega arith)
 
-    pub not_linked_lem : {r : Outcome} → token_slots ≤ slot → Ends (answers.Refused 14) r → Carried (λ σ. get_linked σ s n) ts ds hs cs ts ds cs r
-    not_linked_lem {r} past e = refuses 14 r e (omega arith) (λ σ v p. decided σ v p ∙ fails (is_live (state.pair_of σ h.token)) σ 14 _ (ap not (unlinked past σ v p)))
+      pub partner_lost : FoundAt other ts token_slots → Carried (λ σ. get_linked σ s n) ts ds hs cs ts ds cs (Err refusal.NotLinked)
+      partner_lost at = refuses refusal.NotLinked (λ σ v p. absurd (lost at σ v p))
 
-    module _ (in16 : slot < token_slots) {may : Bool} (is : Held tcb s ts cs may) where
-      goes_on : (σ : State) → valid σ ≡ true → PartsIn σ ts ds hs cs → carried_out σ (get_linked σ s n)
-          ≡ carried_out σ (if may then
-          (need can_add_handle σ else table_full then
-          success (add_handle s other all_rights (used tcb s σ)) (encode σ.handles.next))
-          else
-          (need can_issue σ else table_full then
-          issued s Mask.query (clone σ.tokens.next (token_of σ other)) σ))
-      goes_on σ v p =
-          decided σ v p ∙ holds (is_live (state.pair_of σ h.token)) σ not_linked _ (ap not (linked in16 σ v p))
-          ∙ rw (is.held σ v p.tokens p.control, g.partner σ v p.control)
+      module _ {may : Bool} (is : Held tcb s ts cs may) where
+        goes_on : (σ : State) → valid σ ≡ true → PartsIn σ ts ds hs cs → carried_out σ (get_linked σ s n)
+            ≡ carried_out σ (if may then
+            (need can_add_handle σ else table_full then
+            success (add_handle s other all_rights (used tcb s σ)) (encode σ.handles.next))
+            else
+            (need can_issue σ else table_full then
+            issued s Mask.query (clone σ.tokens.next (token_of σ other)) σ))
+        goes_on σ v p =
+            decided σ v p ∙ holds (is_live (state.pair_of σ h.token)) σ not_linked _ (ap not (sym (g.linked σ v p.control)))
+            ∙ rw (is.held σ v p.tokens p.control, g.partner σ v p.control)
 
-      pub gives_partner : {cs' ts' : List ℕ} {r : Outcome} → may ≡ true → PartnerOpened s other ts ds hs cs ts' cs' r → Carried (λ σ. get_linked σ s n) ts ds hs cs ts' ds cs' r
-      gives_partner t o = carried_as (λ σ v p. goes_on σ v p ∙ rw t) o.carried
+        pub gives_partner : {cs' ts' ds' : List ℕ} {r : Result Outcome Refusal} → may ≡ true → PartnerOpened s other ts ds hs cs ts' ds' cs' r → Carried (λ σ. get_linked σ s n) ts ds hs cs ts' ds' cs' r
+        gives_partner t o = carried_as (λ σ v p. goes_on σ v p ∙ rw t) o.carried
 
-      pub gives_clone : {cs' ts' ds' : List ℕ} {r : Outcome} → may ≡ false → CloneIssued s slot ts ds hs cs ts' ds' cs' r → Carried (λ σ. get_linked σ s n) ts ds hs cs ts' ds' cs' r
-      gives_clone t o = carried_as (λ σ v p. goes_on σ v p ∙ rw t) (o.carried other at)
+        pub gives_clone : {slot : ℕ} {cs' ts' ds' : List ℕ} {r : Result Outcome Refusal} → FoundAt other ts slot → may ≡ false → CloneIssued s slot ts ds hs cs ts' ds' cs' r
+            → Carried (λ σ. get_linked σ s n) ts ds hs cs ts' ds' cs' r
+        gives_clone at t o = carried_as (λ σ v p. goes_on σ v p ∙ rw t) (o.carried other at)

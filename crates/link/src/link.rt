@@ -1,115 +1,105 @@
 // Request 16: the elevated token and the filtered one of a session become its linked pair.
-ghost use Rattle.std.specs.Prelude.{◌≡◌, ◌*◌, ◌<◌, length};
+ghost use Rattle.std.specs.Prelude.{◌≡◌, ◌<◌};
+ghost use Rattle.rules.specs.Mask.{permits, duplicate};
 ghost use Rattle.rules.specs.Link as rules;
-ghost use Rattle.rules.specs.State.{token_slots, station_count, pair_slots};
-ghost use Rattle.rules.specs.Memory.{token_words};
+ghost use Rattle.rules.specs.State.{pair_slots};
 ghost use Rattle.handle.specs.Words.{records_in};
-ghost use Rattle.state.specs.Parts.{Lent};
-ghost use Rattle.decide.specs.Carried.{Carried};
-ghost use Rattle.link.specs.Link.{both_refusal, LinkJudged, LinkApplied};
+ghost use Rattle.control.specs.Pairs.{PlaceGiven};
+ghost use Rattle.state.specs.Parts.{SameParts};
+ghost use Rattle.decide.specs.Carried.{CarriedOut};
+ghost use Rattle.link.specs.Link.{of_session, PairNamed, LinkJudged, LinkApplied};
 
-use answer::{Answer, refusal};
+use answer::{Answer, Refusal};
 use body::fields::LinkFields;
-use control::layout::PAIRS;
-use control::pairs::place_for;
-use decide::lookup::mask_of;
-use decide::outcome;
-use decide::outcome::Outcome;
-use handle::{HANDLE_WORDS, Handle};
+use control::pairs;
+use control::pairs::Pair;
+use control::stations::Station;
+use decide::outcome::{Outcome, ends};
+use handle::Handle;
+use privilege::mask::Mask;
 use privilege::privileges::Privileges;
-use state::handles::find_handle;
-use state::release;
-use state::tokens::{elevate, elevation_of, held, identity_of, used};
+use state::parts::Parts;
 use token::Identity;
 use token::layout::{FULL, LIMITED};
 
-// Either is not the station's live handle, or either mask lacks the right: 0 if neither.
-fn refusal_of(elevated: Handle, filtered: Handle) -> u64
-    ensures { result ≡ both_refusal elevated filtered }
+fn may_duplicate(h: Handle) -> bool
+    ensures { result ≡ permits h.mask duplicate }
 {
-    if (elevated.number == 0) | (filtered.number == 0) {
-        return refusal::NOT_A_LIVE_HANDLE;
-    }
-    if mask_of(elevated).may_duplicate() & mask_of(filtered).may_duplicate() {
-        return 0;
-    }
-    refusal::RIGHT_MISSING
+    Mask(h.mask as u32).permits(Mask::DUPLICATE)
 }
 
-// Two primary tokens of the session and of one user; a Limited one is not made Full, nor a Full one Limited.
-fn linkable(session: u64, elevated: u64, filtered: u64, tokens: &[u64]) -> bool
-    requires { length tokens.now ≡ token_slots * token_words }
-    ensures { LinkJudged session elevated filtered tokens.now result }
+// The pair of the two handles' tokens: both are the station's live ones, and both masks have the right.
+fn named(parts: &Parts, station: Station, f: LinkFields) -> Result<Pair, Refusal>
+    ensures { PairNamed station.number f.elevated f.filtered f.session (records_in parts.now.handles.now) result }
 {
-    let e = identity_of(elevated, tokens);
-    let f = identity_of(filtered, tokens);
-    let primary = (e.kind == Identity::PRIMARY) & (f.kind == Identity::PRIMARY);
-    let of_session = (e.session == session) & (f.session == session);
-    let roles = (elevation_of(elevated, tokens) != LIMITED)
-        & (elevation_of(filtered, tokens) != FULL);
-    primary & of_session & (e.user == f.user) & (elevated != filtered) & roles
+    let elevated = parts
+        .find_handle(station, f.elevated)
+        .ok_or(Refusal::NotALiveHandle)?;
+    let filtered = parts
+        .find_handle(station, f.filtered)
+        .ok_or(Refusal::NotALiveHandle)?;
+    if !(may_duplicate(elevated) & may_duplicate(filtered)) {
+        return Err(Refusal::RightMissing);
+    }
+    Ok(Pair {
+        session: f.session,
+        elevated: elevated.token,
+        filtered: filtered.token,
+    })
+}
+
+// A primary token of the session.
+fn is_of_session(i: Identity, session: u64) -> bool
+    ensures { result ≡ of_session session i }
+{
+    (i.kind == Identity::PRIMARY) & (i.session == session)
+}
+
+// Two tokens of the session and of one user; a Limited one is not made Full, nor a Full one Limited.
+fn linkable(parts: &Parts, pair: Pair) -> bool
+    ensures { LinkJudged pair parts.now.tokens.now result }
+{
+    let e = parts.identity_of(pair.elevated);
+    let f = parts.identity_of(pair.filtered);
+    is_of_session(e, pair.session)
+        & is_of_session(f, pair.session)
+        & (e.user == f.user)
+        & (pair.elevated != pair.filtered)
+        & (parts.elevation_of(pair.elevated) != LIMITED)
+        & (parts.elevation_of(pair.filtered) != FULL)
+}
+
+// Where the session's pair goes.
+fn place_for(parts: &Parts, session: u64) -> Option<usize>
+    ensures { PlaceGiven session parts.now.control.now result }
+{
+    pairs::place_for(session, parts.control)
 }
 
 // The effect: Tcb is used, the tokens become Full and Limited, and the pair takes its place.
-fn apply(
-    station: u32,
-    place: usize,
-    session: u64,
-    elevated: u64,
-    filtered: u64,
-    handles: &[u64; HANDLE_WORDS],
-    tokens: &mut [u64],
-    dacls: &mut [u8],
-    control: &mut [u64],
-)
-    requires { Lent tokens.old dacls.old control.old × (station < station_count) × (place < pair_slots) }
-    ensures { LinkApplied station place session elevated filtered tokens.old dacls.old (records_in handles.now) control.old tokens.new dacls.new control.new }
+fn apply(parts: &mut Parts, station: Station, place: usize, pair: Pair)
+    requires { place < pair_slots }
+    ensures same { SameParts parts.old parts.new }
+    ensures applied { LinkApplied station.number place pair parts.old.tokens.now parts.old.dacls.now (records_in parts.old.handles.now) parts.old.control.now parts.new.tokens.now parts.new.dacls.now parts.new.control.now }
 {
-    used(Privileges::TCB, station, tokens, control);
-    elevate(elevated, FULL, tokens);
-    elevate(filtered, LIMITED, tokens);
-    release::link(
-        place, session, elevated, filtered, handles, tokens, dacls, control,
-    );
+    parts.used(Privileges::TCB, station);
+    parts.elevate(pair.elevated, FULL);
+    parts.elevate(pair.filtered, LIMITED);
+    parts.link(place, pair);
 }
 
-pub fn link(
-    station: u32,
-    f: LinkFields,
-    handles: &[u64; HANDLE_WORDS],
-    tokens: &mut [u64],
-    dacls: &mut [u8],
-    control: &mut [u64],
-) -> Outcome
-    requires { Lent tokens.old dacls.old control.old × (station < station_count) }
-    ensures { Carried (λ σ. rules.link σ station f.elevated f.filtered f.session) tokens.old dacls.old (records_in handles.now) control.old tokens.new dacls.new control.new result }
+pub fn link(parts: &mut Parts, station: Station, f: LinkFields) -> Result<Outcome, Refusal>
+    ensures same { SameParts parts.old parts.new }
+    ensures carried { CarriedOut (λ σ. rules.link σ station.number f.elevated f.filtered f.session) parts.old parts.new result }
 {
-    let elevated = find_handle(station, f.elevated, handles);
-    let filtered = find_handle(station, f.filtered, handles);
-    let refused = refusal_of(elevated, filtered);
-    if refused != 0 {
-        return outcome::refused(refused);
+    let pair = named(parts, station, f)?;
+    if !parts.held(Privileges::TCB, station) {
+        return Err(Refusal::PrivilegeNotHeld);
     }
-    if !held(Privileges::TCB, station, tokens, control) {
-        return outcome::refused(refusal::PRIVILEGE_NOT_HELD);
+    if !linkable(parts, pair) {
+        return Err(Refusal::BadField);
     }
-    if !linkable(f.session, elevated.token, filtered.token, tokens) {
-        return outcome::refused(refusal::BAD_FIELD);
-    }
-    let place = place_for(f.session, control);
-    if PAIRS <= place {
-        return outcome::refused(refusal::TABLE_FULL);
-    }
-    apply(
-        station,
-        place,
-        f.session,
-        elevated.token,
-        filtered.token,
-        handles,
-        tokens,
-        dacls,
-        control,
-    );
-    outcome::ends(Answer::Done)
+    let place = place_for(parts, pair.session).ok_or(Refusal::TableFull)?;
+    apply(parts, station, place, pair);
+    Ok(ends(Answer::Done))
 }

@@ -1,72 +1,58 @@
 // Request 17: the partner of a linked token, itself or a clone of it.
 ghost use Rattle.std.specs.Prelude.{◌≡◌, ◌<◌, length};
 ghost use Rattle.rules.specs.Link as rules;
-ghost use Rattle.rules.specs.State.{token_slots, station_count};
-ghost use Rattle.rules.specs.Memory.{token_words, control_words};
+ghost use Rattle.rules.specs.State.{token_slots};
+ghost use Rattle.rules.specs.Memory.{token_words};
 ghost use Rattle.handle.specs.Words.{records_in};
-ghost use Rattle.state.specs.Parts.{Lent};
-ghost use Rattle.decide.specs.Carried.{Carried};
+ghost use Rattle.state.specs.Parts.{SameParts};
+ghost use Rattle.decide.specs.Carried.{CarriedOut};
 ghost use Rattle.copy.specs.Copies.{Remade};
 ghost use Rattle.link.specs.Linked.{PartnerGiven, PartnerOpened, CloneIssued};
 
-use answer::{Answer, refusal};
-use control::layout::{NEXT_TOKEN, PAIRS};
-use control::{counters, pairs};
+use answer::{Answer, Refusal};
+use control::layout::NEXT_TOKEN;
+use control::pairs;
+use control::stations::Station;
 use copy::rows;
 use decide::issue::{can_issue, issue_row};
-use decide::lookup::{handle_refusal, mask_of};
-use decide::outcome;
+use decide::lookup::looked_up;
 use decide::outcome::Outcome;
-use handle::HANDLE_WORDS;
 use privilege::mask::Mask;
 use privilege::privileges::Privileges;
-use state::handles::{add_handle, can_add_handle, find_handle};
-use state::tokens::{held, used};
+use state::parts::Parts;
+use token::Identity;
 use token::layout::*;
-use token::{Identity, slots};
 
 const IDENTIFICATION: u64 = 1;
 
-// The other token of the pair that the token is in; 0 where it is in none.
-fn partner_of(token: u64, control: &[u64]) -> u64
-    requires { length control.now ≡ control_words }
-    ensures { PartnerGiven token control.now result }
+// The other token of the pair that the token is in.
+fn partner_of(parts: &Parts, token: u64) -> Option<u64>
+    ensures { PartnerGiven token parts.now.control.now result }
 {
-    let place = pairs::place_with(token, control);
-    if PAIRS <= place {
-        return 0;
-    }
-    let p = pairs::row(place, control);
+    let place = pairs::place_with(token, parts.control)?;
+    let p = parts.pair_at(place);
     if p.elevated == token {
-        p.filtered
+        Some(p.filtered)
     } else {
-        p.elevated
+        Some(p.elevated)
     }
 }
 
 // ---- with Tcb: a handle on the partner itself
 
-fn open_partner(
-    station: u32,
-    partner: u64,
-    handles: &[u64; HANDLE_WORDS],
-    tokens: &mut [u64],
-    dacls: &[u8],
-    control: &mut [u64],
-) -> Outcome
-    requires { Lent tokens.old dacls.now control.old × (station < station_count) }
-    ensures { PartnerOpened station partner tokens.old dacls.now (records_in handles.now) control.old tokens.new control.new result }
+fn open_partner(parts: &mut Parts, station: Station, partner: u64) -> Result<Outcome, Refusal>
+    ensures same { SameParts parts.old parts.new }
+    ensures opened { PartnerOpened station.number partner parts.old.tokens.now parts.old.dacls.now (records_in parts.old.handles.now) parts.old.control.now parts.new.tokens.now parts.new.dacls.now parts.new.control.now result }
 {
-    if !can_add_handle(handles, control) {
-        return outcome::refused(refusal::TABLE_FULL);
+    if !parts.can_add_handle() {
+        return Err(Refusal::TableFull);
     }
-    used(Privileges::TCB, station, tokens, control);
-    let all = Mask::ALL;
-    let change = add_handle(station, partner, all.0 as u16, handles, control);
-    Outcome {
+    parts.used(Privileges::TCB, station);
+    let change = parts.add_handle(station, partner, Mask::ALL.0 as u16);
+    Ok(Outcome {
         answer: Answer::Value(change.handle.number as u64),
-        change: change,
-    }
+        change: Some(change),
+    })
 }
 
 // ---- without it: a clone
@@ -83,63 +69,34 @@ fn relabel(words: &mut [u64; TOKEN_WORDS], n: u64)
 }
 
 // Of the token in a slot.
-fn issue_clone(
-    station: u32,
-    slot: usize,
-    handles: &[u64; HANDLE_WORDS],
-    tokens: &mut [u64],
-    dacls: &mut [u8],
-    control: &mut [u64],
-) -> Outcome
-    requires { Lent tokens.old dacls.old control.old × (slot < token_slots) × (station < station_count) }
-    ensures { CloneIssued station slot tokens.old dacls.old (records_in handles.now) control.old tokens.new dacls.new control.new result }
+fn issue_clone(parts: &mut Parts, station: Station, slot: usize) -> Result<Outcome, Refusal>
+    requires { slot < token_slots }
+    ensures same { SameParts parts.old parts.new }
+    ensures issued { CloneIssued station.number slot parts.old.tokens.now parts.old.dacls.now (records_in parts.old.handles.now) parts.old.control.now parts.new.tokens.now parts.new.dacls.now parts.new.control.now result }
 {
-    if !can_issue(handles, tokens, control) {
-        return outcome::refused(refusal::TABLE_FULL);
+    if !can_issue(parts) {
+        return Err(Refusal::TableFull);
     }
-    let n = counters::next(NEXT_TOKEN, control);
-    let mut clone = rows::words_at(slot, tokens);
+    let n = parts.next(NEXT_TOKEN);
+    let mut clone = rows::words_at(parts, slot);
     relabel(&mut clone, n);
-    let dacl = rows::dacl_at(slot, dacls);
-    let query = Mask::QUERY;
-    issue_row(
-        station,
-        query.0 as u16,
-        &clone,
-        &dacl,
-        handles,
-        tokens,
-        dacls,
-        control,
-    )
+    let dacl = rows::dacl_at(parts, slot);
+    Ok(issue_row(parts, station, Mask::QUERY.0 as u16, &clone, &dacl))
 }
 
 // ---- the request
 
-pub fn linked(
-    station: u32,
-    number: u32,
-    handles: &[u64; HANDLE_WORDS],
-    tokens: &mut [u64],
-    dacls: &mut [u8],
-    control: &mut [u64],
-) -> Outcome
-    requires { Lent tokens.old dacls.old control.old × (station < station_count) }
-    ensures { Carried (λ σ. rules.get_linked σ station number) tokens.old dacls.old (records_in handles.now) control.old tokens.new dacls.new control.new result }
+pub fn linked(parts: &mut Parts, station: Station, number: u32) -> Result<Outcome, Refusal>
+    ensures same { SameParts parts.old parts.new }
+    ensures carried { CarriedOut (λ σ. rules.get_linked σ station.number number) parts.old parts.new result }
 {
-    let found = find_handle(station, number, handles);
-    let refused = handle_refusal(found, mask_of(found).may_query());
-    if refused != 0 {
-        return outcome::refused(refused);
-    }
+    let token = looked_up(parts, station, number, Mask::QUERY)?.token;
+    let partner = partner_of(parts, token).ok_or(Refusal::NotLinked)?;
     // In a valid state a linked token's partner is in a slot.
-    let partner = partner_of(found.token, control);
-    let slot = slots::find(tokens, partner);
-    if TOKEN_SLOTS <= slot {
-        return outcome::refused(refusal::NOT_LINKED);
+    let slot = parts.slot_of(partner).ok_or(Refusal::NotLinked)?;
+    if parts.held(Privileges::TCB, station) {
+        open_partner(parts, station, partner)
+    } else {
+        issue_clone(parts, station, slot)
     }
-    if held(Privileges::TCB, station, tokens, control) {
-        return open_partner(station, partner, handles, tokens, dacls, control);
-    }
-    issue_clone(station, slot, handles, tokens, dacls, control)
 }

@@ -2,15 +2,14 @@
 use mathlib.Core.Path.{◌≡◌, refl, sym, ap, ap₂, ◌∙◌}
 use mathlib.Core.Bool.{Bool, true, false, ◌&&◌, ◌||◌, and_assoc, and_comm}
 use mathlib.Core.List.{List, [], ◌∷◌, map}
-use Prim.Native.Nat.{ℕ, zero, suc, ◌+◌, ◌-◌, ◌*◌, ◌/◌, ◌%◌, ◌^◌, ◌≤◌, ◌<◌}
+use Prim.Native.Nat.{ℕ, zero, suc, min, ◌+◌, ◌-◌, ◌/◌, ◌%◌, ◌^◌, ◌≤◌, ◌<◌}
 use native.Mathlib.Nat.{mod-lt}
 use native.Mathlib.Omega.{arith}
-use borrow.Author.Tests.{eq-eqb, ne_eqb, le-leb, lt-leb, leb-true, leb-false, lt-ltb, ltb-true}
-use lib.Bits.{bit_or}
+use borrow.Author.Tests.{eq-eqb, ne_eqb, le-leb, leb-true, leb-false, lt-ltb, ltb-true}
 use lib.Dec.{eqb, leb, ltb}
 use lib.ListN.{length, take, drop, get_or, length-take, length-drop}
 use lib.Seq.{take_all, take-take}
-use Rattle.table.specs.Rows.{read_rows, test_rows, RowsTested, rows_more, rows_done}
+use Rattle.table.specs.Rows.{read_rows, test_rows}
 use Rattle.std.specs.Prelude.{if◌then◌else◌}
 use Rattle.rules.specs.Basic.{all, word32}
 use Rattle.rules.specs.Token.{Token, max_groups, max_restricting, max_dacl}
@@ -24,20 +23,19 @@ use Rattle.rules.specs.Head as Head
 use Rattle.rules.specs.Memory.{low32, unpack, head_words, token_words, identity_at, groups_at, limits_at, token_at, slot_at}
 use Rattle.rules.proofs.Logic.{and_l, and_r, and_i, or_r}
 use Rattle.lists.proofs.Truth.{same_truth, all_append, all_map, all_cong}
-use Rattle.lists.proofs.Loops.{Gathered, gathered_given}
 use Rattle.token_rows.proofs.Groups.{lacks, or_lacks}
 use Rattle.listed.specs.Tests.{at_most, last_of, number_to, stray_of, given_test, word_test, row_test, listed_test, TokensListed}
 
 -- ---- the limits
 
 module _ (most n : ℕ) where
-  pub at_most_low : n ≤ most → n ≡ at_most most n
+  pub at_most_least : min n most ≡ at_most most n
   unfolding at_most
-  at_most_low h = sym (rw (le-leb n most h))
-
-  pub at_most_high : most < n → most ≡ at_most most n
-  unfolding at_most
-  at_most_high h = sym (rw (lt-leb n most h))
+  at_most_least = by (leb n most) refl
+    where
+      by : (b : Bool) → leb n most ≡ b → min n most ≡ (if◌then◌else◌ b n most)
+      by true e = let h = leb-true n most e in omega arith
+      by false e = let h = leb-false n most e in omega arith
 
   -- what a list has no more of
   take_at_most : {A : Type 0} (xs : List A) → length xs ≤ most → take (at_most most n) xs ≡ take n xs
@@ -48,14 +46,13 @@ module _ (most n : ℕ) where
       by true e = refl
       by false e = let h = leb-false n most e in take_all most xs l ∙ sym (take_all n xs (omega arith))
 
-module _ (count : ℕ) where
-  pub last_low : count ≤ word32 → 29 + count ≡ last_of count
-  unfolding last_of
-  last_low h = sym (rw (le-leb count word32 h))
-
-  pub last_high : word32 < count → 29 + word32 ≡ last_of count
-  unfolding last_of
-  last_high h = sym (rw (lt-leb count word32 h))
+pub last_least : (count : ℕ) → 29 + min count word32 ≡ last_of count
+unfolding last_of
+last_least count = by (leb count word32) refl
+  where
+    by : (b : Bool) → leb count word32 ≡ b → 29 + min count word32 ≡ (if◌then◌else◌ b (29 + count) (29 + word32))
+    by true e = let h = leb-true count word32 e in omega arith
+    by false e = let h = leb-false count word32 e in omega arith
 
 -- ---- words
 
@@ -67,7 +64,7 @@ set : (w : ℕ) → 2 ^ 63 ≤ w → w < 2 ^ 64 → lacks 63 w ≡ false
 set w h k = ne_eqb (w / 2 ^ 63 % 2) 0 (λ e. omega arith)
 
 module _ (last : ℕ) where
-  stray_given : last < 2 ^ 63 → (w : ℕ) → lacks 63 (stray_of last w) ≡ given_test last w
+  pub stray_given : last < 2 ^ 63 → (w : ℕ) → lacks 63 (stray_of last w) ≡ given_test last w
   stray_given h w =
       or_lacks 63 (n + (0x7FFFFFFFFFFFFFFF - last)) (0x800000000000001F - n)
       ∙ ap₂ (λ a b. a && b) (above (leb n last) refl) (under (leb 32 n) refl)
@@ -87,14 +84,9 @@ module _ (last : ℕ) where
       under true e = let k = leb-true 32 n e in unset (0x800000000000001F - n) (omega arith)
       under false e = let k = leb-false 32 n e in set (0x800000000000001F - n) (omega arith) (omega arith)
 
-  -- one more word is gathered
-  pub stray_more : last < 2 ^ 63 → {s : List ℕ} {bad i r : ℕ} → Gathered (lacks 63) (given_test last) s bad i → i < length s → r ≡ stray_of last (get_or s i 0)
-      → Gathered (lacks 63) (given_test last) s (bit_or bad r) (i + 1)
-  stray_more h t l e = gathered_given (lacks 63) (given_test last) (or_lacks 63) (stray_of last) (stray_given h) t l e
-
-  pub all_given : (s : List ℕ) {r : Bool} → r ≡ all (given_test last) s → r ≡ true → true ≡ all (word_test last) s
+  pub all_given : (s : List ℕ) {r : Bool} → r ≡ all (given_test last) s → r ≡ true → r ≡ all (word_test last) s
   unfolding all
-  all_given s e t = sym (every s (sym e ∙ t))
+  all_given s e t = t ∙ sym (every s (sym e ∙ t))
     where
       every : (s : List ℕ) → all (given_test last) s ≡ true → all (word_test last) s ≡ true
       every [] h = refl
@@ -198,15 +190,10 @@ module _ (sids : List Sid) where
       by true ih = ih
       by false ih = ap (λ c. is_listed sids (token_at ws []) && c) ih
 
--- ---- with what the code has in its loop and at its end
+-- ---- with what the code has at its end
 
-pub at_row : (last : ℕ) {ts : List ℕ} {i : ℕ} {ok r : Bool} → RowsTested (row_test last) token_words 0 token_slots ts [] ok i → i < token_slots
-    → r ≡ row_test last (take (i * token_words + token_words - i * token_words) (drop (i * token_words) ts)) [] → RowsTested (row_test last) token_words 0 token_slots ts [] (ok && r) (i + 1)
-unfolding row_test sid_numbers token_at
-at_row last t l e = rows_more (row_test last) token_words 0 t l e
-
-pub at_end : {ts : List ℕ} {count last i : ℕ} {ok : Bool} → last ≡ last_of count → RowsTested (row_test last) token_words 0 token_slots ts [] ok i → token_slots ≤ i
+pub at_end : {ts : List ℕ} {count last : ℕ} {ok : Bool} → last ≡ last_of count → ok ≡ test_rows (row_test last) token_words 0 token_slots ts []
     → TokensListed ts count ok
-at_end {ts} e t l = record {
-  means = λ sids h. rows_done _ _ _ t l ∙ ap (λ (k : ℕ). test_rows (row_test k) token_words 0 token_slots ts []) (e ∙ ap last_of (sym h)) ∙ rows_listed sids token_slots ts;
+at_end {ts} e t = record {
+  means = λ sids h. t ∙ ap (λ (k : ℕ). test_rows (row_test k) token_words 0 token_slots ts []) (e ∙ ap last_of (sym h)) ∙ rows_listed sids token_slots ts;
 }

@@ -30,11 +30,7 @@ const OVER_TOP: u64 = TOP + FIRST - 1;
 fn last_of(count: u64) -> u64
     ensures { (result ≡ last_of count) × (result < 2 ^ 63) }
 {
-    if count <= WORD_32 {
-        OVER + count
-    } else {
-        OVER + WORD_32
-    }
+    OVER + count.min(WORD_32)
 }
 
 // Its highest bit is set where a word's lower half is below the lowest number that is given or above the last.
@@ -52,13 +48,7 @@ fn all_given(s: &[u64], last: u64) -> bool
     requires { last < 2 ^ 63 }
     ensures { result ≡ all (given_test last) s.now }
 {
-    let mut bad: u64 = 0;
-    let mut i: usize = 0;
-    while i < s.len() {
-        bad = bad | stray(s[i], last);
-        i += 1;
-    }
-    bad / TOP % 2 == 0
+    s.iter().fold(0, |bad, w| bad | stray(*w, last)) / TOP % 2 == 0
 }
 
 // A word's lower half is a number of the table.
@@ -73,10 +63,8 @@ fn each_listed(s: &[u64], last: u64) -> bool
     ensures { result ≡ all (word_test last) s.now }
 {
     let mut ok = true;
-    let mut i: usize = 0;
-    while i < s.len() {
-        ok = ok & is_listed(s[i], last);
-        i += 1;
+    for w in s {
+        ok &= is_listed(*w, last);
     }
     ok
 }
@@ -86,21 +74,14 @@ fn all_listed(s: &[u64], last: u64) -> bool
     requires { last < 2 ^ 63 }
     ensures { result ≡ all (word_test last) s.now }
 {
-    if all_given(s, last) {
-        return true;
-    }
-    each_listed(s, last)
+    all_given(s, last) || each_listed(s, last)
 }
 
 // A list's count, of no more than its row has.
 fn at_most(count: u64, most: usize) -> usize
     ensures { (result ≡ at_most most count) × (result ≤ most) }
 {
-    if count <= most as u64 {
-        count as usize
-    } else {
-        most
-    }
+    count.min(most as u64) as usize
 }
 
 // The user's, the groups' and the restricting SIDs; a free slot has none.
@@ -127,12 +108,8 @@ pub fn tokens_listed(tokens: &[u64], count: u64) -> bool
 {
     let last = last_of(count);
     let mut ok = true;
-    let mut i: usize = 0;
-    while i < TOKEN_SLOTS {
-        let at = i * TOKEN_WORDS;
-        let end = at + TOKEN_WORDS;
-        ok = ok & row_listed(&tokens[at..end], last);
-        i += 1;
+    for row in tokens.chunks_exact(TOKEN_WORDS) {
+        ok &= row_listed(row, last);
     }
     ok
 }

@@ -1,4 +1,5 @@
 pub mod Cuts
+pub mod Rows
 pub mod Truth
 pub mod Loops
 pub mod Counts

@@ -1,8 +1,8 @@
 -- Loops that test or count elements of a list and are not left early: what is left to do gives what the whole gives. Assumes nothing.
 use mathlib.Core.Path.{◌≡◌, refl, sym, ap, ◌∙◌}
 use mathlib.Core.Bool.{Bool, true, false, ◌&&◌, and-true, and_assoc}
-use mathlib.Core.List.{List}
-use Prim.Native.Nat.{ℕ, ◌+◌, ◌≤◌, ◌<◌, ◌*◌}
+use mathlib.Core.List.{List, [], ◌∷◌}
+use Prim.Native.Nat.{ℕ, zero, suc, ◌+◌, ◌≤◌, ◌<◌, ◌*◌}
 use native.Mathlib.Numerals.{add-one}
 use native.Mathlib.Omega.{arith}
 use borrow.Author.Tests.{eq-eqb, ne_eqb, eqb-true, eqb-false}
@@ -11,7 +11,9 @@ use lib.Dec.{eqb, leb}
 use lib.ListN.{length, drop, get_or, drop_of_length-le}
 use lib.Seq.{drop-cons}
 use Rattle.std.specs.Prelude.{if◌then◌else◌}
+use Rattle.std.specs.List.{fold}
 use Rattle.rules.specs.Basic.{all}
+use Rattle.lists.specs.Numbers.{InTurn}
 use Rattle.lists.specs.Tests.{one, count, tally, is_referred, refs_test, reference_slots}
 
 -- ---- every element passes
@@ -55,6 +57,18 @@ module _ {A : Type 0} (f : A → Bool) (d : A) (s : List A) where
   pub array_done : {n : ℕ} {ok : Bool} {i : ℕ} → TestedArray n ok i → n ≤ i → ok ≡ all f s
   array_done t h = tested_done t.tested (omega arith)
 
+-- ---- a list as the numbers that its values stand for
+
+module _ {X : Type 0} {number : X → ℕ} {numbers : List X → List ℕ} (turn : InTurn number numbers) where
+  pub numbers_long : (s : List X) → length (numbers s) ≡ length s
+  numbers_long [] = ap length turn.none
+  numbers_long (x ∷ s) = ap length (turn.more x s) ∙ ap suc (numbers_long s)
+
+  pub number_at : (s : List X) (i : ℕ) (y : X) → i < length s → y ≡ get_or s i y → number y ≡ get_or (numbers s) i 0
+  number_at [] i y h e = absurd (omega arith)
+  number_at (x ∷ s) zero y h e = ap number e ∙ sym (ap (λ l. get_or l 0 0) (turn.more x s))
+  number_at (x ∷ s) (suc i) y h e = number_at s i y (omega arith) e ∙ sym (ap (λ l. get_or l (suc i) 0) (turn.more x s))
+
 -- ---- what is bad is gathered by `|`: all is well where the test t of what was gathered passes
 
 pub or_none : (a b : ℕ) → eqb (bit_or a b) 0 ≡ (eqb a 0 && eqb b 0)
@@ -85,6 +99,25 @@ module _ (t : ℕ → Bool) (f : ℕ → Bool) where
   pub gathered_done : {s : List ℕ} {acc i : ℕ} → Gathered s acc i → length s ≤ i → t acc ≡ all f s
   gathered_done {s} h l = tested_done f 0 s h.tested l
 
+-- ---- the same by a fold
+
+module _ (t f : ℕ → Bool) (u : (a b : ℕ) → t (bit_or a b) ≡ (t a && t b)) (g : ℕ → ℕ) (v : (x : ℕ) → t (g x) ≡ f x) where
+  folded_from : (acc : ℕ) (s : List ℕ) → t (fold (λ bad x. bit_or bad (g x)) acc s) ≡ (t acc && all f s)
+  unfolding all
+  folded_from acc [] = sym (and-true (t acc))
+  folded_from acc (x ∷ s) =
+      folded_from (bit_or acc (g x)) s
+      ∙ ap (λ b. b && all f s) (u acc (g x) ∙ ap (λ b. t acc && b) (v x))
+      ∙ and_assoc (t acc) (f x) (all f s)
+
+  -- g of every element was gathered
+  pub folded : {r : ℕ} (s : List ℕ) → t 0 ≡ true → r ≡ fold (λ bad x. bit_or bad (g x)) 0 s → t r ≡ all f s
+  folded s z e = ap t e ∙ folded_from 0 s ∙ ap (λ b. b && all f s) z
+
+-- nothing but zeros was gathered
+pub none_folded : (f : ℕ → Bool) (g : ℕ → ℕ) → ((x : ℕ) → eqb (g x) 0 ≡ f x) → {r : ℕ} (s : List ℕ) → r ≡ fold (λ bad x. bit_or bad (g x)) 0 s → eqb r 0 ≡ all f s
+none_folded f g v s e = folded (λ n. eqb n 0) f or_none g v s refl e
+
 -- ---- a number is counted
 
 one_few : (x y : ℕ) → one x y ≤ 1
@@ -94,28 +127,27 @@ one_few x y = by (eqb x y)
     by true = omega arith
     by false = omega arith
 
-module _ (x : ℕ) (s : List ℕ) where
+module _ {X : Type 0} {number : X → ℕ} {numbers : List X → List ℕ} (turn : InTurn number numbers) (x : ℕ) (s : List X) where
   -- after i elements
   pub record Counting (n i : ℕ) : Type 0 where
     pub fits : i ≤ length s
     pub few : n ≤ i
-    pub rest : n + count x (drop i s) ≡ count x s
+    pub rest : n + count x (numbers (drop i s)) ≡ count x (numbers s)
 
-  pub counting_none : Counting 0 0
-  counting_none = record { fits = omega arith; few = omega arith; rest = omega arith }
-
-  pub counting_more : {n i r : ℕ} → Counting n i → i < length s → r ≡ one x (get_or s i 0) → Counting (n + r) (i + 1)
+  pub counting_more : {n m i : ℕ} (y : X) → Counting n i → i < length s → y ≡ get_or s i y → m ≡ n + one x (number y) → Counting m (i + 1)
   unfolding count
-  counting_more {n} {i} {r} t h e =
-      let cut : count x (drop i s) ≡ one x (get_or s i 0) + count x (drop (i + 1) s) =
-      ap (count x) (drop-cons s i 0 h) ∙ ap (λ (k : ℕ). one x (get_or s i 0) + count x (drop k s)) (sym (add-one i)) in
-      record { fits = omega arith; few = omega (arith, one_few x (get_or s i 0), t.few); rest = omega (arith, e, cut, t.rest) }
+  counting_more {n} {m} {i} y t h is e =
+      let cut : count x (numbers (drop i s)) ≡ one x (number y) + count x (numbers (drop (i + 1) s)) =
+      ap (λ l. count x (numbers l)) (drop-cons s i y h ∙ ap (λ z. z ∷ drop (suc i) s) (sym is))
+      ∙ ap (count x) (turn.more y (drop (suc i) s))
+      ∙ ap (λ (k : ℕ). one x (number y) + count x (numbers (drop k s))) (sym (add-one i)) in
+      record { fits = omega arith; few = omega (arith, one_few x (number y), t.few); rest = omega (arith, e, cut, t.rest) }
 
-  pub counting_done : {n i : ℕ} → Counting n i → length s ≤ i → n ≡ count x s
+  pub counting_done : {n i : ℕ} → Counting n i → length s ≤ i → (n ≡ count x (numbers s)) × (n ≤ length s)
   unfolding count
   counting_done {n} {i} t h =
-      let none : count x (drop i s) ≡ 0 = ap (count x) (drop_of_length-le s {i = i} h) in
-      omega (arith, none, t.rest)
+      let none : count x (numbers (drop i s)) ≡ 0 = ap (λ l. count x (numbers l)) (drop_of_length-le s {i = i} h) ∙ ap (count x) turn.none in
+      (omega (arith, none, t.rest), omega (arith, t.few, t.fits))
 
 -- ---- the numbers of s are counted in a list
 

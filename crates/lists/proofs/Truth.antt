@@ -103,8 +103,5 @@ all_below_lem k (x ∷ xs) h (suc n) = ap₂ (λ a b. a && b) (lt-ltb x k (h 0))
 -- ---- a branch on whether two numbers are equal
 
 module _ {A : Type 0} (x y : ℕ) (a b : A) where
-  pub if_equal : x ≡ y → a ≡ (if eqb x y then a else b)
-  if_equal e = sym (rw (eq-eqb x y e))
-
   pub if_other : (x ≡ y → ⊥) → b ≡ (if eqb x y then a else b)
   if_other e = sym (rw (ne_eqb x y e))

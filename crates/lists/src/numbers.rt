@@ -1,82 +1,104 @@
 // Tests by how often a number stands in a list. Numbers given are distinct where each stands among them once; and then all of another
 // list are among them where they stand in it, in all, as often as it is long. Handles' numbers have 32 bits, so that more of them are compared at a time.
-ghost use Rattle.std.specs.Prelude.{◌≡◌, ◌≤◌, length};
+ghost use Rattle.std.specs.Prelude.{◌≡◌, ℕ, ◌+◌, ◌-◌, ◌^◌, ◌<◌, ◌≤◌, List, length};
 ghost use Rattle.rules.specs.Basic.{all, distinct};
-ghost use Rattle.rules.specs.State.{token_slots, handle_slots};
+ghost use Rattle.rules.specs.State.{token_slots};
+ghost use Rattle.lists.specs.Numbers.{InTurn, itself};
 ghost use Rattle.lists.specs.Tests.{one, count, is_once, is_given, is_apart, reference_slots, refs_test};
 
-fn same(x: u64, y: u64) -> u64
-    ensures { (result ≡ one x y) × (result ≤ 1) }
-{
-    if x == y { 1 } else { 0 }
+// A number of 64 bits or of 32. How often it stands in a list is told by one of its own width, so that the compiler's vectors hold as many as they can.
+pub trait Number: Copy {
+    ghost number: { Self → ℕ };
+
+    ghost numbers: { List Self → List ℕ };
+
+    ghost in_turn: { InTurn number numbers };
+
+    // How long a list may be.
+    ghost most: { ℕ };
+
+    fn none() -> Self
+        ensures { number result ≡ 0 };
+
+    // One more than n where the two are the same.
+    fn counted(n: Self, x: Self, y: Self) -> Self
+        requires { number n < most }
+        ensures { number result ≡ number n + one (number x) (number y) };
+
+    fn wide(self) -> u64
+        ensures { result ≡ number self };
 }
 
-fn same_32(x: u32, y: u32) -> u32
-    ensures { (result ≡ one x y) × (result ≤ 1) }
-{
-    if x == y { 1 } else { 0 }
+impl Number for u64 {
+    ghost number = { λ x. x };
+
+    ghost numbers = { λ s. s };
+
+    ghost in_turn = { itself };
+
+    ghost most = { 2 ^ 64 - 1 };
+
+    fn none() -> u64 {
+        0
+    }
+
+    fn counted(n: u64, x: u64, y: u64) -> u64 {
+        n + u64::from(x == y)
+    }
+
+    fn wide(self) -> u64 {
+        self
+    }
 }
 
-fn count_of(x: u64, s: &[u64]) -> u64
-    ensures { (result ≡ count x s.now) × (result ≤ length s.now) }
+impl Number for u32 {
+    ghost number = { λ x. x };
+
+    ghost numbers = { λ s. s };
+
+    ghost in_turn = { itself };
+
+    ghost most = { 2 ^ 32 - 1 };
+
+    fn none() -> u32 {
+        0
+    }
+
+    fn counted(n: u32, x: u32, y: u32) -> u32 {
+        n + u32::from(x == y)
+    }
+
+    fn wide(self) -> u64 {
+        u64::from(self)
+    }
+}
+
+fn count_of<T: Number>(x: T, s: &[T]) -> T
+    requires { length s.now ≤ T.most }
+    ensures { (T.number result ≡ count (T.number x) (T.numbers s.now)) × (T.number result ≤ length s.now) }
 {
-    let mut n: u64 = 0;
-    let mut i: usize = 0;
-    while i < s.len() {
-        n = n + same(x, s[i]);
-        i += 1;
+    let mut n = T::none();
+    for y in s {
+        n = T::counted(n, x, *y);
     }
     n
 }
 
-fn count_of_32(x: u32, s: &[u32]) -> u32
-    requires { length s.now ≤ handle_slots }
-    ensures { (result ≡ count x s.now) × (result ≤ length s.now) }
+fn is_given<T: Number>(x: T, next: u64, s: &[T]) -> bool
+    requires { length s.now ≤ T.most }
+    ensures { result ≡ is_given next (T.numbers s.now) (T.number x) }
 {
-    let mut n: u32 = 0;
-    let mut i: usize = 0;
-    while i < s.len() {
-        n = n + same_32(x, s[i]);
-        i += 1;
-    }
-    n
-}
-
-fn is_given(x: u64, next: u64, s: &[u64]) -> bool
-    ensures { result ≡ is_given next s.now x }
-{
-    (x < next) & (count_of(x, s) == 1)
-}
-
-fn is_given_32(x: u32, next: u64, s: &[u32]) -> bool
-    requires { length s.now ≤ handle_slots }
-    ensures { result ≡ is_given next s.now x }
-{
-    ((x as u64) < next) & (count_of_32(x, s) == 1)
+    (x.wide() < next) & (count_of(x, s).wide() == 1)
 }
 
 // Each number is below the next, and none stands twice.
-pub fn all_given(s: &[u64], next: u64) -> bool
-    ensures { result ≡ all (is_given next s.now) s.now }
+pub fn all_given<T: Number>(s: &[T], next: u64) -> bool
+    requires { length s.now ≤ T.most }
+    ensures { result ≡ all (is_given next (T.numbers s.now)) (T.numbers s.now) }
 {
     let mut ok = true;
-    let mut i: usize = 0;
-    while i < s.len() {
-        ok = ok & is_given(s[i], next, s);
-        i += 1;
-    }
-    ok
-}
-
-pub fn all_given_32(s: &[u32], next: u64) -> bool
-    requires { length s.now ≤ handle_slots }
-    ensures { result ≡ all (is_given next s.now) s.now }
-{
-    let mut ok = true;
-    let mut i: usize = 0;
-    while i < s.len() {
-        ok = ok & is_given_32(s[i], next, s);
-        i += 1;
+    for x in s {
+        ok &= is_given(*x, next, s);
     }
     ok
 }
@@ -92,10 +114,8 @@ pub fn all_once(s: &[u64]) -> bool
     ensures { result ≡ distinct s.now }
 {
     let mut ok = true;
-    let mut i: usize = 0;
-    while i < s.len() {
-        ok = ok & is_once(s[i], s);
-        i += 1;
+    for x in s {
+        ok &= is_once(*x, s);
     }
     ok
 }
@@ -107,12 +127,10 @@ pub fn refs_valid(s: &[u64], referred: &[u64]) -> bool
 {
     let mut ok = true;
     let mut total: u64 = 0;
-    let mut i: usize = 0;
-    while i < s.len() {
-        let n = count_of(s[i], referred);
-        ok = ok & (1 <= n);
-        total = total + n;
-        i += 1;
+    for x in s {
+        let n = count_of(*x, referred);
+        ok &= 1 <= n;
+        total += n;
     }
     ok & (total == referred.len() as u64)
 }
@@ -128,10 +146,8 @@ pub fn all_apart(s: &[u64], from: &[u64]) -> bool
     ensures { result ≡ all (is_apart from.now) s.now }
 {
     let mut ok = true;
-    let mut i: usize = 0;
-    while i < s.len() {
-        ok = ok & is_apart(s[i], from);
-        i += 1;
+    for x in s {
+        ok &= is_apart(*x, from);
     }
     ok
 }

@@ -8,36 +8,18 @@ use table::WORD_32;
 pub fn zero_words(s: &[u64]) -> bool
     ensures { result ≡ all is_zero s.now }
 {
-    let mut bad: u64 = 0;
-    let mut i: usize = 0;
-    while i < s.len() {
-        bad = bad | s[i];
-        i += 1;
-    }
-    bad == 0
+    s.iter().fold(0, |bad, w| bad | *w) == 0
 }
 
 pub fn zero_bytes(s: &[u8]) -> bool
     ensures { result ≡ all is_zero s.now }
 {
-    let mut bad: u8 = 0;
-    let mut i: usize = 0;
-    while i < s.len() {
-        bad = bad | s[i];
-        i += 1;
-    }
-    bad == 0
+    s.iter().fold(0, |bad, b| bad | *b) == 0
 }
 
 // Every word is below 2^32.
 pub fn narrow_words(s: &[u64]) -> bool
     ensures { result ≡ all is_narrow s.now }
 {
-    let mut bad: u64 = 0;
-    let mut i: usize = 0;
-    while i < s.len() {
-        bad = bad | s[i] / WORD_32;
-        i += 1;
-    }
-    bad == 0
+    s.iter().fold(0, |bad, w| bad | *w / WORD_32) == 0
 }

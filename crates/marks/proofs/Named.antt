@@ -1,5 +1,5 @@
 -- The words of a set of indexes, bit by bit. Assumes nothing.
-use Prim.Native.Nat.{ℕ, zero, suc, ◌+◌, ◌*◌, ◌-◌, ◌/◌, ◌%◌, ◌^◌, ◌≤◌, ◌<◌}
+use Prim.Native.Nat.{ℕ, suc, ◌+◌, ◌*◌, ◌-◌, ◌/◌, ◌%◌, ◌^◌, ◌≤◌, ◌<◌}
 use native.Mathlib.Nat.{mod-lt}
 use native.Mathlib.Omega.{arith}
 use mathlib.Core.Path.{◌≡◌, sym, ap, ap₂, ◌∙◌}
@@ -12,10 +12,8 @@ use lib.Dec.{eqb, ltb}
 use lib.ListN.{length, get_or, set, get_or-eq_default}
 use lib.Seq.{get_or-set_same, get_or-set_other}
 use borrow.Author.Tests.{eqb-true, eqb-false, eq-eqb, ne_eqb, ltb-true, ltb-false}
-use Rattle.std.specs.Prelude.{if◌then◌else◌}
 use Rattle.rules.specs.Bits.{has}
-use Rattle.rules.specs.Token.{max_groups}
-use Rattle.rules.proofs.Bits.{has_or, has_power, has_none, has_low, has_high, or_same, same_bits, power_inside}
+use Rattle.rules.proofs.Bits.{has_or, has_power, has_none, has_low, has_high, same_bits, power_inside}
 use Rattle.rules.proofs.Logic.{either}
 use Rattle.marks.specs.Named.{joined}
 
@@ -37,7 +35,7 @@ module _ (high w n : ℕ) where
 at_place : (ws : List ℕ) {i j p q : ℕ} → i ≡ j → p ≡ q → has i (get_or ws p 0) ≡ has j (get_or ws q 0)
 at_place ws = ap₂ (λ (i p : ℕ). has i (get_or ws p 0))
 
-has_joined : (ws : List ℕ) (n : ℕ) → has n (joined ws) ≡ has (n % 64) (get_or ws (n / 64) 0)
+pub has_joined : (ws : List ℕ) (n : ℕ) → has n (joined ws) ≡ has (n % 64) (get_or ws (n / 64) 0)
 unfolding joined
 has_joined [] n = has_none n ∙ sym (has_none (n % 64))
 has_joined (w ∷ ws) n =
@@ -82,45 +80,13 @@ module _ (ws : List ℕ) (k : ℕ) (inside : k / 64 < length ws) where
       has_joined more n ∙ has_more n
       ∙ sym (has_or n (joined ws) (2 ^ k) ∙ ap₂ (λ (x y : Bool). x || y) (has_joined ws n) (has_power n k)))
 
--- ---- of four words
+-- ---- what the code does to the words
 
-module _ (a b c d k : ℕ) where
-  abbrev four : List ℕ
-  four = a ∷ b ∷ c ∷ d ∷ []
+pub not_past : (ws : List ℕ) (k : ℕ) → length ws ≤ k / 64 → has (k % 64) (get_or ws (k / 64) 0) ≡ false
+not_past ws k h = ap (has (k % 64)) (get_or-eq_default ws 0 h) ∙ has_none (k % 64)
 
-  -- the bit of k in word j
-  abbrev bit : ℕ → ℕ
-  bit j = if eqb (k / 64) j then 2 ^ (k % 64) else 0
+pub with_index : (ws : List ℕ) (k : ℕ) {b o : ℕ} → k / 64 < length ws → b ≡ 2 ^ (k % 64) % 2 ^ 64 → o ≡ bit_or (get_or ws (k / 64) 0) b
+    → joined (set ws (k / 64) o) ≡ bit_or (joined ws) (2 ^ k)
+with_index ws k h e f = rw (f, e, power_inside 64 (k % 64) (mod-lt k (omega arith))) (joined_more ws k h)
 
-  pub has_index : {r : Bool} {i w : ℕ} → k / 64 ≡ i → get_or four i 0 ≡ w → r ≡ has (k % 64) w → r ≡ has k (joined four)
-  has_index e g h = h ∙ ap (has (k % 64)) (sym g ∙ ap (λ (j : ℕ). get_or four j 0) (sym e)) ∙ sym (has_joined four k)
-
-  pub past_words : (k / 64 ≡ 0 → ⊥) → (k / 64 ≡ 1 → ⊥) → (k / 64 ≡ 2 → ⊥) → (k / 64 ≡ 3 → ⊥) → false ≡ has k (joined four)
-  past_words h0 h1 h2 h3 = sym (has_joined four k ∙ ap (has (k % 64)) (get_or-eq_default four 0 past) ∙ has_none (k % 64))
-    where
-      past : 4 ≤ k / 64
-      past = omega arith
-
-  or_none : (w : ℕ) → bit_or w 0 ≡ w
-  or_none w = same_bits (bit_or w 0) w (λ n. or_same n w 0 (has_none n))
-
-  spread : (i x : ℕ) → i < 4
-      → bit_or a (if eqb i 0 then x else 0) ∷ bit_or b (if eqb i 1 then x else 0) ∷ bit_or c (if eqb i 2 then x else 0) ∷ bit_or d (if eqb i 3 then x else 0) ∷ []
-      ≡ set four i (bit_or (get_or four i 0) x)
-  spread zero x h = simp or_none
-  spread (suc zero) x h = simp or_none
-  spread (suc (suc zero)) x h = simp or_none
-  spread (suc (suc (suc zero))) x h = simp or_none
-  spread (suc (suc (suc (suc i)))) x h = absurd (omega arith)
-
-  pub with_index : k < max_groups → {a' b' c' d' x y z w : ℕ} → x ≡ bit 0 → a' ≡ bit_or a x → y ≡ bit 1 → b' ≡ bit_or b y → z ≡ bit 2 → c' ≡ bit_or c z
-      → w ≡ bit 3 → d' ≡ bit_or d w → joined (a' ∷ b' ∷ c' ∷ d' ∷ []) ≡ bit_or (joined four) (2 ^ k)
-  with_index h ex ea ey eb ez ec ew ed =
-      rw (ea, eb, ec, ed, ex, ey, ez, ew) (ap joined (spread (k / 64) (2 ^ (k % 64)) (omega arith)) ∙ joined_more four k (omega arith))
-
--- the code's bit
-pub bit_here : (k word b : ℕ) → k / 64 ≡ word → b ≡ 2 ^ (k % 64) % 2 ^ 64 → b ≡ (if eqb (k / 64) word then 2 ^ (k % 64) else 0)
-bit_here k word b e h = h ∙ power_inside 64 (k % 64) (mod-lt k (omega arith)) ∙ rw (eq-eqb (k / 64) word e)
-
-pub bit_elsewhere : (k word : ℕ) → (k / 64 ≡ word → ⊥) → 0 ≡ (if eqb (k / 64) word then 2 ^ (k % 64) else 0)
-bit_elsewhere k word d = rw (ne_eqb (k / 64) word d)
+pub ruleset indexes = (has_joined, not_past, with_index)

@@ -7,8 +7,5 @@ unfoldable pub joined : List ℕ → ℕ
 joined [] = 0
 joined (w ∷ ws) = joined ws * 2 ^ 64 + w % 2 ^ 64
 
-abbrev pub words_of : Marks → List ℕ
-words_of m = m.first ∷ m.second ∷ m.third ∷ m.fourth ∷ []
-
 abbrev pub named : Marks → ℕ
-named m = joined (words_of m)
+named m = joined m.0

@@ -1,7 +1,7 @@
 // A set of groups' indexes in four words, by value: index i is bit i % 64 of word i / 64.
-#![tactic(auto)]
+#![tactic(auto, using(crate::proofs::Named::indexes))]
 
-ghost use Rattle.std.specs.Prelude.{◌≡◌, ◌/◌, ◌%◌, ◌^◌, ◌<◌, eqb, if◌then◌else◌};
+ghost use Rattle.std.specs.Prelude.{◌≡◌, ◌^◌, ◌<◌};
 ghost use Rattle.std.specs.Int.Bits.{bit_or};
 ghost use Rattle.rules.specs.Bits.{has};
 ghost use Rattle.rules.specs.Token.{max_groups};
@@ -11,47 +11,26 @@ use privilege::words;
 
 const WORD_BITS: u64 = 64;
 
-#[derive(Clone, Copy)]
-pub struct Marks {
-    pub first: u64,
-    pub second: u64,
-    pub third: u64,
-    pub fourth: u64,
-}
+const WORDS: usize = 4;
 
+#[derive(Clone, Copy, PartialEq, Eq)]
+pub struct Marks(pub [u64; WORDS]);
+
+// Functions and not methods: nothing calls them yet, and their names stay.
+
+#[tactic(auto, unfolding(crate::specs::Named::joined))]
 pub fn none() -> Marks
     ensures { named result ≡ 0 }
 {
-    Marks {
-        first: 0,
-        second: 0,
-        third: 0,
-        fourth: 0,
-    }
+    Marks([0; WORDS])
 }
 
 // An index past the words is not in the set.
 pub fn has(m: Marks, index: u64) -> bool
     ensures { result ≡ has index (named m) }
 {
-    let bit = index % WORD_BITS;
-    match index / WORD_BITS {
-        0 => words::has(m.first, bit),
-        1 => words::has(m.second, bit),
-        2 => words::has(m.third, bit),
-        3 => words::has(m.fourth, bit),
-        _ => false,
-    }
-}
-
-// An index's bit in its own word, and none in another.
-fn bit_in(word: u64, index: u64) -> u64
-    ensures { result ≡ (if eqb (index / 64) word then 2 ^ (index % 64) else 0) }
-{
-    if index / WORD_BITS == word {
-        return words::bit(index % WORD_BITS);
-    }
-    0
+    let word = m.0.get((index / WORD_BITS) as usize);
+    word.is_some_and(|&word| words::has(word, index % WORD_BITS))
 }
 
 // One index more.
@@ -59,10 +38,7 @@ pub fn with(m: Marks, index: u64) -> Marks
     requires { index < max_groups }
     ensures { named result ≡ bit_or (named m) (2 ^ index) }
 {
-    Marks {
-        first: words::with(m.first, bit_in(0, index)),
-        second: words::with(m.second, bit_in(1, index)),
-        third: words::with(m.third, bit_in(2, index)),
-        fourth: words::with(m.fourth, bit_in(3, index)),
-    }
+    let mut words = m.0;
+    words[(index / WORD_BITS) as usize] |= words::bit(index % WORD_BITS);
+    Marks(words)
 }

@@ -1,4 +1,3 @@
 pub mod Over
 pub mod Reading
-pub mod Cursors
 pub mod Fields

@@ -1,11 +1,10 @@
 -- Writing over the start of a list, and over a part of it that a function lends. Assumes nothing.
-use Prim.Native.Nat.{ℕ, zero, suc, ◌+◌, ◌-◌, ◌≤◌, ◌<◌}
+use Prim.Native.Nat.{ℕ, suc, ◌+◌, ◌-◌, ◌≤◌}
 use native.Mathlib.Nat.{le_of_suc-le-suc, not-suc-le-zero}
-use native.Mathlib.Numerals.{add-one}
 use native.Mathlib.Omega.{arith}
 use mathlib.Core.Path.{◌≡◌, refl, sym, ap, ◌∙◌}
 use mathlib.Core.List.{List, [], ◌∷◌, ◌++◌, append-nil}
-use lib.ListN.{length, take, drop, get_or, set, length-append, length-drop, drop_of_length-le}
+use lib.ListN.{length, take, drop, set, length-append, length-drop, drop_of_length-le}
 use borrow.Rule.Slice.PartMut.{put_mid}
 use borrow.Author.Rules.{part_to_end}
 use Rattle.number.specs.Over.{over}
@@ -49,18 +48,6 @@ unfolding over
 over_one b [] h = absurd (h refl)
 over_one b (y ∷ ys) h = refl
 
--- a loop stores the next element
-pub over_next : (xs ys : List ℕ) (i : ℕ) → i < length xs → set (over (take i xs) ys) i (get_or xs i 0) ≡ over (take (i + 1) xs) ys
-unfolding over
-over_next xs ys i h = go xs ys i h ∙ ap (λ (n : ℕ). over (take n xs) ys) (sym (add-one i))
-  where
-    go : (xs ys : List ℕ) (i : ℕ) → i < length xs → set (over (take i xs) ys) i (get_or xs i 0) ≡ over (take (suc i) xs) ys
-    go [] ys i h = absurd (not-suc-le-zero h)
-    go (x ∷ xs) [] zero h = refl
-    go (x ∷ xs) [] (suc i) h = refl
-    go (x ∷ xs) (y ∷ ys) zero h = refl
-    go (x ∷ xs) (y ∷ ys) (suc i) h = ap (λ (l : List ℕ). x ∷ l) (go xs ys i (le_of_suc-le-suc h))
-
 -- a part from a to the end was lent, and comes back as ys
 tail_back : (xs ys : List ℕ) (a : ℕ) → put_mid a (length xs - a) xs ys ≡ take a xs ++ ys
 tail_back xs ys a =
@@ -77,6 +64,13 @@ lent_length o a = ap length (part_to_end o a) ∙ length-drop a o
 -- two parts, one after the other: o holds ws over o₀, up to a, and zs goes into the part from a on
 pub onto : (ws zs o₀ o ys : List ℕ) (a : ℕ) → a ≡ length ws → o ≡ over ws o₀ → ys ≡ over zs (take (length o - a) (drop a o)) → put_mid a (length o - a) o ys ≡ over (ws ++ zs) o₀
 onto ws zs o₀ o ys a e f w = lent o zs ys a w ∙ rw (e, f) (over_onto ws zs o₀)
+
+-- and zs is copied into its own part
+pub copied : (ws zs o₀ o : List ℕ) (a : ℕ) → length (ws ++ zs) ≤ length o₀ → a ≡ length ws → o ≡ over ws o₀ → take a o ++ (zs ++ drop (a + length zs - a) (drop a o)) ≡ over (ws ++ zs) o₀
+copied ws zs o₀ o a fit e f =
+    ap (λ (n : ℕ). take a o ++ (zs ++ drop n (drop a o))) {x = a + length zs - a} {y = length zs} (omega arith)
+    ∙ ap (λ (l : List ℕ). take a o ++ l) (sym (over_fits zs (drop a o) (omega (arith, length-append ws zs, length-drop a o, over_same ws o o₀ f))))
+    ∙ rw (e, f) (over_onto ws zs o₀)
 
 module _ (ws zs o₀ : List ℕ) (fit : length (ws ++ zs) ≤ length o₀) where
   pub first_fits : length ws ≤ length o₀

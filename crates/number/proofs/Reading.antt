@@ -9,10 +9,10 @@ use lib.ListN.{length, get_or, drop, drop_of_length-le}
 use lib.Seq.{drop-cons}
 use borrow.Author.Tests.{lt-ltb, le-ltb, le-leb, lt-leb, eq-eqb, ne_eqb}
 use Rattle.rules.specs.Number.{Read, got, bad, longer, read_number}
-use Rattle.rules.specs.Request.{Reader, follow, give, times}
-use Rattle.number.specs.Rest.{rest, lost, after}
+use Rattle.rules.specs.Request.{Reader, follow, give, times, byte}
+use Rattle.std.specs.Prelude.{Option, Some, None}
+use Rattle.number.specs.Rest.{after}
 use Rattle.number.specs.declared.Number.{Number}
-use Rattle.number.specs.declared.Number.TheVariants as number
 use Rattle.number.specs.Meaning.{number_of, Bounds, NumberAt, LongerAt}
 use Rattle.rules.proofs.Numbers.{below_or}
 
@@ -30,7 +30,7 @@ longer_narrow limit b (got n later) k = ⊎_elim
     (below_or n 1)
 
 module _ (s : List ℕ) (at limit : ℕ) where
-  pub read_none : length s ≤ at → NumberAt s at limit number.Bad
+  pub read_none : length s ≤ at → NumberAt s at limit None
   unfolding read_number
   read_none h = record { means = rw (drop_of_length-le s h); bounds = tt }
 
@@ -38,11 +38,11 @@ module _ (s : List ℕ) (at limit : ℕ) where
     head : drop at s ≡ b ∷ drop (at + 1) s
     head = drop-cons s at 0 here ∙ ap (λ (n : ℕ). get_or s at 0 ∷ drop n s) (sym (add-one at)) ∙ ap (λ (x : ℕ). x ∷ drop (at + 1) s) (sym e)
 
-    pub read_large : b < 128 → limit < b → NumberAt s at limit number.Bad
+    pub read_large : b < 128 → limit < b → NumberAt s at limit None
     unfolding read_number
     read_large l k = record { means = rw head (simp (lt-ltb b 128 l, lt-leb b limit k)); bounds = tt }
 
-    pub read_one : b < 128 → b ≤ limit → NumberAt s at limit (number.Value b (at + 1))
+    pub read_one : b < 128 → b ≤ limit → NumberAt s at limit (Some (record { value = b; next = at + 1 }))
     unfolding read_number
     read_one l k = record { means = rw head (simp (lt-ltb b 128 l, le-leb b limit k)); bounds = (omega arith, omega arith, k) }
 
@@ -51,22 +51,22 @@ module _ (s : List ℕ) (at limit : ℕ) where
     unfolding read_number
     read_more l = rw head (simp (le-ltb b 128 l))
 
-    pub read_longer : (r : Number) → 128 ≤ b → LongerAt s (at + 1) limit b r → NumberAt s at limit r
-    read_longer number.Bad l f = record { means = f.means ∙ read_more l; bounds = tt }
-    read_longer (number.Value v q) l f = record { means = f.means ∙ read_more l; bounds = (omega (arith, f.bounds), f.bounds.1, f.bounds.2) }
+    pub read_longer : (r : Option Number) → 128 ≤ b → LongerAt s (at + 1) limit b r → NumberAt s at limit r
+    read_longer None l f = record { means = f.means ∙ read_more l; bounds = tt }
+    read_longer (Some n) l f = record { means = f.means ∙ read_more l; bounds = (omega (arith, f.bounds), f.bounds.1, f.bounds.2) }
 
 -- ---- what the reader's answer says, by its case
 
-module _ (s : List ℕ) (at limit : ℕ) (r : Number) (f : NumberAt s at limit r) where
-  pub is_bad : r ≡ number.Bad → bad ≡ read_number limit (drop at s)
+module _ (s : List ℕ) (at limit : ℕ) (r : Option Number) (f : NumberAt s at limit r) where
+  pub is_bad : r ≡ None → bad ≡ read_number limit (drop at s)
   is_bad g = ap (number_of s) (sym g) ∙ f.means
 
-  module _ (v q : ℕ) (g : r ≡ number.Value v q) where
+  module _ (v q : ℕ) (g : r ≡ Some (record { value = v; next = q })) where
     pub is_value : got v (drop q s) ≡ read_number limit (drop at s)
     is_value = ap (number_of s) (sym g) ∙ f.means
 
     pub bounds : (at < q) × (q ≤ length s) × (v ≤ limit)
-    bounds = subst (λ (x : Number). Bounds (length s) at limit x) g f.bounds
+    bounds = subst (λ (x : Option Number). Bounds (length s) at limit x) g f.bounds
 
 -- ---- what is left after a number of things
 
@@ -76,12 +76,12 @@ module _ {A : Type 0} (p : Reader A) where
   after_give a bad = refl
   after_give a (got xs bytes) = refl
 
-  pub times_none : (n : ℕ) (bytes : List ℕ) → n ≤ 0 → rest bytes ≡ after (times n p bytes)
+  pub times_none : (n : ℕ) (bytes : List ℕ) → n ≤ 0 → Some bytes ≡ after (times n p bytes)
   unfolding after times give
   times_none zero bytes h = refl
   times_none (suc n) bytes h = absurd (omega arith)
 
-  pub times_bad : (n : ℕ) (bytes : List ℕ) → 0 < n → bad ≡ p bytes → lost ≡ after (times n p bytes)
+  pub times_bad : (n : ℕ) (bytes : List ℕ) → 0 < n → bad ≡ p bytes → None ≡ after (times n p bytes)
   unfolding after times follow
   times_bad zero bytes h e = absurd (omega arith)
   times_bad (suc n) bytes h e = rw (sym e)
@@ -96,7 +96,7 @@ module _ {A : Type 0} (p : Reader A) where
 
 -- n bytes below 128 are n numbers of a field that takes them all
 pub short_numbers : (limit n : ℕ) (bytes : List ℕ) → 127 ≤ limit → n ≤ length bytes → ((k : ℕ) → k < n → get_or bytes k 0 < 128)
-    → rest (drop n bytes) ≡ after (times n (read_number limit) bytes)
+    → Some (drop n bytes) ≡ after (times n (read_number limit) bytes)
 unfolding read_number
 short_numbers limit zero bytes w h f = times_none (read_number limit) zero bytes (omega arith)
 short_numbers limit (suc n) [] w h f = absurd (omega arith)
@@ -104,3 +104,16 @@ short_numbers limit (suc n) (b ∷ bytes) w h f =
     let l : b < 128 = f 0 (omega arith) in
     short_numbers limit n bytes w (omega arith) (λ k q. f (suc k) (omega arith))
     ∙ times_suc (read_number limit) n (b ∷ bytes) bytes b (simp (lt-ltb b 128 l, le-leb b limit (omega arith)))
+
+-- n bytes are there, or too few
+pub bytes_there : (n : ℕ) (bytes : List ℕ) → n ≤ length bytes → Some (drop n bytes) ≡ after (times n byte bytes)
+unfolding byte
+bytes_there zero bytes h = times_none byte zero bytes (omega arith)
+bytes_there (suc n) [] h = absurd (omega arith)
+bytes_there (suc n) (b ∷ bytes) h = bytes_there n bytes (omega arith) ∙ times_suc byte n (b ∷ bytes) bytes b refl
+
+pub bytes_missing : (n : ℕ) (bytes : List ℕ) → length bytes < n → None ≡ after (times n byte bytes)
+unfolding byte
+bytes_missing zero bytes h = absurd (omega arith)
+bytes_missing (suc n) [] h = times_bad byte (suc n) [] (omega arith) refl
+bytes_missing (suc n) (b ∷ bytes) h = bytes_missing n bytes (omega arith) ∙ times_suc byte n (b ∷ bytes) bytes b refl

@@ -1,7 +1,7 @@
 // The answer's frame: the length of the body, then the body, which is numbers and then plain bytes.
 ghost use Rattle.std.specs.Prelude.{◌≡◌, ◌++◌, ◌*◌, ◌≤◌, length, drop};
 ghost use Rattle.rules.specs.Number.{encode_all};
-ghost use Rattle.number.specs.Over.{over, Wrote};
+ghost use Rattle.number.specs.Over.{Wrote};
 ghost use Rattle.number.specs.Answer.{max_fields, max_plain, body, answered};
 
 use crate::{size, write};
@@ -11,11 +11,9 @@ pub fn sizes(fields: &[u64]) -> usize
     requires { length fields.now ≤ max_fields }
     ensures { (result ≡ length (encode_all fields.now)) × (result ≤ 10 * max_fields) }
 {
-    let mut sum: usize = 0;
-    let mut i = 0;
-    while i < fields.len() {
-        sum += size(fields[i]);
-        i += 1;
+    let mut sum = 0;
+    for field in fields {
+        sum += size(*field);
     }
     sum
 }
@@ -25,25 +23,11 @@ fn write_all(fields: &[u64], out: &mut [u8]) -> usize
     requires { length (encode_all fields.now) ≤ length out.old }
     ensures { Wrote (encode_all fields.now) out.old out.new result }
 {
-    let mut at: usize = 0;
-    let mut i = 0;
-    while i < fields.len() {
-        at += write(fields[i], &mut out[at..]);
-        i += 1;
+    let mut at = 0;
+    for field in fields {
+        at += write(*field, &mut out[at..]);
     }
     at
-}
-
-// Writes plain bytes at the start of out.
-fn copy(plain: &[u8], out: &mut [u8])
-    requires { length plain.now ≤ length out.old }
-    ensures { out.new ≡ over plain.now out.old }
-{
-    let mut i = 0;
-    while i < plain.len() {
-        out[i] = plain[i];
-        i += 1;
-    }
 }
 
 // Writes a body at the start of out.
@@ -52,8 +36,9 @@ fn write_body(fields: &[u64], plain: &[u8], out: &mut [u8]) -> usize
     ensures { Wrote (body fields.now plain.now) out.old out.new result }
 {
     let at = write_all(fields, out);
-    copy(plain, &mut out[at..]);
-    at + plain.len()
+    let end = at + plain.len();
+    out[at..end].copy_from_slice(plain);
+    end
 }
 
 // Writes an answer's frame: the length, and the body into the part after it. The bytes after the frame stay.

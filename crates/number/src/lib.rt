@@ -1,20 +1,17 @@
 // Numbers on the line: seven bits a byte, low bits first, the top bit set where more follow; the shortest form only.
 #![tactic(auto)]
 
-ghost use Rattle.std.specs.Prelude.{◌≡◌, true, ℕ, ◌+◌, ◌/◌, ◌≤◌, ◌<◌, min, max, length, get_or};
+ghost use Rattle.std.specs.Prelude.{◌≡◌, true, ◌+◌, ◌/◌, ◌≤◌, ◌<◌, min, length, bit_or};
+ghost use Rattle.std.specs.List.{fold};
 ghost use Rattle.rules.specs.Number.{max64, encode};
 ghost use Rattle.number.specs.Over.{over};
 ghost use Rattle.number.specs.Meaning.{NumberAt, LongerAt, Joined, Passed};
 
-mod cursor;
 mod frame;
 mod reader;
 
-use cursor::left;
-pub use cursor::{Cursor, Field};
 pub use frame::{answer, sizes};
-use reader::byte_at;
-pub use reader::{bytes_at, number_at};
+pub use reader::{Reader, bytes_at, number_at};
 
 // The largest values of the fields' widths.
 pub const U16: u64 = 0xFFFF;
@@ -23,18 +20,11 @@ pub const U32: u64 = 0xFFFFFFFF;
 
 pub const U64: u64 = 0xFFFFFFFFFFFFFFFF;
 
-// What stands at a place: a value and the place after it, or no number of the field.
-#[derive(Clone, Copy)]
-pub enum Number {
-    Value { value: u64, next: usize },
-    Bad,
-}
-
-// The place after some numbers, or not so many numbers.
-#[derive(Clone, Copy)]
-pub enum Skipped {
-    To(usize),
-    Bad,
+// What stands at a place: a value, and the place after it.
+#[derive(Clone, Copy, PartialEq, Eq)]
+pub struct Number {
+    pub value: u64,
+    pub next: usize,
 }
 
 // How many bytes a number takes.
@@ -60,123 +50,87 @@ pub fn write(n: u64, out: &mut [u8]) -> usize
     }
 }
 
-fn wide(x: u8) -> u64
-    ensures { (result ≡ x) × (result < 256) }
+// A byte with its top bit set, before the rest of its number.
+fn joined(b: u64, rest: Number, limit: u64) -> Option<Number>
+    requires { (128 ≤ b) × (b < 256) × (rest.value ≤ max64 / 128) }
+    ensures { Joined b rest.value rest.next limit result }
 {
-    x as u64
-}
-
-// A byte with its top bit set, before the rest of its number, which ends at next.
-fn joined(b: u64, rest: u64, next: usize, limit: u64) -> Number
-    requires { (128 ≤ b) × (b < 256) × (rest ≤ max64 / 128) }
-    ensures { Joined b rest next limit result }
-{
-    let value = b - 128 + 128 * rest;
-    if (rest == 0) | (limit < value) {
-        return Number::Bad;
+    let value = b - 128 + 128 * rest.value;
+    if (rest.value == 0) | (limit < value) {
+        return None;
     }
-    Number::Value { value, next }
+    Some(Number { value, ..rest })
 }
 
 // A byte with its top bit set, before what stands at a place.
-fn longer(s: &[u8], from: usize, limit: u64, b: u64) -> Number
+fn longer(s: &[u8], from: usize, limit: u64, b: u64) -> Option<Number>
     requires { (128 ≤ b) × (b < 256) }
     ensures { LongerAt s.now from limit b result }
 {
     if limit < 128 {
-        return Number::Bad;
+        return None;
     }
-    if s.len() <= from {
-        return Number::Bad;
-    }
-    let d = wide(s[from]);
+    let d = u64::from(*s.get(from)?);
+    let next = from + 1;
     if d < 128 {
-        return joined(b, d, from + 1, limit);
+        return joined(b, Number { value: d, next }, limit);
     }
     // The call is lent a copy: s then stays in registers.
     let same = s;
-    match longer(same, from + 1, limit / 128, d) {
-        Number::Bad => Number::Bad,
-        Number::Value { value: rest, next } => joined(b, rest, next, limit),
-    }
+    let rest = longer(same, next, limit / 128, d)?;
+    joined(b, rest, limit)
 }
 
 // The number at a place, in a field whose largest value is the limit. Almost every number is one byte: it is answered first, in the caller's own code.
-fn read(s: &[u8], at: usize, limit: u64) -> Number
+fn read(s: &[u8], at: usize, limit: u64) -> Option<Number>
     ensures { NumberAt s.now at limit result }
 {
-    if s.len() <= at {
-        return Number::Bad;
-    }
-    let b = wide(s[at]);
-    if b < 128 {
-        if limit < b {
-            return Number::Bad;
+    let value = u64::from(*s.get(at)?);
+    let next = at + 1;
+    if value < 128 {
+        if limit < value {
+            return None;
         }
-        return Number::Value {
-            value: b,
-            next: at + 1,
-        };
+        return Some(Number { value, next });
     }
     // The call is lent a copy: s then stays in registers, and a one-byte number costs no store.
     let same = s;
-    longer(same, at + 1, limit, b)
+    longer(same, next, limit, value)
 }
 
-// The plain byte at a place.
-fn byte(s: &[u8], at: usize) -> u8
-    requires { at < length s.now }
-    ensures { result ≡ get_or s.now at 0 }
+// The bits of all bytes: none is above them. Each is looked at, with no early exit, so that the compiler takes many at once.
+fn bits(s: &[u8]) -> u8
+    ensures { result ≡ fold bit_or 0 s.now }
 {
-    s[at]
-}
-
-// The bits of all bytes from a place up to another: no byte there is above them.
-fn bits(s: &[u8], from: usize, end: usize) -> u8
-    requires { end ≤ max from (length s.now) }
-    ensures { (k : ℕ) → from ≤ k → k < end → get_or s.now k 0 ≤ result }
-{
-    let mut all: u8 = 0;
-    let mut i = from;
-    while i < end {
-        all = all | byte_at(s, i);
-        i += 1;
-    }
-    all
+    s.iter().fold(0, |all, b| all | *b)
 }
 
 // Whether count bytes from a place on are there and are numbers of the limit: none has its top bit set, and the field takes all such.
 fn short(s: &[u8], from: usize, count: u64, limit: u64) -> bool
-    ensures { result ≡ true → Passed s.now from count limit (Skipped.To (from + count)) }
+    ensures { result ≡ true → Passed s.now from count limit (Some (from + count)) }
 {
     if limit < 127 {
         return false;
     }
-    if left(s, from) < count {
+    let Some(rest) = s.get(from..) else {
+        return false;
+    };
+    if (rest.len() as u64) < count {
         return false;
     }
-    bits(s, from, from + count as usize) < 128
+    bits(&rest[..count as usize]) < 128
 }
 
 // The place after count numbers of a limit. A list of short ones is tested at once.
-pub fn skip(s: &[u8], from: usize, count: u64, limit: u64) -> Skipped
+pub fn skip(s: &[u8], from: usize, count: u64, limit: u64) -> Option<usize>
     ensures { Passed s.now from count limit result }
 {
     if short(s, from, count, limit) {
-        return Skipped::To(from + count as usize);
+        return Some(from + count as usize);
     }
     let mut at = from;
-    let mut left = count;
-    while 0 < left {
-        match number_at(s, at, limit) {
-            Number::Bad => {
-                return Skipped::Bad;
-            }
-            Number::Value { value: _, next } => {
-                at = next;
-                left -= 1;
-            }
-        }
+    for _ in 0..count {
+        at = number_at(s, at, limit)?.next;
     }
-    Skipped::To(at)
+    Some(at)
 }

@@ -1,8 +1,12 @@
 // The reader of a body: the lent bytes and its place (document 01: 'one reader that keeps the lent bytes and its place').
-ghost use Rattle.std.specs.Prelude.{◌≡◌, ◌+◌, ◌≤◌, ◌<◌, length, get_or, take, drop};
+ghost use Rattle.std.specs.Prelude.{◌≡◌, ◌+◌, ◌≤◌, length, take, drop};
+ghost use Rattle.rules.specs.Basic.{is_empty};
+ghost use Rattle.rules.specs.Number.{read_number};
+ghost use Rattle.rules.specs.Request.{times, byte};
 ghost use Rattle.number.specs.Meaning.{NumberAt};
+ghost use Rattle.number.specs.Reader.{rest_of, ReadOn, PassedOn};
 
-use crate::{Number, byte, read};
+use crate::{Number, read, skip};
 
 #[derive(Clone, Copy)]
 pub struct Reader<'a> {
@@ -17,34 +21,48 @@ impl<'a> Reader<'a> {
         Reader { body, at }
     }
 
-    // The number at the reader's place, in a field whose largest value is the limit.
-    pub fn number(self, limit: u64) -> Number
-        ensures { NumberAt self.entry.body.now self.entry.at limit result }
+    // A number of a field whose largest value is the limit.
+    pub fn number(&mut self, limit: u64) -> Option<u64>
+        ensures { ReadOn (read_number limit) limit self.old self.new result }
     {
-        read(self.body, self.at, limit)
+        let Number { value, next } = number_at(self.body, self.at, limit)?;
+        self.at = next;
+        Some(value)
     }
 
-    // The plain byte at the reader's place.
-    pub fn byte(self) -> u8
-        requires { self.at < length self.body.now }
-        ensures { result ≡ get_or self.entry.body.now self.entry.at 0 }
+    // Past count numbers of a limit.
+    pub fn numbers(&mut self, count: u64, limit: u64) -> Option<()>
+        ensures { PassedOn (times count (read_number limit)) self.old self.new result }
     {
-        byte(self.body, self.at)
+        self.at = skip(self.body, self.at, count, limit)?;
+        Some(())
+    }
+
+    // Past count bytes of any value.
+    pub fn bytes(&mut self, count: u64) -> Option<()>
+        ensures { PassedOn (times count byte) self.old self.new result }
+    {
+        let left = self.body.len().saturating_sub(self.at) as u64;
+        if left < count {
+            return None;
+        }
+        self.at += count as usize;
+        Some(())
+    }
+
+    // Whether nothing is left.
+    pub fn is_ended(&self) -> bool
+        ensures { result ≡ is_empty (rest_of self.now) }
+    {
+        self.body.len() <= self.at
     }
 }
 
-// Every field of a body is read through here.
-pub fn number_at(body: &[u8], at: usize, limit: u64) -> Number
+// The number at a place, in a field whose largest value is the limit. Every field of a body is read through here.
+pub fn number_at(body: &[u8], at: usize, limit: u64) -> Option<Number>
     ensures { NumberAt body.now at limit result }
 {
-    Reader::new(body, at).number(limit)
-}
-
-pub fn byte_at(body: &[u8], at: usize) -> u8
-    requires { at < length body.now }
-    ensures { result ≡ get_or body.now at 0 }
-{
-    Reader::new(body, at).byte()
+    read(body, at, limit)
 }
 
 // Plain bytes of a body are read through here: as many as out has room for.
@@ -52,9 +70,5 @@ pub fn bytes_at(body: &[u8], at: usize, out: &mut [u8])
     requires { at + length out.old ≤ length body.now }
     ensures { out.new ≡ take (length out.old) (drop at body.now) }
 {
-    let mut i: usize = 0;
-    while i < out.len() {
-        out[i] = byte_at(body, at + i);
-        i += 1;
-    }
+    out.copy_from_slice(&body[at..at + out.len()]);
 }

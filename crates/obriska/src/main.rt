@@ -1,18 +1,20 @@
 // The program (document 01: 'a thin program'): chunks from standard input, each a station, a length and so many bytes; answers to standard output.
 #![tactic(auto)]
 
-ghost use Rattle.std.specs.Prelude.{◌≡◌, ◌≤◌, true, length};
+ghost use Rattle.std.specs.Prelude.{◌≡◌, ◌≤◌, OnOk, is_ok, length};
 ghost use Rattle.std.specs.Io.KnownBytes.{Appends};
-ghost use Rattle.handle.specs.Words.{records_in};
-ghost use Rattle.valid.specs.Meaning.{memory_of};
-ghost use Rattle.obriska.specs.Serving.{buffer_bytes, Ready, Steps, Serves, Room, Refilled, Advances, Ends};
+ghost use Rattle.session.specs.Turns.{SameMemory, held};
+ghost use Rattle.obriska.specs.Serving.{buffer_bytes, Ready, Steps, Serves, Within, Room, Refilled, Advances, Ends};
 
 use calls::MAX_ANSWER;
 use control::layout::CONTROL_WORDS;
-use handle::Handles;
+use handle::{HANDLE_WORDS, Handles};
 use session::input::Next;
+use session::turn::Memory;
 use session::{input, turn};
+use std::io;
 use std::io::{Read, Write};
+use std::ops::ControlFlow;
 use valid::layout::{DACLS, PENDING, TOKENS};
 
 // The most chunks, so that the program ends.
@@ -21,81 +23,49 @@ const CHUNKS: u64 = 4294967295;
 // The size of the input's buffer.
 const BUFFER: usize = 65536;
 
-// After one feed: how much of the chunk is used, whether the answer was written, the handles.
+// Where the bytes held begin and end in the input's buffer.
 #[derive(Clone, Copy)]
-struct Step {
-    used: usize,
-    written: bool,
-    handles: Handles,
-}
-
-// After a chunk: whether all its answers were written, the handles.
-#[derive(Clone, Copy)]
-struct Served {
-    written: bool,
-    handles: Handles,
-}
-
-// After a chunk or a read: whether to go on, how many chunks it was, where the bytes held begin and end, the handles.
-#[derive(Clone, Copy)]
-struct Advanced {
-    going: bool,
-    chunks: u64,
+struct Span {
     from: usize,
     end: usize,
-    handles: Handles,
 }
 
-// After all chunks: whether the program stopped before it had taken the most, how many it took, the handles.
+impl Span {
+    const EMPTY: Span = Span { from: 0, end: 0 };
+}
+
+// After a chunk or a read: how many chunks it was, where the bytes held are.
 #[derive(Clone, Copy)]
-struct Ended {
-    stopped: bool,
+struct Advanced {
     chunks: u64,
-    handles: Handles,
+    span: Span,
 }
 
-// Writes an answer and flushes it, so that it is out before the next read: whether that went well.
-fn write_answer<W: Write>(writer: &mut W, answer: &[u8]) -> bool
-    ensures { result ≡ true → Appends (W.contents writer.old) (W.contents writer.new) answer.now }
+// Writes an answer and flushes it, so that it is out before the next read.
+fn write_answer<W: Write>(writer: &mut W, answer: &[u8]) -> io::Result<()>
+    ensures { OnOk result (Appends (W.contents writer.old) (W.contents writer.new) answer.now) }
 {
-    match writer.write_all(answer) {
-        Ok(()) => writer.flush().is_ok(),
-        Err(_) => false,
-    }
+    writer.write_all(answer)?;
+    writer.flush()
 }
 
-// Feeds a chunk once and writes the answer. A refused chunk is used up: it is skipped, and has no answer.
+// Feeds a chunk once and writes the answer: how much of the chunk is used. A refused chunk is used up: it is skipped, and has no answer.
 fn feed_once<W: Write>(
     writer: &mut W,
     station: u32,
     chunk: &[u8],
     answer: &mut [u8],
-    tokens: &mut [u64],
-    dacls: &mut [u8],
-    handles: Handles,
-    control: &mut [u64],
-    pending: &mut [u8],
-) -> Step
-    ensures { Steps station chunk.now (memory_of tokens.old dacls.old (records_in handles.words) control.old pending.old) (memory_of tokens.new dacls.new (records_in result.handles.words) control.new pending.new) (length answer.old) result }
+    memory: &mut Memory,
+) -> io::Result<usize>
+    ensures same { SameMemory memory.old memory.new }
+    ensures steps { Steps station chunk.now (held memory.old) (held memory.new) (length answer.old) result }
 {
-    let t = turn::feed(
-        station, chunk, answer, tokens, dacls, handles, control, pending,
-    );
-    let n = t.fed.answered;
-    let written = write_answer(writer, &answer[..n]);
-    let next = t.handles;
-    if t.fed.refusal != 0 {
-        return Step {
-            used: chunk.len(),
-            written,
-            handles: next,
-        };
+    let fed = turn::feed(memory, station, chunk, answer);
+    write_answer(writer, &answer[..fed.answered])?;
+    if fed.refusal != 0 {
+        return Ok(chunk.len());
     }
-    Step {
-        used: t.fed.used,
-        written,
-        handles: next,
-    }
+    Ok(fed.used)
 }
 
 // Feeds a chunk until it is used up, or an answer can't be written.
@@ -104,156 +74,94 @@ fn serve<W: Write>(
     station: u32,
     chunk: &[u8],
     answer: &mut [u8],
-    tokens: &mut [u64],
-    dacls: &mut [u8],
-    handles: Handles,
-    control: &mut [u64],
-    pending: &mut [u8],
-) -> Served
-    ensures { Serves station chunk.now (memory_of tokens.old dacls.old (records_in handles.words) control.old pending.old) (memory_of tokens.new dacls.new (records_in result.handles.words) control.new pending.new) (length answer.old) result.written }
+    memory: &mut Memory,
+) -> io::Result<()>
+    ensures same { SameMemory memory.old memory.new }
+    ensures serves { Serves station chunk.now (held memory.old) (held memory.new) (length answer.old) (is_ok result) }
 {
-    let mut held = handles;
-    let mut used: usize = 0;
-    while used < chunk.len() {
-        let t = feed_once(
-            writer,
-            station,
-            &chunk[used..],
-            answer,
-            tokens,
-            dacls,
-            held,
-            control,
-            pending,
-        );
-        held = t.handles;
-        if !t.written {
-            return Served {
-                written: false,
-                handles: held,
-            };
-        }
-        used += t.used;
+    let mut rest = chunk;
+    while !rest.is_empty() {
+        let used = feed_once(writer, station, rest, answer, memory)?;
+        rest = &rest[used..];
     }
-    Served {
-        written: true,
-        handles: held,
-    }
+    Ok(())
 }
 
-// The bytes held move to the front of the buffer, and one read puts what is there behind them. Their end; 0 where the input
-// has ended or the read failed.
-fn refill<R: Read>(reader: &mut R, buffer: &mut [u8], from: usize, end: usize) -> usize
-    requires { Room from end buffer.old }
-    ensures { Refilled from end buffer.old buffer.new result }
+// The bytes held move to the front of the buffer, and one read puts what is there behind them. Where they are then; none where the
+// input has ended or the read failed.
+fn refill<R: Read>(reader: &mut R, buffer: &mut [u8], span: Span) -> Option<Span>
+    requires { Room span buffer.old }
+    ensures { Refilled span buffer.old buffer.new result }
 {
-    let kept = input::keep(buffer, from, end);
+    let kept = input::keep(buffer, span.from, span.end);
     match reader.read(&mut buffer[kept..]) {
-        Ok(0) | Err(_) => 0,
-        Ok(n) => kept + n,
+        Ok(0) | Err(_) => None,
+        Ok(n) => Some(Span {
+            from: 0,
+            end: kept + n,
+        }),
     }
 }
 
-// One chunk of the bytes held is served, or more are read where none is whole.
+// One chunk of the bytes held is served, or more are read where none is whole. It breaks off where the program stops.
 fn advance<R: Read, W: Write>(
     reader: &mut R,
     writer: &mut W,
     buffer: &mut [u8],
     answer: &mut [u8],
-    tokens: &mut [u64],
-    dacls: &mut [u8],
-    handles: Handles,
-    control: &mut [u64],
-    pending: &mut [u8],
-    from: usize,
-    end: usize,
-) -> Advanced
-    requires { (from ≤ end) × (end ≤ length buffer.old) × (length buffer.old ≡ buffer_bytes) }
-    ensures { Advances from end buffer.old buffer.new (memory_of tokens.old dacls.old (records_in handles.words) control.old pending.old) (memory_of tokens.new dacls.new (records_in result.handles.words) control.new pending.new) (length answer.old) result }
+    memory: &mut Memory,
+    span: Span,
+) -> ControlFlow<Advanced, Advanced>
+    requires { Within span buffer.old × (length buffer.old ≡ buffer_bytes) }
+    ensures same { SameMemory memory.old memory.new }
+    ensures advances { Advances span buffer.old buffer.new (held memory.old) (held memory.new) (length answer.old) result }
 {
-    match input::next_chunk(&buffer[..end], from) {
-        Next::Stop => Advanced {
-            going: false,
-            chunks: 0,
-            from,
-            end,
-            handles,
-        },
-        Next::More => {
-            let filled = refill(reader, buffer, from, end);
-            Advanced {
-                going: 0 < filled,
+    match input::next_chunk(&buffer[..span.end], span.from) {
+        Next::Stop => ControlFlow::Break(Advanced { chunks: 0, span }),
+        Next::More => match refill(reader, buffer, span) {
+            Some(span) => ControlFlow::Continue(Advanced { chunks: 0, span }),
+            None => ControlFlow::Break(Advanced {
                 chunks: 0,
-                from: 0,
-                end: filled,
-                handles,
-            }
-        }
+                span: Span::EMPTY,
+            }),
+        },
         Next::Chunk { station, at, size } => {
             let to = at + size;
-            let s = serve(
-                writer,
-                station,
-                &buffer[at..to],
-                answer,
-                tokens,
-                dacls,
-                handles,
-                control,
-                pending,
-            );
-            let held = s.handles;
-            Advanced {
-                going: s.written,
-                chunks: 1,
-                from: to,
-                end,
-                handles: held,
+            let span = Span { from: to, ..span };
+            match serve(writer, station, &buffer[at..to], answer, memory) {
+                Ok(()) => ControlFlow::Continue(Advanced { chunks: 1, span }),
+                Err(_) => ControlFlow::Break(Advanced { chunks: 1, span }),
             }
         }
     }
 }
 
-// Chunk after chunk, until the input ends or is not what it should be, nothing more can be written, or the most are taken.
+// Chunk after chunk, until the input ends or is not what it should be, nothing more can be written, or the most are taken. How many chunks
+// it took where it stopped before the most.
 fn run<R: Read, W: Write>(
     reader: &mut R,
     writer: &mut W,
     buffer: &mut [u8],
     answer: &mut [u8],
-    tokens: &mut [u64],
-    dacls: &mut [u8],
-    handles: Handles,
-    control: &mut [u64],
-    pending: &mut [u8],
-) -> Ended
-    requires { Ready buffer.old answer.old (memory_of tokens.old dacls.old (records_in handles.words) control.old pending.old) }
-    ensures { Ends buffer.old buffer.new (memory_of tokens.old dacls.old (records_in handles.words) control.old pending.old) (memory_of tokens.new dacls.new (records_in result.handles.words) control.new pending.new) result }
+    memory: &mut Memory,
+) -> Option<u64>
+    requires { Ready buffer.old answer.old (held memory.old) }
+    ensures same { SameMemory memory.old memory.new }
+    ensures ends { Ends buffer.old buffer.new (held memory.old) (held memory.new) result }
 {
-    let mut held = handles;
     let mut chunks: u64 = 0;
-    let mut from: usize = 0;
-    let mut end: usize = 0;
+    let mut span = Span::EMPTY;
+    // Not every turn takes a chunk, so that no `for` counts them.
     while chunks < CHUNKS {
-        let a = advance(
-            reader, writer, buffer, answer, tokens, dacls, held, control, pending, from, end,
-        );
-        held = a.handles;
-        chunks += a.chunks;
-        if !a.going {
-            return Ended {
-                stopped: true,
-                chunks,
-                handles: held,
-            };
+        match advance(reader, writer, buffer, answer, memory, span) {
+            ControlFlow::Continue(next) => {
+                chunks += next.chunks;
+                span = next.span;
+            }
+            ControlFlow::Break(last) => return Some(chunks + last.chunks),
         }
-        from = a.from;
-        end = a.end;
     }
-    Ended {
-        stopped: false,
-        chunks,
-        handles: held,
-    }
+    None
 }
 
 fn main(rt: HostRuntime) {
@@ -261,20 +169,21 @@ fn main(rt: HostRuntime) {
     let mut writer = rt.stdout();
     let mut buffer = [0u8; BUFFER];
     let mut answer = [0u8; MAX_ANSWER];
-    let mut tokens = [0u64; TOKENS];
-    let mut dacls = [0u8; DACLS];
-    let mut control = [0u64; CONTROL_WORDS];
-    let mut pending = [0u8; PENDING];
-    let handles = turn::start(&mut tokens, &mut dacls, &mut control, &mut pending);
+    let mut memory = Memory {
+        tokens: &mut [0u64; TOKENS],
+        dacls: &mut [0u8; DACLS],
+        handles: Handles {
+            words: [0; HANDLE_WORDS],
+        },
+        control: &mut [0u64; CONTROL_WORDS],
+        pending: &mut [0u8; PENDING],
+    };
+    turn::start(&mut memory);
     run(
         &mut reader,
         &mut writer,
         &mut buffer,
         &mut answer,
-        &mut tokens,
-        &mut dacls,
-        handles,
-        &mut control,
-        &mut pending,
+        &mut memory,
     );
 }

@@ -1,4 +1,6 @@
 // The privileges of a token: four words, privilege n at bit n.
+#![tactic(auto, unfolding(rules::specs::Privileges::exists, rules::specs::Privileges::is_enabled, rules::specs::Privileges::enable, rules::specs::Privileges::disable, rules::specs::Privileges::remove, rules::specs::Privileges::reset, rules::specs::Privileges::mark_used, rules::specs::Privileges::granted, rules::specs::AdjustPrivileges::valid_entry, rules::specs::AdjustPrivileges::applied))]
+
 ghost use Rattle.std.specs.Prelude.{◌≡◌, ◌<◌};
 ghost use Rattle.rules.specs.Privileges.{exists, is_enabled, enable, disable, remove, reset, mark_used, granted};
 ghost use Rattle.rules.specs.AdjustPrivileges.{valid_entry, applied};
@@ -6,7 +8,7 @@ ghost use Rattle.privilege.specs.Meaning.{privileges_of, entry_of};
 
 use crate::words;
 
-#[derive(Clone, Copy)]
+#[derive(Clone, Copy, PartialEq, Eq)]
 pub struct Privileges {
     pub present: u64,
     pub enabled: u64,
@@ -29,7 +31,7 @@ impl Privileges {
     pub fn exists(n: u64) -> bool
         ensures { result ≡ exists n }
     {
-        (2 <= n) & (n <= 36)
+        (2..=36).contains(&n)
     }
 
     // Privilege n is enabled.
@@ -70,12 +72,17 @@ impl Privileges {
         self
     }
 
-    // An entry of request 5 is good: 0 disable, 2 enable, 4 remove; an absent privilege is not enabled.
+    // An entry of request 5 is good: 0 disable, 2 enable, 4 remove; an absent privilege is not enabled. What is asked stays a number, as it
+    // comes with the request: both functions answer for any.
     pub fn may_adjust(self, n: u64, value: u64) -> bool
         ensures { result ≡ valid_entry (privileges_of self) (entry_of n value) }
     {
         Privileges::exists(n)
-            & ((value == 0) | (value == 4) | (value == 2) & words::has(self.present, n))
+            && match value {
+                0 | 4 => true,
+                2 => words::has(self.present, n),
+                _ => false,
+            }
     }
 
     // A good entry is made.
@@ -103,9 +110,9 @@ impl Privileges {
         ensures { privileges_of result ≡ granted present by_default }
     {
         Privileges {
-            present: present,
+            present,
             enabled: by_default,
-            by_default: by_default,
+            by_default,
             used: 0,
         }
     }

@@ -1,9 +1,11 @@
-// Words of 64 bits as sets of bits.
+// Words of 64 bits as sets of bits, in the words of the rules.
+#![tactic(auto, using(crate::proofs::Bits64::words), unfolding(rules::specs::Bits::has, rules::specs::Bits::within))]
+
 ghost use Rattle.std.specs.Prelude.{◌≡◌, ◌%◌, ◌^◌};
 ghost use Rattle.std.specs.Int.Bits.{bit_or};
 ghost use Rattle.rules.specs.Bits.{has, without, within};
 
-// Bit n alone, and from 64 on no bit.
+// Bit n alone, and from 64 on no bit. Not by `checked_shl`, which takes a u32.
 pub fn bit(n: u64) -> u64
     ensures { result ≡ 2 ^ n % 2 ^ 64 }
 {
@@ -14,7 +16,7 @@ pub fn bit(n: u64) -> u64
 pub fn has(w: u64, n: u64) -> bool
     ensures { result ≡ has n w }
 {
-    if n < 64 { (w >> n) % 2 == 1 } else { false }
+    n < 64 && (w >> n) % 2 == 1
 }
 
 // The bits of a and those of b.

@@ -1,150 +1,112 @@
 -- Request 4: how it ends. Assumes nothing.
-use Prim.Native.Nat.{ℕ, zero, suc, ◌+◌, ◌*◌, ◌-◌, ◌≤◌, ◌<◌}
-use native.Mathlib.Omega.{arith}
-use mathlib.Core.Path.{◌≡◌, refl, sym, ap, ◌∙◌}
-use mathlib.Core.Bool.{true, false, not, ◌&&◌}
-use mathlib.Core.List.{List, [], ◌∷◌, map}
-use lib.Dec.{eqb, leb}
-use lib.ListN.{length, take, drop, get_or}
-use borrow.Author.Tests.{not-true, not-false, le-leb, lt-leb}
-use Rattle.table.specs.Table.{nth_record, part_at, record_flat}
-use Rattle.table.specs.Rows.{rows_at}
+use Rattle.std.proofs.Common.{ℕ, ◌≤◌, ◌<◌, ◌≡◌, refl, sym, ap, ap₂, ◌∙◌, true, ◌&&◌, List, ◌∷◌, length}
+use Rattle.std.specs.Prelude.{Ok, Err, leb}
+use borrow.Author.Tests.{le-leb, lt-leb}
 use Rattle.rules.specs.Mask as mask
-use Rattle.rules.specs.Refusal.{refusal, capacity_below}
-use Rattle.rules.specs.Token as Rules
-use Rattle.rules.specs.Token.{max_dacl}
-use Rattle.rules.specs.Table.{Slot, free, live, is_live, or_else, found, lives}
-use Rattle.rules.specs.Growth.{Mem}
-use Rattle.rules.specs.Index.{found_index}
-use Rattle.rules.specs.Head as Head
-use Rattle.rules.specs.Memory.{token_words, slot_dacl, slot_at, token_at}
-use Rattle.rules.specs.Valid.{valid}
+use Rattle.rules.specs.Refusal.{bad_field, capacity_below}
+use Rattle.rules.specs.Handle as handles
+use Rattle.rules.specs.Token.{Token}
+use Rattle.rules.specs.Memory.{dacl_row, token_at}
+use Rattle.rules.specs.Valid.{valid, token_valid}
 use Rattle.rules.specs.State as state
-use Rattle.rules.specs.State.{State, token_slots, no_token, number_of, is_numbered}
+use Rattle.rules.specs.State.{State, token_slots}
 use Rattle.rules.specs.Query.{query, class_bytes}
-use Rattle.rules.specs.Decision.{carried_out}
-use Rattle.rules.proofs.Logic.{not_both, mem_by}
-use Rattle.rules.proofs.Facts.{valid_facts, facts_token}
-use Rattle.rules.proofs.Index.{found_at}
-use Rattle.rules.proofs.Tables.{found_some}
-use Rattle.rules.proofs.Steps.{is_live_lem}
-use Rattle.rules.proofs.Rows.{length_slot_dacl}
+use Rattle.rules.specs.Decision.{Decision, need◌else◌then◌, success, carried_out}
+use Rattle.rules.proofs.Rows.{token_back, length_dacl_row}
 use Rattle.handle.specs.declared.Handle.{Handle}
-use Rattle.state.specs.Parts.{TokensIn}
-use Rattle.state.specs.TokenCalls.{FoundAt}
+use Rattle.state.specs.TokenCalls.{lent}
 use Rattle.state.specs.ReleaseFacts.{PartsIn}
-use Rattle.state.proofs.Slots.{live_or}
-use Rattle.state.proofs.TokenLooks.{slots_read, slots_long}
-use Rattle.answer.specs.declared.Answer.{Answer}
+use Rattle.state.proofs.InPlace.{in_slot, lent_row}
 use Rattle.answer.specs.declared.Answer.TheVariants as answers
+use Rattle.answer.specs.declared.class.Class.{Class}
+use Rattle.answer.specs.declared.class.Class.TheVariants as class
+use Rattle.answer.specs.declared.class.Single.TheVariants as single
+use Rattle.answer.specs.declared.refusal.Refusal.{Refusal}
+use Rattle.answer.specs.declared.refusal.Refusal.TheVariants as refusal
+use Rattle.answer.specs.Class.{class_number, Decodes}
 use Rattle.answer.specs.Classes.{RowCounted}
-use Rattle.answer.specs.Answer.{token_in, answer_of}
-use Rattle.decide.specs.declared.outcome.Outcome.{Outcome}
-use Rattle.decide.specs.Carried.{Ends, Carried}
-use Rattle.decide.proofs.Deciding.{ends_with}
-use Rattle.decide.proofs.LookupLaws.{LookedUp, looked_up, looked_up_found, handle_refuses}
-use Rattle.query.specs.Query.{class_decision, ClassAnswered}
+use Rattle.answer.specs.Answer.{token_in}
+use Rattle.decide.specs.declared.located.Located.{Located}
+use Rattle.decide.specs.Carried.{ends, Carried}
+use Rattle.decide.specs.Located.{LocatedBy}
+use Rattle.decide.proofs.Deciding.{refuses, ends_with}
+use Rattle.decide.proofs.Locating.{locating_refuses}
+use Rattle.decide.proofs.LookupLaws.{goes_on}
 
--- ---- the slot of a live token
+-- the rule, once the handle is found
+abbrev class_decision : ℕ → ℕ → State → Token → Decision
+class_decision class capacity σ t =
+    need leb 1 class && leb class 13 else bad_field then
+    need leb (length (class_bytes t class)) capacity else capacity_below (length (class_bytes t class)) then
+    success σ (class_bytes t class)
 
-live_inside : {A : Type 0} (ps : List (Slot A)) (i : ℕ) → is_live (get_or ps i free) ≡ true → i < length ps
-unfolding is_live
-live_inside [] i h = absurd (not_both h refl)
-live_inside (p ∷ ps) zero h = omega arith
-live_inside (p ∷ ps) (suc i) h = let k = live_inside ps i h in omega arith
+-- every class has one of document 01's numbers
+is_class : (c : Class) → (leb 1 (class_number c) && leb (class_number c) 13) ≡ true
+is_class (class.Single single.User) = refl
+is_class (class.Single single.Owner) = refl
+is_class (class.Single single.PrimaryGroup) = refl
+is_class (class.Single single.Type) = refl
+is_class (class.Single single.Level) = refl
+is_class (class.Single single.Scope) = refl
+is_class (class.Single single.Elevation) = refl
+is_class (class.Single single.Integrity) = refl
+is_class class.Groups = refl
+is_class class.Privileges = refl
+is_class class.Dacl = refl
+is_class class.Statistics = refl
+is_class class.Restricting = refl
 
-record SlotOf (σ : State) (n i : ℕ) (ts ds : List ℕ) : Type 0 where
-  inside : i < token_slots
-  token : token_in ts ds i ≡ state.token_of σ n
-
-slot_of : (σ : State) (n i : ℕ) (ts ds : List ℕ) → valid σ ≡ true → TokensIn σ ts ds → FoundAt n ts i
-    → Mem n (map number_of (lives σ.tokens.slots)) → SlotOf σ n i ts ds
-unfolding state.token_of is_numbered number_of slot_at or_else is_live
-slot_of σ n i ts ds v k at m = go (found_some number_of n σ.tokens.slots m)
-  where
-    go : (t : Rules.Token) × (found (λ (x : Rules.Token). eqb (number_of x) n) σ.tokens.slots ≡ live t) → SlotOf σ n i ts ds
-    go (t, e) =
-        let ps = σ.tokens.slots in
-        let read = slots_read v k in
-        let w : i ≡ found_index (is_numbered n) ps = at ds ∙ ap (found_index (is_numbered n)) read in
-        let there : get_or ps i free ≡ live t = ap (λ (j : ℕ). get_or ps j free) w ∙ sym (found_at (is_numbered n) ps) ∙ e in
-        let long = slots_long σ v in
-        let l : i < length ps = live_inside ps i (ap is_live there) in
-        let in16 : i < token_slots = omega arith in
-        let row : live t ≡ slot_at (nth_record token_words i ts) (nth_record max_dacl i ds) =
-        sym there ∙ ap (λ (qs : List (Slot Rules.Token)). get_or qs i free) (sym read) ∙ rows_at slot_at token_words max_dacl free token_slots i ts ds in16 in
-        record {
-          inside = in16;
-          token = live_or no_token (eqb (get_or (nth_record token_words i ts) Head.number 0) 0) row refl ∙ ap (or_else no_token) (sym e);
-        }
-
--- ---- a class of the token
-
-module _ (n class capacity : ℕ) {ts : List ℕ} where
-  pub class_unknown : not (leb 1 class && leb class 13) ≡ true → ClassAnswered n class capacity ts (answers.Refused 5)
-  unfolding carried_out refusal
-  class_unknown h = record { answer = λ σ v ds i m. rw (not-true (leb 1 class && leb class 13) h); fit = λ σ v ds i m. omega arith }
-
-  -- a live token is in a slot
-  pub class_missing : {slot : ℕ} → FoundAt n ts slot → token_slots ≤ slot → ClassAnswered n class capacity ts (answers.Refused 5)
-  class_missing {slot} at l = record {
-    answer = λ σ v ds i m. absurd (let s = (slot_of σ n slot ts ds v i at m).inside in omega arith);
-    fit = λ σ v ds i m. omega arith;
-  }
-
-  module _ {slot size : ℕ} (h : not (leb 1 class && leb class 13) ≡ false) (at : FoundAt n ts slot)
-      (c : RowCounted (take (slot * token_words + token_words - slot * token_words) (drop (slot * token_words) ts)) class size) where
-    size_is : (σ : State) (v : valid σ ≡ true) (ds : List ℕ) (i : TokensIn σ ts ds) → Mem n (map number_of (lives σ.tokens.slots))
-        → size ≡ length (class_bytes (state.token_of σ n) class)
-    size_is σ v ds i m =
-        let s = slot_of σ n slot ts ds v i at m in
-        let ps = σ.tokens.slots in
-        let in_dacls : slot < length ps = let l = slots_long σ v in let k = s.inside in omega arith in
-        let long : length (nth_record max_dacl slot ds) ≡ max_dacl =
-        ap length (ap (nth_record max_dacl slot) i.bytes ∙ record_flat slot_dacl max_dacl length_slot_dacl slot ps free in_dacls)
-        ∙ length_slot_dacl (get_or ps slot free) in
-        c.counted (nth_record max_dacl slot ds) long
-        ∙ ap (λ (ws : List ℕ). length (class_bytes (token_at ws (nth_record max_dacl slot ds)) class)) (part_at token_words slot ts)
-        ∙ ap (λ (x : Rules.Token). length (class_bytes x class)) s.token
-
-    pub class_above : capacity < size → ClassAnswered n class capacity ts (answers.TooSmall size)
-    unfolding carried_out capacity_below
-    class_above l = record {
-      answer = λ σ v ds i m. rw (not-false (leb 1 class && leb class 13) h, sym (size_is σ v ds i m), lt-leb size capacity l);
-      fit = λ σ v ds i m. tt;
-    }
-
-    pub class_given : size ≤ capacity → ClassAnswered n class capacity ts (answers.Class slot class)
-    unfolding carried_out
-    class_given l = record {
-      answer = λ σ v ds i m.
-          rw (not-false (leb 1 class && leb class 13) h, sym (size_is σ v ds i m), le-leb size capacity l, (slot_of σ n slot ts ds v i at m).token);
-      fit = λ σ v ds i m.
-          let s = slot_of σ n slot ts ds v i at m in
-          (s.inside, rw s.token (facts_token (state.token_of σ n) ((valid_facts σ v).loose.each_token (state.token_of σ n) (is_live_lem σ n m).was)));
-    }
-
--- ---- the request
-
-module _ {s n : ℕ} (class capacity : ℕ) {hs : List Handle} {cs ts ds : List ℕ} {h : Handle} {k : ℕ} (l : LookedUp s n mask.query hs h k) where
-  pub query_refused : {r : Outcome} → (k ≡ 0 → ⊥) → Ends (answers.Refused k) r
-      → Carried (λ σ. query σ s n class capacity) ts ds hs cs ts ds cs r
+module _ (s n class capacity : ℕ) (hs : List Handle) (cs ts ds : List ℕ) where
+  pub not_located : {e : Refusal} → LocatedBy s n mask.query hs ts (Err e) → Carried (λ σ. query σ s n class capacity) ts ds hs cs ts ds cs (Err e)
   unfolding query
-  query_refused {r} f e = handle_refuses l (λ σ h x. class_decision class capacity σ x) r e f
+  not_located l = locating_refuses l (λ σ h t. class_decision class capacity σ t)
 
-  module _ {a : Answer} (found : k ≡ 0) (c : ClassAnswered h.token class capacity ts a) where
-    is_there : (σ : State) → valid σ ≡ true → PartsIn σ ts ds hs cs → Mem h.token (map number_of (lives σ.tokens.slots))
-    unfolding number_of
-    is_there σ v p =
-        let i = (looked_up_found l σ v p.handles found).token in
-        mem_by number_of (sym i.number) i.was
-
+  module _ (x : Located) (g : LocatedBy s n mask.query hs ts (Ok x)) where
+    -- what the token of the handle says
     decided : (σ : State) → valid σ ≡ true → PartsIn σ ts ds hs cs
-        → carried_out σ (query σ s n class capacity) ≡ record { state = σ; answer = answer_of ts ds a }
+        → carried_out σ (query σ s n class capacity) ≡ carried_out σ (class_decision class capacity σ (state.token_of σ x.handle.token))
     unfolding query
     decided σ v p =
-        looked_up l σ v p.handles (λ h x. class_decision class capacity σ x) found
-        ∙ c.answer σ v ds p.tokens (is_there σ v p)
+        goes_on σ s n mask.query (λ h t. class_decision class capacity σ t) (g.refusal σ v p.handles p.tokens)
+        ∙ ap (λ (h : handles.Handle). carried_out σ (class_decision class capacity σ (state.token_of σ h.token))) (sym (g.there.handle σ v p.handles))
 
-    pub query_answered : {r : Outcome} → Ends a r → Carried (λ σ. query σ s n class capacity) ts ds hs cs ts ds cs r
-    query_answered {r} e = ends_with a r e (λ σ v p. c.fit σ v ds p.tokens (is_there σ v p)) (λ σ v p. rw (decided σ v p) p) (λ σ v p. rw (decided σ v p))
+    pub no_class : {e : Refusal} → Decodes class (Err e) → Carried (λ σ. query σ s n class capacity) ts ds hs cs ts ds cs (Err e)
+    unfolding carried_out
+    no_class {e} d = refuses e (λ σ v p. decided σ v p ∙ rw (d.0, d.1))
+
+    module _ (c : Class) (d : Decodes class (Ok c)) (size : ℕ) (counted : RowCounted (lent x.slot ts) (class_number c) size) where
+      known : (leb 1 class && leb class 13) ≡ true
+      known = ap (λ (k : ℕ). leb 1 k && leb k 13) (sym d) ∙ is_class c
+
+      module _ (σ : State) (v : valid σ ≡ true) (p : PartsIn σ ts ds hs cs) where
+        abbrev own : Token
+        own = state.token_of σ x.handle.token
+
+        own_valid : token_valid own ≡ true
+        own_valid = (in_slot x.handle.token g.there.slot v p.tokens g.there.inside).is_valid
+
+        size_is : size ≡ length (class_bytes own class)
+        size_is =
+            counted.counted (dacl_row own) (length_dacl_row own)
+            ∙ ap (λ (ws : List ℕ). length (class_bytes (token_at ws (dacl_row own)) (class_number c))) (lent_row x.handle.token g.there.slot v p.tokens g.there.inside)
+            ∙ ap₂ (λ (t : Token) (k : ℕ). length (class_bytes t k)) (token_back own own_valid) d
+
+        token_is : token_in ts ds x.slot ≡ own
+        token_is =
+            let i = in_slot x.handle.token g.there.slot v p.tokens g.there.inside in
+            ap₂ token_at i.words i.bytes ∙ token_back own own_valid
+
+      pub too_small : capacity < size → Carried (λ σ. query σ s n class capacity) ts ds hs cs ts ds cs (Err (refusal.CapacityBelow size))
+      unfolding carried_out
+      too_small l = refuses (refusal.CapacityBelow size) (λ σ v p. decided σ v p ∙ rw (known, sym (size_is σ v p), lt-leb size capacity l))
+
+      pub class_given : size ≤ capacity → Carried (λ σ. query σ s n class capacity) ts ds hs cs ts ds cs (Ok (ends (answers.Class x.slot c)))
+      unfolding carried_out
+      class_given l = ends_with (answers.Class x.slot c)
+          (λ σ v p. (g.there.inside, rw (token_is σ v p) (own_valid σ v p)))
+          (λ σ v p. rw (given σ v p) p)
+          (λ σ v p. rw (given σ v p, token_is σ v p, d))
+        where
+          given : (σ : State) → valid σ ≡ true → PartsIn σ ts ds hs cs
+              → carried_out σ (query σ s n class capacity) ≡ record { state = σ; answer = 0 ∷ class_bytes (state.token_of σ x.handle.token) class }
+          given σ v p = decided σ v p ∙ rw (known, sym (size_is σ v p), le-leb size capacity l)

@@ -3,7 +3,7 @@ use mathlib.Core.Path.{◌≡◌, refl, sym, ap, ap₂, ◌∙◌}
 use mathlib.Core.Bool.{Bool, true, false, not, ◌&&◌, ◌||◌, and_assoc, and_comm}
 use mathlib.Core.List.{List, [], ◌∷◌, ◌++◌, map}
 use Prim.Native.Nat.{ℕ, zero, suc, ◌%◌}
-use borrow.Author.Tests.{eq-eqb, ne_eqb, eqb-true}
+use borrow.Author.Tests.{eqb-true}
 use lib.Dec.{eqb, leb}
 use lib.ListN.{take, drop, get_or}
 use Rattle.table.specs.Rows.{read_rows, test_rows}
@@ -15,7 +15,7 @@ use Rattle.rules.specs.State.{token_slots, client_token}
 use Rattle.rules.specs.Valid.{client_fits}
 use Rattle.rules.specs.Head as Head
 use Rattle.rules.specs.Memory.{slot_at, token_at, identity_at, station_at, token_words, station_words, primary_word, client_word, level_word, pending_bytes}
-use Rattle.references.specs.Tests.{column_by, token_in, client_in, fit_test, all_fit, client_test}
+use Rattle.references.specs.Tests.{column_by, token_in, client_in, fit_test, client_test}
 use Rattle.lists.proofs.Truth.{and_swap, eqb_flip, implies_or, all_append, all_swap}
 
 -- ---- the references
@@ -137,14 +137,6 @@ rows_fit c l nz (suc n) ws bs = by (eqb x 0) refl (rows_fit c l nz n (drop token
         ih ∙ sym (rw other)
     by false e ih =
         ap₂ (λ a b. a && b) (sym (implies_or (eqb c x) (eqb (get_or row Head.type 0 % 256) impersonation && leb l (get_or row Head.level 0 % 256)))) ih
-
--- with what the code has at each return
-
-pub at_none : (ts row : List ℕ) → get_or row client_word 0 ≡ 0 → true ≡ client_test ts row
-at_none ts row e = sym (rw (eq-eqb (get_or row client_word 0) 0 e))
-
-pub at_client : (ts row : List ℕ) {r : Bool} → (get_or row client_word 0 ≡ 0 → ⊥) → r ≡ all_fit (get_or row client_word 0) (get_or row level_word 0) ts → r ≡ client_test ts row
-at_client ts row n e = e ∙ sym (rw (ne_eqb (get_or row client_word 0) 0 n))
 
 client_row : (ts ds row bs : List ℕ)
     → all (λ t. client_fits t (station_at row bs)) (lives (read_rows slot_at token_words max_dacl token_slots ts ds)) ≡ client_test ts row

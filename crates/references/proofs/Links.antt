@@ -1,12 +1,11 @@
 -- The tests of numbers and references, with what the code has at each return. Assumes nothing.
-use mathlib.Core.Path.{◌≡◌, sym, ap, ◌∙◌}
+use mathlib.Core.Path.{◌≡◌, sym, ◌∙◌}
 use mathlib.Core.Bool.{Bool, ◌&&◌}
 use mathlib.Core.List.{List, ◌++◌, map}
 use Prim.Native.Nat.{ℕ, ◌+◌, ◌-◌}
 use native.Mathlib.Omega.{arith}
 use lib.Dec.{leb}
 use lib.ListN.{take, drop}
-use lib.Seq.{take-take}
 use Rattle.handle.specs.declared.Handle as code
 use Rattle.handle.specs.Meaning.{handle_of}
 use Rattle.rules.specs.Basic.{all}
@@ -18,25 +17,13 @@ use Rattle.references.specs.Tests.{column_by, first_word, other_word, token_in, 
 use Rattle.references.specs.Meaning as Meaning
 use Rattle.references.specs.Meaning.{token_of, fields_of}
 use Rattle.lists.proofs.Truth.{all_map}
-use Rattle.lists.proofs.Cuts.{drop_take}
 use Rattle.references.proofs.Lists.{kept_map}
 
-pub at_numbers : (ns os hs rs : List ℕ) (h nt nh : ℕ) {a b r q : Bool}
-    → a ≡ all (is_given nt ns) ns → b ≡ all (is_given nh hs) hs → r ≡ refs_test ns rs → q ≡ all (is_apart (take (h + station_count - h) (drop h rs))) os
-    → ((leb 1 nt && a) && (leb 1 nh && b) && leb nh max32 && r && q) ≡ numbers_test ns os hs rs (take station_count (drop h rs)) nt nh
+pub at_numbers : (ns os hs rs items : List ℕ) (h nt nh : ℕ) {a b r q : Bool}
+    → a ≡ all (is_given nt ns) ns → b ≡ all (is_given nh hs) hs → r ≡ refs_test ns rs → q ≡ all (is_apart (take (h + station_count - h) (drop h items))) os
+    → ((leb 1 nt && a) && (leb 1 nh && b) && leb nh max32 && r && q) ≡ numbers_test ns os hs rs (take station_count (drop h items)) nt nh
 unfolding numbers_test
-at_numbers ns os hs rs h nt nh ea eb er eq =
-    let d : h + station_count - h ≡ station_count = omega arith in
-    cc
-
-pub at_fronts : (ns os hs rs : List ℕ) (n o h f nt nh : ℕ) {r : Bool}
-    → r ≡ numbers_test (take (n - 0) ns) (take (o - 0) os) (take (h - 0) hs) (take (f + station_references - 0) rs) (take station_count (drop f (take (f + station_references - 0) rs))) nt nh
-    → r ≡ numbers_test (take n ns) (take o os) (take h hs) (take (f + station_references) rs) (take station_count (drop f rs)) nt nh
-at_fronts ns os hs rs n o h f nt nh e =
-    let c : (k : ℕ) → k - 0 ≡ k = λ k. omega arith in
-    let d : take station_count (drop f (take (f + station_references - 0) rs)) ≡ take station_count (drop f rs) =
-    ap (take station_count) (drop_take f (f + station_references - 0) rs) ∙ take-take station_count (f + station_references - 0 - f) (drop f rs) (omega arith) in
-    cc (c n, c o, c h, c (f + station_references))
+at_numbers ns os hs rs items h nt nh ea eb er eq = let d : h + station_count - h ≡ station_count = omega arith in cc
 
 pub at_links : (ts : List ℕ) (hs : List code.Handle) (cs : List ℕ) {ns os hn rs : List ℕ} {n o h m : ℕ} {f r q p : Bool}
     → r ≡ numbers_test (take n ns) (take o os) (take h hn) (take (m + station_references) rs) (take station_count (drop m rs)) (next_token cs) (next_handle cs)

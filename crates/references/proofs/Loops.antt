@@ -1,6 +1,7 @@
 -- Loops that keep elements of a list and are not left early: what is left to do gives what the whole gives. Assumes nothing.
 use mathlib.Core.Path.{◌≡◌, refl, sym, ap, ◌∙◌}
-use mathlib.Core.Bool.{Bool, true, false, ◌&&◌}
+use mathlib.Core.Bool.{Bool, true, false, not, ◌&&◌, and-true}
+use borrow.Author.Tests.{eq-eqb}
 use mathlib.Core.List.{List, [], ◌∷◌, ◌++◌, append_assoc, append-nil}
 use Prim.Native.Nat.{ℕ, suc, ◌+◌, ◌≤◌, ◌<◌}
 use native.Mathlib.Numerals.{add-one}
@@ -9,9 +10,21 @@ use lib.Dec.{eqb}
 use lib.ListN.{length, take, drop, get_or, set, length-set, drop_of_length-le}
 use lib.Seq.{drop-cons, take-set-le, take-suc-set}
 use Rattle.std.specs.Prelude.{if◌then◌else◌}
+use Rattle.std.specs.Int.{from_bool}
 use Rattle.rules.specs.Basic.{all}
 use Rattle.lists.proofs.Loops.{TestedArray, array_none, array_more, array_done}
+use Rattle.handle.specs.declared.Handle.{Handle}
+use Rattle.references.specs.Meaning.{fields_of}
 use Rattle.references.specs.Tests.{kept, is_kept, Front}
+
+-- ---- how many more are kept with x
+
+pub counted : (x : ℕ) {r : ℕ} → r ≡ from_bool (not (eqb x 0)) → r ≡ is_kept x
+counted x e = by (eqb x 0) e
+  where
+    by : (b : Bool) {r : ℕ} → r ≡ from_bool (not b) → r ≡ (if b then 0 else 1)
+    by true e = e
+    by false e = e
 
 -- ---- elements are kept behind the first elements of an array, which are pre
 
@@ -112,3 +125,14 @@ module _ {A : Type 0} (t : A → Bool) (k f g : A → ℕ) (d : A) (src : List A
 
   pub sorting_second : {size room : ℕ} {ok : Bool} {fs gs : List ℕ} {n i : ℕ} → Sorting size room ok fs gs n i → size ≤ i → Front room (kept k g src) n gs
   sorting_second s h = keeping_done k g src [] s.second h
+
+-- ---- a free slot is equal to a slot of zeros
+
+pub free_fields : (h : Handle) {r : Bool} → h.number ≡ 0 → r ≡ (eqb h.station 0 && (eqb h.mask 0 && (eqb h.number 0 && eqb h.token 0))) → r ≡ fields_of h
+free_fields h z e = e ∙ rw (eq-eqb h.number 0 z) (turned (eqb h.station 0) (eqb h.mask 0) (eqb h.token 0))
+  where
+    turned : (x y w : Bool) → (x && (y && (true && w))) ≡ ((x && w) && y)
+    turned true true w = sym (and-true w)
+    turned true false true = refl
+    turned true false false = refl
+    turned false y w = refl

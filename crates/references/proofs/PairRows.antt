@@ -128,13 +128,13 @@ unfolding pair_fits token_at identity_at
 at_rows s e f p q = cc
 
 module _ (ts : List ℕ) (s x y : ℕ) where
-  pub no_elevated : {i : ℕ} → ((ds : List ℕ) → i ≡ found_index (is_numbered x) (slots_of ts ds)) → token_slots ≤ i → false ≡ pair_fits s (token_named ts x) (token_named ts y)
+  pub no_elevated : ((ds : List ℕ) → token_slots ≡ found_index (is_numbered x) (slots_of ts ds)) → false ≡ pair_fits s (token_named ts x) (token_named ts y)
   unfolding pair_fits no_token new_token
-  no_elevated at h = sym (ap (λ t. pair_fits s t (token_named ts y)) (named_none ts x at h))
+  no_elevated at = sym (ap (λ t. pair_fits s t (token_named ts y)) (named_none ts x at (omega arith)))
 
-  pub no_filtered : {j : ℕ} → ((ds : List ℕ) → j ≡ found_index (is_numbered y) (slots_of ts ds)) → token_slots ≤ j → false ≡ pair_fits s (token_named ts x) (token_named ts y)
+  pub no_filtered : ((ds : List ℕ) → token_slots ≡ found_index (is_numbered y) (slots_of ts ds)) → false ≡ pair_fits s (token_named ts x) (token_named ts y)
   unfolding pair_fits no_token new_token
-  no_filtered at h = sym (ap (λ t. pair_fits s (token_named ts x) t) (named_none ts y at h) ∙ simp and-false)
+  no_filtered at = sym (ap (λ t. pair_fits s (token_named ts x) t) (named_none ts y at (omega arith)) ∙ simp and-false)
 
   pub at_tokens : {i j : ℕ} {r : Bool} → ((ds : List ℕ) → i ≡ found_index (is_numbered x) (slots_of ts ds)) → ((ds : List ℕ) → j ≡ found_index (is_numbered y) (slots_of ts ds))
       → i < token_slots → j < token_slots

@@ -22,12 +22,8 @@ fn all_fit(client: u64, level: u64, tokens: &[u64]) -> bool
     ensures { result ≡ all_fit client level tokens.now }
 {
     let mut ok = true;
-    let mut i: usize = 0;
-    while i < TOKEN_SLOTS {
-        let at = i * TOKEN_WORDS;
-        let end = at + TOKEN_WORDS;
-        ok = ok & fits(client, level, &tokens[at..end]);
-        i += 1;
+    for row in tokens.chunks_exact(TOKEN_WORDS) {
+        ok &= fits(client, level, row);
     }
     ok
 }
@@ -38,10 +34,7 @@ fn client_valid(tokens: &[u64], row: &[u64]) -> bool
     ensures { result ≡ client_test tokens.now row.now }
 {
     let client = row[CLIENT_WORD];
-    if client == 0 {
-        return true;
-    }
-    all_fit(client, row[LEVEL_WORD], tokens)
+    client == 0 || all_fit(client, row[LEVEL_WORD], tokens)
 }
 
 pub fn clients_valid(tokens: &[u64], rows: &[u64]) -> bool
@@ -49,12 +42,8 @@ pub fn clients_valid(tokens: &[u64], rows: &[u64]) -> bool
     ensures { result ≡ clients_test tokens.now rows.now }
 {
     let mut ok = true;
-    let mut i: usize = 0;
-    while i < STATIONS {
-        let at = i * STATION_WORDS;
-        let end = at + STATION_WORDS;
-        ok = ok & client_valid(tokens, &rows[at..end]);
-        i += 1;
+    for row in rows.chunks_exact(STATION_WORDS) {
+        ok &= client_valid(tokens, row);
     }
     ok
 }

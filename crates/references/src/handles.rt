@@ -5,18 +5,18 @@ ghost use Rattle.rules.specs.Basic.{all};
 ghost use Rattle.rules.specs.State.{handle_slots, station_count, pair_slots};
 ghost use Rattle.rules.specs.Memory.{station_words, pair_words, elevated_word, filtered_word};
 ghost use Rattle.handle.specs.Words.{records_in};
-ghost use Rattle.references.specs.Tests.{column_by, token_in, client_in, pair_column, is_kept, kept, Front, Referred};
+ghost use Rattle.references.specs.Tests.{column_by, token_in, client_in, pair_column, kept, Front, Referred};
 ghost use Rattle.references.specs.Meaning.{number_of, token_of, fields_of};
 
 use crate::REFERENCES;
-use crate::columns::{add_clients, add_pairs, add_primaries};
+use crate::columns::{add_pairs, add_stations, client_in, token_in};
 use control::layout::{ELEVATED_WORD, FILTERED_WORD, STATIONS};
-use handle::{HANDLE_WORDS, Handle, SLOTS};
+use handle::{HANDLE_WORDS, Handle, NONE, SLOTS};
 use privilege::mask::Mask;
 
 // Whether the fields of all are valid; of the live ones, the first `count` of each list, their numbers and their tokens'. Behind these in
 // `referred` stand the live pairs' tokens, up to `held`, then the stations' primary ones and those that they act for, so that all references
-// are counted in one list.
+// are counted in one list. `ok` is one of the tests that are gathered: the lists stand whatever it is.
 #[derive(Clone, Copy)]
 pub struct Held {
     pub ok: bool,
@@ -29,30 +29,10 @@ pub struct Held {
 fn fields_valid(h: Handle) -> bool
     ensures { result ≡ fields_of h }
 {
-    let token = h.token;
     if h.number == 0 {
-        return (h.station == 0) & (token == 0) & (h.mask == 0);
+        return h == NONE;
     }
     (h.station < STATIONS as u16) & Mask(h.mask as u32).valid()
-}
-
-fn number_of(h: Handle) -> u32
-    ensures { result ≡ number_of h }
-{
-    h.number
-}
-
-fn token_of(h: Handle) -> u64
-    ensures { result ≡ token_of h }
-{
-    h.token
-}
-
-// How many more are live with h.
-fn is_kept(h: Handle) -> usize
-    ensures { (result ≡ is_kept (number_of h)) × (result ≤ 1) }
-{
-    if h.number == 0 { 0 } else { 1 }
 }
 
 pub fn live(handles: &[u64; HANDLE_WORDS], rows: &[u64], pairs: &[u64]) -> Held
@@ -64,25 +44,23 @@ pub fn live(handles: &[u64; HANDLE_WORDS], rows: &[u64], pairs: &[u64]) -> Held
     let mut ok = true;
     let mut numbers = [0u32; SLOTS];
     let mut referred = [0u64; REFERENCES];
-    let mut n: usize = 0;
-    let mut i: usize = 0;
-    while i < SLOTS {
+    let mut count = 0;
+    for i in 0..SLOTS {
         let h = handle::at(handles, i);
-        ok = ok & fields_valid(h);
-        numbers[n] = number_of(h);
-        referred[n] = token_of(h);
-        n = n + is_kept(h);
-        i += 1;
+        ok &= fields_valid(h);
+        numbers[count] = h.number;
+        referred[count] = h.token;
+        count += usize::from(h.number != 0);
     }
-    let k = add_pairs(&mut referred, n, ELEVATED_WORD, pairs);
-    let m = add_pairs(&mut referred, k, FILTERED_WORD, pairs);
-    add_primaries(&mut referred, m, rows);
-    add_clients(&mut referred, m + STATIONS, rows);
+    let k = add_pairs(&mut referred, count, ELEVATED_WORD, pairs);
+    let held = add_pairs(&mut referred, k, FILTERED_WORD, pairs);
+    add_stations(&mut referred, held, rows, token_in);
+    add_stations(&mut referred, held + STATIONS, rows, client_in);
     Held {
-        ok: ok,
-        count: n,
-        held: m,
-        numbers: numbers,
-        referred: referred,
+        ok,
+        count,
+        held,
+        numbers,
+        referred,
     }
 }

@@ -10,14 +10,14 @@ ghost use Rattle.lists.specs.Tests.{station_references, reference_slots};
 ghost use Rattle.references.specs.Tests.{Room, numbers_test, links_test};
 
 use clients::clients_valid;
-use columns::{Given, other_numbers, token_numbers};
+use columns::{Given, first_word, numbers, other_word};
 use control::layout::{
     MAX_HANDLE, NEXT_HANDLE, NEXT_TOKEN, PAIRS, PAIRS_AT, PAIRS_END, STATIONS, STATIONS_AT,
     STATIONS_END,
 };
 use handle::{HANDLE_WORDS, SLOTS};
 use handles::{Held, live};
-use lists::numbers::{all_apart, all_given, all_given_32, refs_valid};
+use lists::numbers::{all_apart, all_given, refs_valid};
 use pairs::pairs_valid;
 
 mod clients;
@@ -34,51 +34,21 @@ pub const PAIR_REFERENCES: usize = PAIRS + PAIRS;
 pub const REFERENCES: usize = SLOTS + PAIR_REFERENCES + STATION_REFERENCES;
 
 // The next numbers are not 0 and of their type. Numbers given are distinct and below the next; the tokens of handles, pairs and stations
-// live, and stations' own are primary; every token is referred to. `others` are the tokens that are not primary. Behind the first `held` of
-// `referred` stand the stations' own tokens.
-fn numbers_valid(
-    tokens: &[u64],
-    others: &[u64],
-    handles: &[u32],
-    referred: &[u64],
-    held: usize,
-    next_token: u64,
-    next_handle: u64,
-) -> bool
-    requires { (length tokens.now ≤ token_slots) × (length handles.now ≤ handle_slots) × (length referred.now ≤ reference_slots) × (held + station_count ≤ length referred.now) }
-    ensures { result ≡ numbers_test tokens.now others.now handles.now referred.now (take station_count (drop held referred.now)) next_token next_handle }
-{
-    let end = held + STATIONS;
-    ((1 <= next_token) & all_given(tokens, next_token))
-        & ((1 <= next_handle) & all_given_32(handles, next_handle))
-        & (next_handle <= MAX_HANDLE)
-        & refs_valid(tokens, referred)
-        & all_apart(others, &referred[held..end])
-}
-
-// The same of what stands in the fronts of arrays.
-fn fronts_valid(given: Given, others: Given, held: Held, next_token: u64, next_handle: u64) -> bool
+// live, and stations' own are primary; every token is referred to. `others` are the tokens that are not primary.
+fn numbers_valid(given: Given, others: Given, held: Held, next_token: u64, next_handle: u64) -> bool
     requires { Room token_slots given.count given.numbers × Room token_slots others.count others.numbers × Room handle_slots held.count held.numbers × Room reference_slots (held.held + station_references) held.referred }
     ensures { result ≡ numbers_test (take given.count given.numbers) (take others.count others.numbers) (take held.count held.numbers) (take (held.held + station_references) held.referred) (take station_count (drop held.held held.referred)) next_token next_handle }
 {
-    let n = given.count;
-    let numbers = given.numbers;
-    let m = others.count;
-    let apart = others.numbers;
-    let h = held.count;
-    let called = held.numbers;
-    let first = held.held;
-    let referred = held.referred;
-    let end = first + STATION_REFERENCES;
-    numbers_valid(
-        &numbers[0..n],
-        &apart[0..m],
-        &called[0..h],
-        &referred[0..end],
-        first,
-        next_token,
-        next_handle,
-    )
+    let tokens = &given.numbers[..given.count];
+    let apart = &others.numbers[..others.count];
+    let handles = &held.numbers[..held.count];
+    let referred = &held.referred[..held.held + STATION_REFERENCES];
+    let primaries = &held.referred[held.held..held.held + STATIONS];
+    ((1 <= next_token) & all_given(tokens, next_token))
+        & ((1 <= next_handle) & all_given(handles, next_handle))
+        & (next_handle <= MAX_HANDLE)
+        & refs_valid(tokens, referred)
+        & all_apart(apart, primaries)
 }
 
 // The handles' fields, all numbers, the tokens that stations act for, and the linked pairs.
@@ -86,8 +56,8 @@ pub fn links_valid(tokens: &[u64], handles: &[u64; HANDLE_WORDS], control: &[u64
     requires { (length tokens.now ≡ token_slots * token_words) × (length control.now ≡ control_words) }
     ensures { result ≡ links_test tokens.now (map handle_of (records_in handles.now)) control.now }
 {
-    let given = token_numbers(tokens);
-    let others = other_numbers(tokens);
+    let given = numbers(tokens, first_word);
+    let others = numbers(tokens, other_word);
     let held = live(
         handles,
         &control[STATIONS_AT..STATIONS_END],
@@ -96,7 +66,7 @@ pub fn links_valid(tokens: &[u64], handles: &[u64; HANDLE_WORDS], control: &[u64
     let next_token = control[NEXT_TOKEN];
     let next_handle = control[NEXT_HANDLE];
     held.ok
-        & fronts_valid(given, others, held, next_token, next_handle)
+        & numbers_valid(given, others, held, next_token, next_handle)
         & clients_valid(tokens, &control[STATIONS_AT..STATIONS_END])
         & pairs_valid(tokens, &control[PAIRS_AT..PAIRS_END])
 }

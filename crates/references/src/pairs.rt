@@ -40,14 +40,12 @@ fn tokens_fit(tokens: &[u64], session: u64, elevated: u64, filtered: u64) -> boo
     requires { length tokens.now ≡ token_slots * token_words }
     ensures { result ≡ pair_fits session (token_named tokens.now elevated) (token_named tokens.now filtered) }
 {
-    let e = find(tokens, elevated);
-    if TOKEN_SLOTS <= e {
+    let Some(e) = find(tokens, elevated) else {
         return false;
-    }
-    let f = find(tokens, filtered);
-    if TOKEN_SLOTS <= f {
+    };
+    let Some(f) = find(tokens, filtered) else {
         return false;
-    }
+    };
     let at = e * TOKEN_WORDS;
     let end = at + TOKEN_WORDS;
     let from = f * TOKEN_WORDS;
@@ -76,12 +74,8 @@ fn places_valid(tokens: &[u64], rows: &[u64]) -> bool
     ensures { result ≡ places_test tokens.now rows.now }
 {
     let mut ok = true;
-    let mut i: usize = 0;
-    while i < PAIRS {
-        let at = i * PAIR_WORDS;
-        let end = at + PAIR_WORDS;
-        ok = ok & place_valid(tokens, &rows[at..end]);
-        i += 1;
+    for row in rows.chunks_exact(PAIR_WORDS) {
+        ok &= place_valid(tokens, row);
     }
     ok
 }

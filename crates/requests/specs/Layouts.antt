@@ -1,15 +1,15 @@
 -- What the code of a request does with the rest of a body, for every valid state that the parts hold. Assumes nothing.
-use Rattle.std.specs.Prelude.{ℕ, List}
-use Rattle.rules.specs.Request.{Request, Reader}
+use Rattle.std.specs.Prelude.{ℕ, Result}
+use Rattle.rules.specs.Request as rules
+use Rattle.rules.specs.Request.{Request}
 use Rattle.rules.specs.Serve.{decided}
-use Rattle.number.specs.Rest.{read_from}
-use Rattle.number.specs.Meaning.{rest_of}
-use Rattle.number.specs.declared.cursor.Cursor.{Cursor}
-use Rattle.handle.specs.declared.Handle.{Handle}
-use Rattle.decide.specs.Carried.{Carried}
+use Rattle.number.specs.Reader.{rest_of}
+use Rattle.number.specs.declared.reader.Reader.{Reader}
+use Rattle.state.specs.declared.parts.Parts.{Parts}
+use Rattle.answer.specs.declared.refusal.Refusal.{Refusal}
+use Rattle.decide.specs.Carried.{CarriedOut}
 use Rattle.decide.specs.declared.outcome.Outcome.{Outcome}
 
--- the rest of a body, from a cursor on, is read by a layout, decided and carried out
-pub record LayoutCarried (layout : Reader Request) (station : ℕ) (s : List ℕ) (c : Cursor) (ts ds : List ℕ) (hs : List Handle) (cs ts' ds' cs' : List ℕ)
-    (r : Outcome) : Type 0 where
-  pub carried : Carried (λ σ. decided σ station (read_from layout (rest_of s c))) ts ds hs cs ts' ds' cs' r
+-- what a reader has left is read by a layout, decided and carried out
+pub record LayoutCarried (layout : rules.Reader Request) (station : ℕ) (rest : Reader) (p q : Parts) (r : Result Outcome Refusal) : Type 0 where
+  pub carried : CarriedOut (λ σ. decided σ station (layout (rest_of rest))) p q r

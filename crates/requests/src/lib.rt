@@ -2,369 +2,202 @@
 // then the request.
 #![tactic(auto)]
 
-ghost use Rattle.std.specs.Prelude.{◌≤◌, ◌<◌, length};
-ghost use Rattle.rules.specs.State.{station_count};
+ghost use Rattle.std.specs.Prelude.{◌≤◌, length};
 ghost use Rattle.rules.specs.Request as rules;
 ghost use Rattle.rules.specs.Request.{end, sid_number, packed_sid, number_layout, create_layout, query_layout, entries_layout, scope_layout, defaults_layout, duplicate_layout, restrict_layout, link_layout, evaluate_layout};
-ghost use Rattle.handle.specs.Words.{records_in};
-ghost use Rattle.state.specs.Parts.{Lent};
+ghost use Rattle.state.specs.Parts.{SameParts};
 ghost use Rattle.requests.specs.Layouts.{LayoutCarried};
 
-use answer::refusal;
+use answer::Refusal;
 use body::layout;
-use decide::outcome;
+use body::sid_form::{Numbered, Packed};
+use control::stations::Station;
 use decide::outcome::Outcome;
-use handle::HANDLE_WORDS;
-use number::{Cursor, U32};
+use number::{Reader, U32};
+use state::parts::Parts;
 
-pub fn open_own(
-    station: u32,
-    s: &[u8],
-    c: Cursor,
-    handles: &[u64; HANDLE_WORDS],
-    tokens: &mut [u64],
-    dacls: &mut [u8],
-    control: &mut [u64],
-) -> Outcome
-    requires { Lent tokens.old dacls.old control.old × (station < station_count) }
-    ensures { LayoutCarried (number_layout rules.open_own) station s.now c tokens.old dacls.old (records_in handles.now) control.old tokens.new dacls.new control.new result }
+pub fn open_own(parts: &mut Parts, station: Station, rest: Reader) -> Result<Outcome, Refusal>
+    ensures same { SameParts parts.old parts.new }
+    ensures carried { LayoutCarried (number_layout rules.open_own) station.number rest.entry parts.old parts.new result }
 {
-    let f = layout::number(s, c);
-    if !f.ok {
-        return outcome::refused(refusal::MALFORMED);
-    }
-    open::open_own(station, f.value, handles, tokens, dacls, control)
+    let Some(mask) = layout::number(rest) else {
+        return Err(Refusal::Malformed);
+    };
+    open::open_own(parts, station, mask)
 }
 
-pub fn close(
-    station: u32,
-    s: &[u8],
-    c: Cursor,
-    handles: &[u64; HANDLE_WORDS],
-    tokens: &mut [u64],
-    dacls: &mut [u8],
-    control: &mut [u64],
-) -> Outcome
-    requires { Lent tokens.old dacls.old control.old × (station < station_count) }
-    ensures { LayoutCarried (number_layout rules.close) station s.now c tokens.old dacls.old (records_in handles.now) control.old tokens.new dacls.new control.new result }
+pub fn close(parts: &mut Parts, station: Station, rest: Reader) -> Result<Outcome, Refusal>
+    ensures same { SameParts parts.old parts.new }
+    ensures carried { LayoutCarried (number_layout rules.close) station.number rest.entry parts.old parts.new result }
 {
-    let f = layout::number(s, c);
-    if !f.ok {
-        return outcome::refused(refusal::MALFORMED);
-    }
-    open::close(station, f.value, handles, tokens, dacls, control)
+    let Some(number) = layout::number(rest) else {
+        return Err(Refusal::Malformed);
+    };
+    open::close(parts, station, number)
 }
 
-pub fn create(
-    station: u32,
-    s: &[u8],
-    c: Cursor,
-    handles: &[u64; HANDLE_WORDS],
-    tokens: &mut [u64],
-    dacls: &mut [u8],
-    control: &mut [u64],
-) -> Outcome
-    requires { Lent tokens.old dacls.old control.old × (station < station_count) }
-    ensures { LayoutCarried (create_layout sid_number) station s.now c tokens.old dacls.old (records_in handles.now) control.old tokens.new dacls.new control.new result }
+pub fn create(parts: &mut Parts, station: Station, rest: Reader) -> Result<Outcome, Refusal>
+    ensures same { SameParts parts.old parts.new }
+    ensures carried { LayoutCarried (create_layout sid_number) station.number rest.entry parts.old parts.new result }
 {
-    let f = layout::create(s, c);
-    if !f.ok {
-        return outcome::refused(refusal::MALFORMED);
-    }
-    create::create(station, f, s, handles, tokens, dacls, control)
+    let Some(fields) = layout::create(rest) else {
+        return Err(Refusal::Malformed);
+    };
+    create::create(parts, station, fields, rest.body)
 }
 
-pub fn query(
-    station: u32,
-    s: &[u8],
-    c: Cursor,
-    handles: &[u64; HANDLE_WORDS],
-    tokens: &mut [u64],
-    dacls: &mut [u8],
-    control: &mut [u64],
-) -> Outcome
-    requires { Lent tokens.old dacls.old control.old × (station < station_count) }
-    ensures { LayoutCarried query_layout station s.now c tokens.old dacls.old (records_in handles.now) control.old tokens.new dacls.new control.new result }
+pub fn query(parts: &mut Parts, station: Station, rest: Reader) -> Result<Outcome, Refusal>
+    ensures same { SameParts parts.old parts.new }
+    ensures carried { LayoutCarried query_layout station.number rest.entry parts.old parts.new result }
 {
-    let f = layout::query(s, c);
-    if !f.ok {
-        return outcome::refused(refusal::MALFORMED);
-    }
-    query::query(station, f, handles, tokens, dacls, control)
+    let Some(fields) = layout::query(rest) else {
+        return Err(Refusal::Malformed);
+    };
+    query::query(parts, station, fields)
 }
 
-pub fn privileges(
-    station: u32,
-    s: &[u8],
-    c: Cursor,
-    handles: &[u64; HANDLE_WORDS],
-    tokens: &mut [u64],
-    dacls: &mut [u8],
-    control: &mut [u64],
-) -> Outcome
-    requires { Lent tokens.old dacls.old control.old × (station < station_count) }
-    ensures { LayoutCarried (entries_layout rules.privileges) station s.now c tokens.old dacls.old (records_in handles.now) control.old tokens.new dacls.new control.new result }
+pub fn privileges(parts: &mut Parts, station: Station, rest: Reader) -> Result<Outcome, Refusal>
+    ensures same { SameParts parts.old parts.new }
+    ensures carried { LayoutCarried (entries_layout rules.privileges) station.number rest.entry parts.old parts.new result }
 {
-    let f = layout::entries(s, c);
-    if !f.ok {
-        return outcome::refused(refusal::MALFORMED);
-    }
-    adjust_privileges::adjust_privileges(station, f, s, handles, tokens, dacls, control)
+    let Some(fields) = layout::entries(rest) else {
+        return Err(Refusal::Malformed);
+    };
+    adjust_privileges::adjust_privileges(parts, station, fields, rest.body)
 }
 
-pub fn groups(
-    station: u32,
-    s: &[u8],
-    c: Cursor,
-    handles: &[u64; HANDLE_WORDS],
-    tokens: &mut [u64],
-    dacls: &mut [u8],
-    control: &mut [u64],
-) -> Outcome
-    requires { Lent tokens.old dacls.old control.old × (station < station_count) }
-    ensures { LayoutCarried (entries_layout rules.groups) station s.now c tokens.old dacls.old (records_in handles.now) control.old tokens.new dacls.new control.new result }
+pub fn groups(parts: &mut Parts, station: Station, rest: Reader) -> Result<Outcome, Refusal>
+    ensures same { SameParts parts.old parts.new }
+    ensures carried { LayoutCarried (entries_layout rules.groups) station.number rest.entry parts.old parts.new result }
 {
-    let f = layout::entries(s, c);
-    if !f.ok {
-        return outcome::refused(refusal::MALFORMED);
-    }
-    adjust_groups::adjust_groups(station, f, s, handles, tokens, dacls, control)
+    let Some(fields) = layout::entries(rest) else {
+        return Err(Refusal::Malformed);
+    };
+    adjust_groups::adjust_groups(parts, station, fields, rest.body)
 }
 
-pub fn scope(
-    station: u32,
-    s: &[u8],
-    c: Cursor,
-    handles: &[u64; HANDLE_WORDS],
-    tokens: &mut [u64],
-    dacls: &mut [u8],
-    control: &mut [u64],
-) -> Outcome
-    requires { Lent tokens.old dacls.old control.old × (station < station_count) }
-    ensures { LayoutCarried scope_layout station s.now c tokens.old dacls.old (records_in handles.now) control.old tokens.new dacls.new control.new result }
+pub fn scope(parts: &mut Parts, station: Station, rest: Reader) -> Result<Outcome, Refusal>
+    ensures same { SameParts parts.old parts.new }
+    ensures carried { LayoutCarried scope_layout station.number rest.entry parts.old parts.new result }
 {
-    let f = layout::scope(s, c);
-    if !f.ok {
-        return outcome::refused(refusal::MALFORMED);
-    }
-    adjust_defaults::scope::scope(station, f, handles, tokens, dacls, control)
+    let Some(fields) = layout::scope(rest) else {
+        return Err(Refusal::Malformed);
+    };
+    adjust_defaults::scope::scope(parts, station, fields)
 }
 
-pub fn defaults(
-    station: u32,
-    s: &[u8],
-    c: Cursor,
-    handles: &[u64; HANDLE_WORDS],
-    tokens: &mut [u64],
-    dacls: &mut [u8],
-    control: &mut [u64],
-) -> Outcome
-    requires { Lent tokens.old dacls.old control.old × (station < station_count) × (c.at ≤ length s.now) }
-    ensures { LayoutCarried defaults_layout station s.now c tokens.old dacls.old (records_in handles.now) control.old tokens.new dacls.new control.new result }
+pub fn defaults(parts: &mut Parts, station: Station, rest: Reader) -> Result<Outcome, Refusal>
+    requires { rest.at ≤ length rest.body.now }
+    ensures same { SameParts parts.old parts.new }
+    ensures carried { LayoutCarried defaults_layout station.number rest.entry parts.old parts.new result }
 {
-    let f = layout::defaults(s, c);
-    if !f.ok {
-        return outcome::refused(refusal::MALFORMED);
-    }
-    adjust_defaults::defaults::adjust_defaults(station, f, s, handles, tokens, dacls, control)
+    let Some(fields) = layout::defaults(rest) else {
+        return Err(Refusal::Malformed);
+    };
+    adjust_defaults::defaults::adjust_defaults(parts, station, fields, rest.body)
 }
 
-pub fn duplicate(
-    station: u32,
-    s: &[u8],
-    c: Cursor,
-    handles: &[u64; HANDLE_WORDS],
-    tokens: &mut [u64],
-    dacls: &mut [u8],
-    control: &mut [u64],
-) -> Outcome
-    requires { Lent tokens.old dacls.old control.old × (station < station_count) }
-    ensures { LayoutCarried duplicate_layout station s.now c tokens.old dacls.old (records_in handles.now) control.old tokens.new dacls.new control.new result }
+pub fn duplicate(parts: &mut Parts, station: Station, rest: Reader) -> Result<Outcome, Refusal>
+    ensures same { SameParts parts.old parts.new }
+    ensures carried { LayoutCarried duplicate_layout station.number rest.entry parts.old parts.new result }
 {
-    let f = layout::duplicate(s, c);
-    if !f.ok {
-        return outcome::refused(refusal::MALFORMED);
-    }
-    copy::duplicate::duplicate(station, f, handles, tokens, dacls, control)
+    let Some(fields) = layout::duplicate(rest) else {
+        return Err(Refusal::Malformed);
+    };
+    copy::duplicate::duplicate(parts, station, fields)
 }
 
-pub fn restrict(
-    station: u32,
-    s: &[u8],
-    c: Cursor,
-    handles: &[u64; HANDLE_WORDS],
-    tokens: &mut [u64],
-    dacls: &mut [u8],
-    control: &mut [u64],
-) -> Outcome
-    requires { Lent tokens.old dacls.old control.old × (station < station_count) }
-    ensures { LayoutCarried (restrict_layout sid_number) station s.now c tokens.old dacls.old (records_in handles.now) control.old tokens.new dacls.new control.new result }
+pub fn restrict(parts: &mut Parts, station: Station, rest: Reader) -> Result<Outcome, Refusal>
+    ensures same { SameParts parts.old parts.new }
+    ensures carried { LayoutCarried (restrict_layout sid_number) station.number rest.entry parts.old parts.new result }
 {
-    let f = layout::restrict(s, c);
-    if !f.ok {
-        return outcome::refused(refusal::MALFORMED);
-    }
-    copy::restrict::restrict(station, f, s, handles, tokens, dacls, control)
+    let Some(fields) = layout::restrict::<Numbered>(rest) else {
+        return Err(Refusal::Malformed);
+    };
+    copy::restrict::restrict(parts, station, fields, rest.body)
 }
 
-pub fn install(
-    station: u32,
-    s: &[u8],
-    c: Cursor,
-    handles: &[u64; HANDLE_WORDS],
-    tokens: &mut [u64],
-    dacls: &mut [u8],
-    control: &mut [u64],
-) -> Outcome
-    requires { Lent tokens.old dacls.old control.old × (station < station_count) }
-    ensures { LayoutCarried (number_layout rules.install) station s.now c tokens.old dacls.old (records_in handles.now) control.old tokens.new dacls.new control.new result }
+pub fn install(parts: &mut Parts, station: Station, rest: Reader) -> Result<Outcome, Refusal>
+    ensures same { SameParts parts.old parts.new }
+    ensures carried { LayoutCarried (number_layout rules.install) station.number rest.entry parts.old parts.new result }
 {
-    let f = layout::number(s, c);
-    if !f.ok {
-        return outcome::refused(refusal::MALFORMED);
-    }
-    install::install(station, f.value, handles, tokens, dacls, control)
+    let Some(number) = layout::number(rest) else {
+        return Err(Refusal::Malformed);
+    };
+    install::install(parts, station, number)
 }
 
-pub fn impersonate(
-    station: u32,
-    s: &[u8],
-    c: Cursor,
-    handles: &[u64; HANDLE_WORDS],
-    tokens: &mut [u64],
-    dacls: &mut [u8],
-    control: &mut [u64],
-) -> Outcome
-    requires { Lent tokens.old dacls.old control.old × (station < station_count) }
-    ensures { LayoutCarried (number_layout rules.impersonate) station s.now c tokens.old dacls.old (records_in handles.now) control.old tokens.new dacls.new control.new result }
+pub fn impersonate(parts: &mut Parts, station: Station, rest: Reader) -> Result<Outcome, Refusal>
+    ensures same { SameParts parts.old parts.new }
+    ensures carried { LayoutCarried (number_layout rules.impersonate) station.number rest.entry parts.old parts.new result }
 {
-    let f = layout::number(s, c);
-    if !f.ok {
-        return outcome::refused(refusal::MALFORMED);
-    }
-    impersonate::impersonate(station, f.value, handles, tokens, dacls, control)
+    let Some(number) = layout::number(rest) else {
+        return Err(Refusal::Malformed);
+    };
+    impersonate::impersonate(parts, station, number)
 }
 
-pub fn revert(
-    station: u32,
-    s: &[u8],
-    c: Cursor,
-    handles: &[u64; HANDLE_WORDS],
-    tokens: &mut [u64],
-    dacls: &mut [u8],
-    control: &mut [u64],
-) -> Outcome
-    requires { Lent tokens.old dacls.old control.old × (station < station_count) }
-    ensures { LayoutCarried (end rules.revert) station s.now c tokens.old dacls.old (records_in handles.now) control.old tokens.new dacls.new control.new result }
+pub fn revert(parts: &mut Parts, station: Station, rest: Reader) -> Result<Outcome, Refusal>
+    ensures same { SameParts parts.old parts.new }
+    ensures carried { LayoutCarried (end rules.revert) station.number rest.entry parts.old parts.new result }
 {
-    if !layout::nothing(s, c) {
-        return outcome::refused(refusal::MALFORMED);
+    if !layout::nothing(rest) {
+        return Err(Refusal::Malformed);
     }
-    impersonate::revert(station, handles, tokens, dacls, control)
+    Ok(impersonate::revert(parts, station))
 }
 
-pub fn create_packed(
-    station: u32,
-    s: &[u8],
-    c: Cursor,
-    handles: &[u64; HANDLE_WORDS],
-    tokens: &mut [u64],
-    dacls: &mut [u8],
-    control: &mut [u64],
-) -> Outcome
-    requires { Lent tokens.old dacls.old control.old × (station < station_count) }
-    ensures { LayoutCarried (create_layout packed_sid) station s.now c tokens.old dacls.old (records_in handles.now) control.old tokens.new dacls.new control.new result }
+pub fn create_packed(parts: &mut Parts, station: Station, rest: Reader) -> Result<Outcome, Refusal>
+    ensures same { SameParts parts.old parts.new }
+    ensures carried { LayoutCarried (create_layout packed_sid) station.number rest.entry parts.old parts.new result }
 {
-    let f = layout::create_packed(s, c);
-    if !f.ok {
-        return outcome::refused(refusal::MALFORMED);
-    }
-    create::create_packed(station, f, s, handles, tokens, dacls, control)
+    let Some(fields) = layout::create_packed(rest) else {
+        return Err(Refusal::Malformed);
+    };
+    create::create_packed(parts, station, fields, rest.body)
 }
 
 pub fn restrict_packed(
-    station: u32,
-    s: &[u8],
-    c: Cursor,
-    handles: &[u64; HANDLE_WORDS],
-    tokens: &mut [u64],
-    dacls: &mut [u8],
-    control: &mut [u64],
-) -> Outcome
-    requires { Lent tokens.old dacls.old control.old × (station < station_count) }
-    ensures { LayoutCarried (restrict_layout packed_sid) station s.now c tokens.old dacls.old (records_in handles.now) control.old tokens.new dacls.new control.new result }
+    parts: &mut Parts,
+    station: Station,
+    rest: Reader,
+) -> Result<Outcome, Refusal>
+    ensures same { SameParts parts.old parts.new }
+    ensures carried { LayoutCarried (restrict_layout packed_sid) station.number rest.entry parts.old parts.new result }
 {
-    let f = layout::restrict_packed(s, c);
-    if !f.ok {
-        return outcome::refused(refusal::MALFORMED);
-    }
-    restrict_packed::restrict_packed(station, f, s, handles, tokens, dacls, control)
+    let Some(fields) = layout::restrict::<Packed>(rest) else {
+        return Err(Refusal::Malformed);
+    };
+    restrict_packed::restrict_packed(parts, station, fields, rest.body)
 }
 
-pub fn link(
-    station: u32,
-    s: &[u8],
-    c: Cursor,
-    handles: &[u64; HANDLE_WORDS],
-    tokens: &mut [u64],
-    dacls: &mut [u8],
-    control: &mut [u64],
-) -> Outcome
-    requires { Lent tokens.old dacls.old control.old × (station < station_count) }
-    ensures { LayoutCarried link_layout station s.now c tokens.old dacls.old (records_in handles.now) control.old tokens.new dacls.new control.new result }
+pub fn link(parts: &mut Parts, station: Station, rest: Reader) -> Result<Outcome, Refusal>
+    ensures same { SameParts parts.old parts.new }
+    ensures carried { LayoutCarried link_layout station.number rest.entry parts.old parts.new result }
 {
-    let f = layout::link(s, c);
-    if !f.ok {
-        return outcome::refused(refusal::MALFORMED);
-    }
-    link::link::link(station, f, handles, tokens, dacls, control)
+    let Some(fields) = layout::link(rest) else {
+        return Err(Refusal::Malformed);
+    };
+    link::link::link(parts, station, fields)
 }
 
-pub fn linked(
-    station: u32,
-    s: &[u8],
-    c: Cursor,
-    handles: &[u64; HANDLE_WORDS],
-    tokens: &mut [u64],
-    dacls: &mut [u8],
-    control: &mut [u64],
-) -> Outcome
-    requires { Lent tokens.old dacls.old control.old × (station < station_count) }
-    ensures { LayoutCarried (number_layout rules.linked) station s.now c tokens.old dacls.old (records_in handles.now) control.old tokens.new dacls.new control.new result }
+pub fn linked(parts: &mut Parts, station: Station, rest: Reader) -> Result<Outcome, Refusal>
+    ensures same { SameParts parts.old parts.new }
+    ensures carried { LayoutCarried (number_layout rules.linked) station.number rest.entry parts.old parts.new result }
 {
-    let f = layout::number(s, c);
-    if !f.ok {
-        return outcome::refused(refusal::MALFORMED);
-    }
-    link::linked::linked(station, f.value, handles, tokens, dacls, control)
+    let Some(number) = layout::number(rest) else {
+        return Err(Refusal::Malformed);
+    };
+    link::linked::linked(parts, station, number)
 }
 
 // The rest of the layout is read where it is evaluated.
-pub fn evaluate(
-    station: u32,
-    s: &[u8],
-    c: Cursor,
-    handles: &[u64; HANDLE_WORDS],
-    tokens: &mut [u64],
-    dacls: &mut [u8],
-    control: &mut [u64],
-) -> Outcome
-    requires { Lent tokens.old dacls.old control.old × (station < station_count) }
-    ensures { LayoutCarried evaluate_layout station s.now c tokens.old dacls.old (records_in handles.now) control.old tokens.new dacls.new control.new result }
+pub fn evaluate(parts: &mut Parts, station: Station, mut rest: Reader) -> Result<Outcome, Refusal>
+    ensures same { SameParts parts.old parts.new }
+    ensures carried { LayoutCarried evaluate_layout station.number rest.entry parts.old parts.new result }
 {
-    let handle = c.number(s, U32);
-    let next = handle.next;
-    if !next.ok {
-        return outcome::refused(refusal::MALFORMED);
-    }
-    evaluate::evaluate(
-        station,
-        handle.value as u32,
-        s,
-        next.at,
-        handles,
-        tokens,
-        dacls,
-        control,
-    )
+    let Some(number) = rest.number(U32) else {
+        return Err(Refusal::Malformed);
+    };
+    evaluate::evaluate(parts, station, number as u32, rest)
 }

@@ -1,3 +1,4 @@
+pub mod ReadSoFar
 pub mod Gathering
 pub mod Keeping
 pub mod Taking

@@ -9,7 +9,7 @@ use lib.Dec.{eqb}
 use lib.ListN.{length, drop, get_or, length-map}
 use lib.Seq.{take_all}
 use borrow.Author.Tests.{leb-true}
-use Rattle.std.specs.Prelude.{if◌then◌else◌}
+use Rattle.std.specs.Prelude.{Option, None, Some, is_some, IfSome, unwrap_or, if◌then◌else◌}
 use Rattle.rules.specs.Basic.{all, filter}
 use Rattle.rules.specs.Growth.{Mem, here, there}
 use Rattle.rules.specs.Number.{got}
@@ -39,12 +39,11 @@ use Rattle.state.proofs.TokenScalars.{empty_size}
 use Rattle.body.proofs.Pairs.{Long, times_long}
 use Rattle.copy.specs.declared.restricted_row.Source.{Source}
 use Rattle.copy.specs.declared.restricting.Sids.{Sids}
-use Rattle.copy.specs.Restricting.{Listed, is_kept}
+use Rattle.copy.specs.Restricting.{so_many, Listed, is_kept}
 use Rattle.copy.specs.Restrict.{SourceAt}
 use Rattle.copy.proofs.RestrictingSids.{given_to, kept_of}
 use Rattle.copy.proofs.RestrictEnding as restrict
-use Rattle.restrict_packed.specs.declared.gathered.Gathered.{Gathered}
-use Rattle.restrict_packed.specs.declared.Taken.{Taken}
+use Rattle.copy.specs.declared.asked.Asked.{Asked}
 use Rattle.restrict_packed.specs.Gathered.{is_known, numbers_in, AllIn, PackedGathered}
 use Rattle.restrict_packed.specs.Kept.{stays_by, ListMade}
 use Rattle.restrict_packed.specs.Taken.{TakenFrom, SidsTaken}
@@ -67,8 +66,8 @@ either_zero : (n : ℕ) → (n ≡ 0) ⊎ (n ≡ 0 → ⊥)
 either_zero zero = inl refl
 either_zero (suc n) = inr (λ e. omega arith)
 
-module _ {slot own count : ℕ} {ts ws ms : List ℕ} {g : Gathered} {list : Sids} (m : ListMade slot own ts count g.list ms list) {given : List Given} {t : List Sid}
-    (size : length given ≡ count) (v : sids_valid t ≡ true) (a : AllIn given t ws ms g)
+module _ {slot own count : ℕ} {ts ws : List ℕ} {ms : List Bool} {taken : Option Sids} {list : Sids} (m : ListMade slot own ts count taken ms list) {given : List Given} {t : List Sid}
+    (size : length given ≡ count) (v : sids_valid t ≡ true) (a : AllIn given t ws ms taken)
     (u : Token) (n : length u.limits.restricting ≡ own) (q : nth_record token_words slot ts ≡ token_row u) (known : all (is_number t) u.limits.restricting ≡ true) where
   abbrev ns : List ℕ
   ns = numbers_in given t
@@ -89,22 +88,27 @@ module _ {slot own count : ℕ} {ts ws ms : List ℕ} {g : Gathered} {list : Sid
   some_listed ne =
       subst (λ (l : List ℕ). Listed l list) (filter_same (stays_by count ms) (is_kept ns) own_sids same_test ∙ kept_of ns own_sids (λ z. ne (sym n ∙ z))) (m.some ne u n q)
 
-  none_listed : own ≡ 0 → g.room ≡ true → Listed (restricting_to ns own_sids) list
-  none_listed z r = subst (λ (l : List ℕ). Listed l list) (given_to ns own_sids (n ∙ z)) (record {
-    count = (m.none z).0 ∙ sym long;
-    words = λ few. (m.none z).1 ∙ (a.listed r few).words few;
-  })
+  -- of those given, so many, and they where all had room
+  all_given : (o : Option Sids) → IfSome o (Listed ns) → ((unwrap_or o (so_many count)).count ≡ length ns) × (is_some o ≡ true → Listed ns (unwrap_or o (so_many count)))
+  all_given (Some l) h = (h.count, λ r. h)
+  all_given None h = (sym long, λ r. cc)
+
+  none_listed : own ≡ 0 → (list.count ≡ length (restricting_to ns own_sids)) × (is_some taken ≡ true → Listed (restricting_to ns own_sids) list)
+  none_listed z =
+      let same = sym (m.none z) in
+      let all = given_to ns own_sids (n ∙ z) in
+      let g = all_given taken a.listed in (
+        sym (ap (λ (l : Sids). l.count) same) ∙ g.0 ∙ ap length all,
+        λ r. subst (λ (l : List ℕ). Listed l list) all (subst (λ (l : Sids). Listed ns l) same (g.1 r)),
+      )
 
   list_size : list.count ≡ length (restricting_to ns own_sids)
-  list_size = ⊎_elim (λ z. (m.none z).0 ∙ sym long ∙ ap length (given_to ns own_sids (n ∙ z))) (λ ne. (some_listed ne).count) (either_zero own)
+  list_size = ⊎_elim (λ z. (none_listed z).0) (λ ne. (some_listed ne).count) (either_zero own)
 
-  is_listed_lem : g.room ≡ true → Listed (restricting_to ns own_sids) list
-  is_listed_lem r = ⊎_elim (λ z. none_listed z r) some_listed (either_zero own)
+  is_listed_lem : is_some taken ≡ true → Listed (restricting_to ns own_sids) list
+  is_listed_lem r = ⊎_elim (λ z. (none_listed z).1 r) some_listed (either_zero own)
 
-  abbrev takes : Taken
-  takes = record { list = list; asked = record { listed = list.count; known = true; fits = g.room } }
-
-  taken_from : TakenFrom given t u ws takes
+  taken_from : TakenFrom given t u ws (record { list = list; known = true; fits = is_some taken })
   unfolding fits_table
   taken_from = record {
     size = list_size;
@@ -114,13 +118,13 @@ module _ {slot own count : ℕ} {ts ws ms : List ℕ} {g : Gathered} {list : Sid
     words = λ f. a.held.words ∙ ap write_sids (take_all max_sids (entered_all given t) (leb-true (length (entered_all given t)) max_sids f));
   }
 
-pub takes_all : (slot own : ℕ) {s : List ℕ} {at count : ℕ} {ts ws ws' ms : List ℕ} {g : Gathered} {list : Sids} → PackedGathered s at count ws ws' ms g → ListMade slot own ts count g.list ms list
-    → SidsTaken slot own s at count ts ws ws' (record { list = list; asked = record { listed = list.count; known = true; fits = g.room } })
-takes_all slot own {s} {at} {count} p m = record {
+pub takes_all : (slot own : ℕ) {s : List ℕ} {at count : ℕ} {ts ws ws' : List ℕ} {ms : List Bool} {taken : Option Sids} {list : Sids} {fits : Bool} → PackedGathered s at count ws ws' ms taken
+    → ListMade slot own ts count taken ms list → fits ≡ is_some taken → SidsTaken slot own s at count ts ws ws' (record { list = list; known = true; fits = fits })
+takes_all slot own {s} {at} {count} {ts} {ws} {ws'} {ms} {taken} {list} p m e = subst (λ (b : Bool). SidsTaken slot own s at count ts ws ws' (record { list = list; known = true; fits = b })) (sym e) (record {
   long = p.long;
   taken = λ given later e t v w u n q known.
       taken_from m (subst (Long packed_sid count) e (times_long packed_sid count (drop at s))) v (p.gathered given later e t (valid_capped t v w) (sids_fit t v)) u n q known;
-}
+})
 
 -- ---- in a state
 
@@ -137,7 +141,7 @@ own_known : (sids : List Sid) (t : Token) → is_listed sids t ≡ true → all 
 unfolding is_listed sid_numbers
 own_known sids t h = mem_all (is_number sids) t.limits.restricting (λ n m. all_mem (is_number sids) (sid_numbers t) h (there (mem_right (map sid_of t.groups) m)))
 
-module _ (token : ℕ) {i sid_at sid_count : ℕ} {ts ds body ws ws' : List ℕ} {hs : List Handle} {cs : List ℕ} {x : Source} {r : Taken}
+module _ (token : ℕ) {i sid_at sid_count : ℕ} {ts ds body ws ws' : List ℕ} {hs : List Handle} {cs : List ℕ} {x : Source} {r : Asked}
     (found : FoundAt token ts i) (inside : i < token_slots) (c : SourceAt i ts x) (w : SidsCopied cs ws) (m : SidsTaken i x.restricting body sid_at sid_count ts ws ws' r)
     (given : List Given) (later : List ℕ) (e : times sid_count packed_sid (drop sid_at body) ≡ got given later) (σ : State) (v : valid σ ≡ true) (k : PartsIn σ ts ds hs cs) where
   taken : TakenFrom given σ.sids (state.token_of σ token) ws' r
@@ -148,7 +152,7 @@ module _ (token : ℕ) {i sid_at sid_count : ℕ} {ts ds body ws ws' : List ℕ}
       m.taken given later e σ.sids facts.sids (w.copied σ k.control) t (c.source t there.is_valid there.words).restricting there.words
       (own_known σ.sids t (facts.listed t (slot_lives σ.tokens.slots i there.there)))
 
-  pub packed_taken : restrict.Taken given σ (state.token_of σ token) r.list r.asked
+  pub packed_taken : restrict.Taken given σ (state.token_of σ token) r
   packed_taken = let y = taken in record { size = y.size; known = y.known; fits = y.fits; listed = y.listed }
 
   pub packed_entered : {cs₁ cs' : List ℕ} → SidsSet ws' cs₁ cs' → fits_table (entered_all given σ.sids) ≡ true → restrict.SidsEntered given σ cs₁ cs'

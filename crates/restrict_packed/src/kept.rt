@@ -1,69 +1,39 @@
 // Request 15: the copy's restricting SIDs, from the source's and the numbers of those given.
-ghost use Rattle.std.specs.Prelude.{◌≡◌, ◌*◌, ◌≤◌, ◌<◌, length};
+ghost use Rattle.std.specs.Prelude.{◌≡◌, ◌≤◌, ◌<◌, length};
 ghost use Rattle.rules.specs.Token.{max_restricting};
 ghost use Rattle.rules.specs.State.{token_slots};
-ghost use Rattle.rules.specs.Memory.{token_words};
-ghost use Rattle.restrict_packed.specs.Gathered.{is_marked};
-ghost use Rattle.restrict_packed.specs.Kept.{stays_by, OwnKept, ListMade};
+ghost use Rattle.restrict_packed.specs.Gathered.{numbers_end};
+ghost use Rattle.restrict_packed.specs.Kept.{stays_by, ListMade};
 
 use crate::gathered::NUMBERS;
-use copy::restricting::{Sids, with_sid};
-use token::layout::{GROUPS_END, MAX_RESTRICTING, TOKEN_WORDS};
-
-// No number of a table is past the marks.
-fn is_marked(n: u64, marks: &[u8; NUMBERS]) -> bool
-    ensures { result ≡ is_marked marks.now n }
-{
-    if n < NUMBERS as u64 {
-        return marks[n as usize] == 1;
-    }
-    false
-}
+use copy::restricting::{Sids, kept};
+use state::parts::Parts;
 
 // One of a restricted source's SIDs stays: it is given too, or none is given.
-fn stays(sid: u64, count: u64, marks: &[u8; NUMBERS]) -> bool
+fn stays(sid: u64, count: u32, marks: &[bool; NUMBERS]) -> bool
+    requires { length marks.now ≡ numbers_end }
     ensures { result ≡ stays_by count marks.now sid }
 {
-    (count == 0) | is_marked(sid, marks)
+    count == 0 || (sid < NUMBERS as u64 && marks[sid as usize])
 }
 
-// Of the `own` SIDs in a source's row, those that stay, in their order.
-fn kept(words: &[u64], own: u64, count: u64, marks: &[u8; NUMBERS]) -> Sids
-    requires { (length words.now ≡ token_words) × (own ≤ max_restricting) }
-    ensures { OwnKept own words.now count marks.now result }
-{
-    let mut list = Sids {
-        count: 0,
-        words: [0u64; MAX_RESTRICTING],
-    };
-    let mut i: usize = 0;
-    while (i as u64) < own {
-        let sid = words[GROUPS_END + i];
-        if stays(sid, count, marks) {
-            list = with_sid(list, sid);
-        }
-        i += 1;
-    }
-    list
-}
-
-// The list of a copy of the token in a slot, which has `own` restricting SIDs; `given` has the first of the count numbers given.
+// The list of a copy of the token in a slot, which has `own` restricting SIDs; `given` lists the count numbers given, where all had room.
+// copy's own lists those that stand in a body: the two are alike in `kept` alone.
+#[tactic(auto, using(crate::proofs::Keeping::lists_given, crate::proofs::Keeping::lists_kept))]
 pub fn list_of(
+    parts: &Parts,
     slot: usize,
     own: u64,
-    tokens: &[u64],
-    count: u64,
-    given: Sids,
-    marks: &[u8; NUMBERS],
+    count: u32,
+    given: Option<Sids>,
+    marks: &[bool; NUMBERS],
 ) -> Sids
-    requires { (length tokens.now ≡ token_slots * token_words) × (slot < token_slots) × (own ≤ max_restricting) }
-    ensures { ListMade slot own tokens.now count given marks.now result }
+    requires { (slot < token_slots) × (own ≤ max_restricting) × (length marks.now ≡ numbers_end) }
+    ensures { ListMade slot own parts.now.tokens.now count given marks.now result }
 {
-    if own == 0 {
-        let words = given.words;
-        return Sids { count, words };
+    if own != 0 {
+        return kept(parts, slot, own, |sid| stays(sid, count, marks));
     }
-    let from = slot * TOKEN_WORDS;
-    let end = from + TOKEN_WORDS;
-    kept(&tokens[from..end], own, count, marks)
+    // Without room, only how many there are is asked for.
+    given.unwrap_or(Sids::unlisted(count))
 }

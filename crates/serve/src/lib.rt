@@ -1,83 +1,82 @@
 // A body is served: its request decided and carried out, its answer written.
 #![tactic(auto)]
 
-ghost use Rattle.std.specs.Prelude.{◌≤◌, ◌<◌, length};
-ghost use Rattle.rules.specs.State.{station_count};
+ghost use Rattle.std.specs.Prelude.{◌≡◌, ◌≤◌, length};
 ghost use Rattle.rules.specs.Frame.{max_answer};
 ghost use Rattle.handle.specs.Words.{records_in};
-ghost use Rattle.state.specs.Parts.{Lent};
+ghost use Rattle.state.specs.Parts.{SameParts};
+ghost use Rattle.answer.specs.Answer.{answer_of, Fit, WroteFrame};
+ghost use Rattle.decide.specs.Carried.{ended};
 ghost use Rattle.serve.specs.Served.{Held, BodyCarried, BodyServed};
 
-use answer::refusal;
+use answer::{Answer, Refusal};
 use body::layout;
-use decide::outcome;
-use decide::outcome::Outcome;
-use handle::HANDLE_WORDS;
+use control::stations::Station;
+use decide::outcome::{Outcome, ends};
 use state::handles::Change;
+use state::parts::Parts;
 
-// How many bytes the answer has, and the one handle that changes: a slot past the last is none.
+// How many bytes the answer has, and the one handle that changes.
 #[derive(Clone, Copy)]
 pub struct Reply {
     pub written: usize,
-    pub change: Change,
+    pub change: Option<Change>,
 }
 
 // The request of a body, carried out.
-fn carry_out(
-    station: u32,
-    body: &[u8],
-    handles: &[u64; HANDLE_WORDS],
-    tokens: &mut [u64],
-    dacls: &mut [u8],
-    control: &mut [u64],
-) -> Outcome
-    requires { Lent tokens.old dacls.old control.old × (station < station_count) }
-    ensures { BodyCarried station body.now tokens.old dacls.old (records_in handles.now) control.old tokens.new dacls.new control.new result }
+fn carry_out(parts: &mut Parts, station: Station, body: &[u8]) -> Result<Outcome, Refusal>
+    ensures same { SameParts parts.old parts.new }
+    ensures carried { BodyCarried station.number body.now parts.old parts.new result }
 {
-    let first = layout::request_number(body);
-    let n = first.value;
-    let c = first.next;
-    match n {
-        1 => requests::open_own(station, body, c, handles, tokens, dacls, control),
-        2 => requests::close(station, body, c, handles, tokens, dacls, control),
-        3 => requests::create(station, body, c, handles, tokens, dacls, control),
-        4 => requests::query(station, body, c, handles, tokens, dacls, control),
-        5 => requests::privileges(station, body, c, handles, tokens, dacls, control),
-        6 => requests::groups(station, body, c, handles, tokens, dacls, control),
-        7 => requests::scope(station, body, c, handles, tokens, dacls, control),
-        8 => requests::defaults(station, body, c, handles, tokens, dacls, control),
-        9 => requests::duplicate(station, body, c, handles, tokens, dacls, control),
-        10 => requests::restrict(station, body, c, handles, tokens, dacls, control),
-        11 => requests::install(station, body, c, handles, tokens, dacls, control),
-        12 => requests::impersonate(station, body, c, handles, tokens, dacls, control),
-        13 => requests::revert(station, body, c, handles, tokens, dacls, control),
-        14 => requests::create_packed(station, body, c, handles, tokens, dacls, control),
-        15 => requests::restrict_packed(station, body, c, handles, tokens, dacls, control),
-        16 => requests::link(station, body, c, handles, tokens, dacls, control),
-        17 => requests::linked(station, body, c, handles, tokens, dacls, control),
-        18 => requests::evaluate(station, body, c, handles, tokens, dacls, control),
-        _ => outcome::refused(refusal::MALFORMED),
+    let Some((number, rest)) = layout::request_number(body) else {
+        return Err(Refusal::Malformed);
+    };
+    match number {
+        1 => requests::open_own(parts, station, rest),
+        2 => requests::close(parts, station, rest),
+        3 => requests::create(parts, station, rest),
+        4 => requests::query(parts, station, rest),
+        5 => requests::privileges(parts, station, rest),
+        6 => requests::groups(parts, station, rest),
+        7 => requests::scope(parts, station, rest),
+        8 => requests::defaults(parts, station, rest),
+        9 => requests::duplicate(parts, station, rest),
+        10 => requests::restrict(parts, station, rest),
+        11 => requests::install(parts, station, rest),
+        12 => requests::impersonate(parts, station, rest),
+        13 => requests::revert(parts, station, rest),
+        14 => requests::create_packed(parts, station, rest),
+        15 => requests::restrict_packed(parts, station, rest),
+        16 => requests::link(parts, station, rest),
+        17 => requests::linked(parts, station, rest),
+        18 => requests::evaluate(parts, station, rest),
+        _ => Err(Refusal::Malformed),
     }
 }
 
-pub fn serve(
-    station: u32,
-    body: &[u8],
-    handles: &[u64; HANDLE_WORDS],
-    tokens: &mut [u64],
-    dacls: &mut [u8],
-    control: &mut [u64],
-    out: &mut [u8],
-) -> Reply
-    requires { Lent tokens.old dacls.old control.old × (station < station_count) × (max_answer ≤ length out.old) × Held tokens.old dacls.old (records_in handles.now) control.old }
-    ensures { BodyServed station body.now tokens.old dacls.old (records_in handles.now) control.old tokens.new dacls.new control.new out.old out.new result }
+// A refusal is answered, and changes no handle.
+fn ended(r: Result<Outcome, Refusal>) -> Outcome
+    ensures { result ≡ ended r }
 {
-    let done = carry_out(station, body, handles, tokens, dacls, control);
-    let a = done.answer;
-    let change = done.change;
-    let written = answer::write(a, tokens, dacls, out);
-    Reply {
-        written: written,
-        change: change,
+    match r {
+        Ok(done) => done,
+        Err(refusal) => ends(Answer::Refused(refusal)),
     }
+}
+
+fn write(parts: &Parts, a: Answer, out: &mut [u8]) -> usize
+    requires { (max_answer ≤ length out.old) × Fit parts.now.tokens.now parts.now.dacls.now a }
+    ensures { WroteFrame (answer_of parts.now.tokens.now parts.now.dacls.now a) out.old out.new result }
+{
+    answer::write(a, parts.tokens, parts.dacls, out)
+}
+
+pub fn serve(parts: &mut Parts, station: Station, body: &[u8], out: &mut [u8]) -> Reply
+    requires { (max_answer ≤ length out.old) × Held parts.old.tokens.now parts.old.dacls.now (records_in parts.old.handles.now) parts.old.control.now }
+    ensures same { SameParts parts.old parts.new }
+    ensures served { BodyServed station.number body.now parts.old parts.new out.old out.new result }
+{
+    let Outcome { answer, change } = ended(carry_out(parts, station, body));
+    let written = write(parts, answer, out);
+    Reply { written, change }
 }

@@ -2,7 +2,6 @@ pub mod Reading
 pub mod Later
 pub mod Blocks
 pub mod Saying
-pub mod Keeping
 pub mod Feeding
 pub mod Turning
 pub mod AsCalls

@@ -10,7 +10,7 @@ use borrow.Author.Tests.{lt-ltb, le-ltb, ltb-true}
 use Rattle.rules.specs.Number.{Read, max32}
 use Rattle.rules.proofs.Logic.{and_l}
 use Rattle.number.specs.declared.Number.{Number}
-use Rattle.number.specs.declared.Number.TheVariants as number
+use Rattle.std.specs.Prelude.{Option, Some, None}
 use Rattle.number.specs.Meaning.{NumberAt}
 use Rattle.number.proofs.Reading.{is_bad, is_value, bounds}
 use Rattle.session.specs.Program as program
@@ -49,57 +49,57 @@ module _ (s : List ℕ) (from : ℕ) where
 
   -- ---- after a number
 
-  module _ (r : Number) (f : NumberAt s from max32 r) (go : ℕ → List ℕ → program.Next) (few : ℕ) (x : Next) where
-    pub without : r ≡ number.Bad → Says s from number_bytes (no_number (drop from s)) x → Says s from (number_bytes + few) (with_number (drop from s) go) x
+  module _ (r : Option Number) (f : NumberAt s from max32 r) (go : ℕ → List ℕ → program.Next) (few : ℕ) (x : Next) where
+    pub without : r ≡ None → Says s from number_bytes (no_number (drop from s)) x → Says s from (number_bytes + few) (with_number (drop from s) go) x
     unfolding with_number on_number
     without g w = record { means = w.means ∙ ap (on_number (drop from s) go) (is_bad s from max32 r f g); bounds = weaker (length s) from few x w.bounds }
 
-    pub within : (v q : ℕ) → r ≡ number.Value v q → Says s q few (go v (drop q s)) x → Says s from (number_bytes + few) (with_number (drop from s) go) x
+    pub within : (n : Number) → r ≡ Some n → Says s n.next few (go n.value (drop n.next s)) x → Says s from (number_bytes + few) (with_number (drop from s) go) x
     unfolding with_number on_number
-    within v q g w =
-        let e = is_value s from max32 r f v q g in
-        let b = bounds s from max32 r f v q g in
+    within n g w =
+        let e = is_value s from max32 r f n.value n.next g in
+        let b = bounds s from max32 r f n.value n.next g in
         let l = subst (λ (y : Read ℕ). Short max32 (drop from s) y) (sym e) (read_short max32 (drop from s)) 4 (omega arith) in
         record {
           means = w.means ∙ ap (on_number (drop from s) go) e;
-          bounds = wider (length s) from q few x (omega (arith, b)) (omega (arith, b, l, length-drop from s, length-drop q s)) w.bounds;
+          bounds = wider (length s) from n.next few x (omega (arith, b)) (omega (arith, b, l, length-drop from s, length-drop n.next s)) w.bounds;
         }
 
--- ---- a length n, which ends at q
+-- ---- a length
 
-module _ (s : List ℕ) (from station : ℕ) (r : Number) (f : NumberAt s from max32 r) (n q : ℕ) (g : r ≡ number.Value n q) where
+module _ (s : List ℕ) (from station : ℕ) (r : Option Number) (f : NumberAt s from max32 r) (n : Number) (g : r ≡ Some n) where
   abbrev Sized : Next → Type 0
   Sized x = Says s from (number_bytes + max_chunk) (with_number (drop from s) (of_length station)) x
 
-  pub too_large : max_chunk < n → Sized next.Stop
+  pub too_large : max_chunk < n.value → Sized next.Stop
   unfolding of_length
-  too_large h = within s from r f (of_length station) max_chunk next.Stop n q g (record { means = simp (lt-ltb max_chunk n h); bounds = tt })
+  too_large h = within s from r f (of_length station) max_chunk next.Stop n g (record { means = simp (lt-ltb max_chunk n.value h); bounds = tt })
 
-  module _ (h : n ≤ max_chunk) (m : ℕ) (e : m ≡ length s - q) where
-    pub too_few : m < n → Sized next.More
+  module _ (h : n.value ≤ max_chunk) (m : ℕ) (e : m ≡ length s - n.next) where
+    pub too_few : m < n.value → Sized next.More
     unfolding of_length
-    too_few l = within s from r f (of_length station) max_chunk next.More n q g (record {
-      means = simp (le-ltb max_chunk n h, lt-ltb (length (drop q s)) n (omega (arith, length-drop q s)));
+    too_few l = within s from r f (of_length station) max_chunk next.More n g (record {
+      means = simp (le-ltb max_chunk n.value h, lt-ltb (length (drop n.next s)) n.value (omega (arith, length-drop n.next s)));
       bounds = omega arith;
     })
 
-    pub there : n ≤ m → Sized (next.Chunk station q n)
+    pub there : n.value ≤ m → Sized (next.Chunk station n.next n.value)
     unfolding of_length
-    there l = within s from r f (of_length station) max_chunk (next.Chunk station q n) n q g (record {
-      means = simp (le-ltb max_chunk n h, le-ltb (length (drop q s)) n (omega (arith, length-drop q s)), drop-drop n q s);
-      bounds = (omega arith, omega (arith, bounds s from max32 r f n q g), h);
+    there l = within s from r f (of_length station) max_chunk (next.Chunk station n.next n.value) n g (record {
+      means = simp (le-ltb max_chunk n.value h, le-ltb (length (drop n.next s)) n.value (omega (arith, length-drop n.next s)), drop-drop n.value n.next s);
+      bounds = (omega arith, omega (arith, bounds s from max32 r f n.value n.next g), h);
     })
 
 -- a station's number fits
-pub fits : (s : List ℕ) (from : ℕ) (r : Number) → NumberAt s from max32 r → (v q : ℕ) → r ≡ number.Value v q → v < 2 ^ 32
-fits s from r f v q g = omega (arith, bounds s from max32 r f v q g)
+pub fits : (s : List ℕ) (from : ℕ) (r : Option Number) → NumberAt s from max32 r → (n : Number) → r ≡ Some n → n.value < 2 ^ 32
+fits s from r f n g = omega (arith, bounds s from max32 r f n.value n.next g)
 
 -- the station, and then what `sized` says
-module _ (s : List ℕ) (from : ℕ) (r : Number) (f : NumberAt s from max32 r) (x : Next) where
-  pub unread_next : r ≡ number.Bad → Says s from number_bytes (no_number (drop from s)) x → Says s from max_waiting (program.next (drop from s)) x
+module _ (s : List ℕ) (from : ℕ) (r : Option Number) (f : NumberAt s from max32 r) (x : Next) where
+  pub unread_next : r ≡ None → Says s from number_bytes (no_number (drop from s)) x → Says s from max_waiting (program.next (drop from s)) x
   unfolding program.next
   unread_next g w = without s from r f (λ station bytes. with_number bytes (of_length station)) (number_bytes + max_chunk) x g w
 
-  pub sized_next : (v q : ℕ) → r ≡ number.Value v q → Says s q (number_bytes + max_chunk) (with_number (drop q s) (of_length v)) x → Says s from max_waiting (program.next (drop from s)) x
+  pub sized_next : (n : Number) → r ≡ Some n → Says s n.next (number_bytes + max_chunk) (with_number (drop n.next s) (of_length n.value)) x → Says s from max_waiting (program.next (drop from s)) x
   unfolding program.next
-  sized_next v q g w = within s from r f (λ station bytes. with_number bytes (of_length station)) (number_bytes + max_chunk) x v q g w
+  sized_next n g w = within s from r f (λ station bytes. with_number bytes (of_length station)) (number_bytes + max_chunk) x n g w

@@ -1,8 +1,9 @@
 -- What the broker's calls by value give to the session. Assumes nothing.
-use Prim.Native.Nat.{ℕ, zero, suc, ◌*◌, ◌≤◌, ◌<◌}
+use Prim.Native.Nat.{ℕ, ◌*◌, ◌<◌}
 use native.Mathlib.Omega.{arith}
 use mathlib.Core.Path.{◌≡◌, refl, sym, ap, ◌∙◌}
-use mathlib.Core.List.{List, ◌∷◌}
+use mathlib.Core.List.{List}
+use Rattle.std.specs.Prelude.{Result, Ok, Err}
 use lib.ListN.{length, get_or, take, drop, replicate, length-append, length-replicate}
 use lib.Seq.{take_at}
 use Rattle.rules.specs.State.{handle_slots}
@@ -16,13 +17,14 @@ use Rattle.handle.specs.declared.Handles.{Handles}
 use Rattle.valid.specs.Meaning.{memory_of}
 use Rattle.state.specs.HandleFacts.{changed}
 use Rattle.start.specs.Promise.{freed, StartsWith}
-use Rattle.start.specs.declared.Started.{Started}
-use Rattle.calls.specs.Promise.{Feeds, FeedsWith}
+use Rattle.start.specs.declared.refusal.CallRefusal.{CallRefusal}
+use Rattle.calls.specs.Promise.{Feeds, fed_as, change_of, FeedsWith}
+use Rattle.calls.specs.declared.Fed.{Fed}
 use Rattle.calls.specs.declared.Turn.{Turn}
 use Rattle.handle.proofs.Words.{records_long}
 use Rattle.calls.proofs.Freeing.{of_bytes_lem}
-use Rattle.session.specs.Turns.{Starts, Turns}
-use Rattle.session.specs.declared.turn.Turned.{Turned}
+use Rattle.session.specs.Turns.{held, Starts, Turns}
+use Rattle.session.specs.declared.turn.Memory as program
 use Rattle.session.proofs.Feeding.{call_goes, call_refused, call_valid, call_taken, call_skipped}
 
 -- ---- start
@@ -32,26 +34,28 @@ records_none : records_in (replicate (handle_slots * slot_words) 0) ≡ replicat
 unfolding records_from
 records_none = refl
 
-none_freed : (n k : ℕ) → k ≤ n → freed k (replicate n none) ≡ replicate n none
-none_freed n zero h = refl
-none_freed zero (suc k) h = absurd (omega arith)
-none_freed (suc n) (suc k) h = ap (λ (hs : List Handle). none ∷ hs) (none_freed n k (omega arith))
+-- all handles freed, or none: they are free already
+none_freed : (r : Result Unit CallRefusal) → freed r (replicate handle_slots none) ≡ replicate handle_slots none
+none_freed (Ok u) = refl
+none_freed (Err e) = refl
 
-pub started : (ts ds cs ps ts' ds' cs' ps' : List ℕ) (x : Started) → StartsWith handle_slots ts ds cs ps ts' ds' cs' ps' x
-    → Starts ts ds cs ps ts' ds' cs' ps' (record { words = replicate (handle_slots * slot_words) 0 })
-started ts ds cs ps ts' ds' cs' ps' x w =
+pub started : (m n : program.Memory) (x : Result Unit CallRefusal)
+    → n.handles ≡ record { words = replicate (handle_slots * slot_words) 0 }
+    → StartsWith handle_slots m.tokens.now m.dacls.now m.control.now m.pending.now n.tokens.now n.dacls.now n.control.now n.pending.now x → Starts m n
+started m n x e w =
     let hs : List Handle = replicate handle_slots none in
+    let is : records_in n.handles.words ≡ hs = ap (λ (h : Handles). records_in h.words) e ∙ records_none in
     record {
-      handles = records_none;
-      memory = rw records_none (ap (λ (y : List Handle). memory_of ts' ds' y cs' ps') (sym (none_freed handle_slots x.freed w.inside)) ∙ (w.started hs (length-replicate handle_slots none)).memory);
+      handles = is;
+      memory = rw is (ap (λ (y : List Handle). memory_of n.tokens.now n.dacls.now y n.control.now n.pending.now) (sym (none_freed x)) ∙ (w.started hs (length-replicate handle_slots none)).memory);
     }
 
 -- ---- feed
 
-module _ (s : ℕ) (chunk : List ℕ) (bytes : (i : ℕ) → get_or chunk i 0 < 256) (m m' : Memory) (out out' : List ℕ) (r : Turned) (f : Feeds (feed_on m s chunk (length out)) m' out out' r.fed) where
-  answer : take r.fed.answered out' ≡ (feed_on m s chunk (length out)).answer
+module _ (s : ℕ) (chunk : List ℕ) (bytes : (i : ℕ) → get_or chunk i 0 < 256) (m m' : Memory) (out out' : List ℕ) (r : Fed) (f : Feeds (feed_on m s chunk (length out)) m' out out' r) where
+  answer : take r.answered out' ≡ (feed_on m s chunk (length out)).answer
   unfolding buffer
-  answer = ap (take r.fed.answered) f.answer ∙ take_at _ _ r.fed.answered (sym f.answered)
+  answer = ap (take r.answered) f.answer ∙ take_at _ _ r.answered (sym f.answered)
 
   turns : Turns s chunk m m' out out' r
   unfolding buffer
@@ -69,15 +73,12 @@ module _ (s : ℕ) (chunk : List ℕ) (bytes : (i : ℕ) → get_or chunk i 0 < 
         skipped = λ v fits some z. rw f.memory (call_skipped m v s chunk (length out) (of_bytes_lem chunk bytes) fits some (λ e. z (f.refusal ∙ e)));
       }
 
-module _ (chunk : List ℕ) (bytes : (i : ℕ) → get_or chunk i 0 < 256) (s : ℕ) (ws ts ds cs ps out ts' ds' cs' ps' out' : List ℕ) (x : Turn) where
-  abbrev hs : List Handle
-  hs = records_in ws
-
-  pub turned : FeedsWith s chunk handle_slots hs ts ds cs ps out ts' ds' cs' ps' out' x
-      → (n : Handles) → records_in n.words ≡ changed hs x.change
-      → Turns s chunk (memory_of ts ds hs cs ps) (memory_of ts' ds' (records_in n.words) cs' ps') out out' (record { fed = x.fed; handles = n })
-  turned w n e =
-      let l : length hs ≡ handle_slots = records_long handle_slots ws in
-      let all : loaded hs ≡ hs = take_at hs (replicate handle_slots none) handle_slots l in
-      turns s chunk bytes (memory_of ts ds hs cs ps) (memory_of ts' ds' (records_in n.words) cs' ps') out out' (record { fed = x.fed; handles = n })
-      (rw e (w.fed hs l all))
+pub turned : (chunk : List ℕ) (bytes : (i : ℕ) → get_or chunk i 0 < 256) (s : ℕ) (m : program.Memory) (ts ds ws cs ps out out' : List ℕ) (x : Result Turn CallRefusal) (r : Fed)
+    → FeedsWith s chunk handle_slots (records_in m.handles.words) m.tokens.now m.dacls.now m.control.now m.pending.now out ts ds cs ps out' x
+    → records_in ws ≡ changed (records_in m.handles.words) (change_of x) → r ≡ fed_as x
+    → Turns s chunk (held m) (memory_of ts ds (records_in ws) cs ps) out out' r
+turned chunk bytes s m ts ds ws cs ps out out' x r w e f =
+    let hs : List Handle = records_in m.handles.words in
+    let l : length hs ≡ handle_slots = records_long handle_slots m.handles.words in
+    let all : loaded hs ≡ hs = take_at hs (replicate handle_slots none) handle_slots l in
+    rw f (turns s chunk bytes (held m) (memory_of ts ds (records_in ws) cs ps) out out' (fed_as x) (rw e (w.fed hs l all)))

@@ -1,9 +1,10 @@
 // The input: station, length and bytes of a chunk, over and over. Bytes that are not there yet change nothing that was said of those before them.
-ghost use Rattle.std.specs.Prelude.{◌≡◌, length, drop, ◌+◌, ◌-◌, ◌≤◌};
+ghost use Rattle.std.specs.Prelude.{◌≡◌, length, drop, ◌+◌, ◌-◌, ◌≤◌, leb};
+ghost use Rattle.std.specs.List.{list_all};
 ghost use Rattle.session.specs.Program.{max_chunk, number_bytes, is_cut, no_number, with_number, of_length, next};
 ghost use Rattle.session.specs.Input.{Says, Kept, max_waiting};
 
-use number::Number;
+use number::{Number, U32, number_at};
 
 // The longest chunk.
 const MAX_CHUNK: u64 = 4096;
@@ -11,7 +12,8 @@ const MAX_CHUNK: u64 = 4096;
 // The most bytes of a station's number or of a length.
 const NUMBER_BYTES: usize = 5;
 
-// What the bytes so far come to: a chunk of a station that is there whole, more to be read first, or the end.
+// What the bytes so far come to: a chunk of a station that is there whole, more to be read first, or the end. Two answers without a chunk: an Option has
+// one.
 #[derive(Clone, Copy)]
 pub enum Next {
     Chunk {
@@ -27,24 +29,22 @@ pub enum Next {
 fn left(s: &[u8], from: usize) -> usize
     ensures { result ≡ length s.now - from }
 {
-    if from < s.len() { s.len() - from } else { 0 }
+    s.len().saturating_sub(from)
+}
+
+// Each byte from a place on says that its number goes on.
+fn go_on(s: &[u8], from: usize) -> bool
+    ensures { result ≡ list_all (leb 128) (drop from s.now) }
+{
+    s.iter().skip(from).all(|b| 128 <= *b)
 }
 
 // The bytes from a place on may be the first of a number.
+#[tactic(auto, using(crate::proofs::Reading::too_long, crate::proofs::Reading::begun))]
 fn is_cut(s: &[u8], from: usize) -> bool
     ensures { result ≡ is_cut (drop from s.now) }
 {
-    if NUMBER_BYTES <= left(s, from) {
-        return false;
-    }
-    let mut i = from;
-    while i < s.len() {
-        if s[i] < 128 {
-            return false;
-        }
-        i += 1;
-    }
-    true
+    left(s, from) < NUMBER_BYTES && go_on(s, from)
 }
 
 // No number stands at a place.
@@ -62,22 +62,20 @@ fn unread(s: &[u8], from: usize) -> Next
 fn sized(s: &[u8], station: u32, from: usize) -> Next
     ensures { Says s.now from (number_bytes + max_chunk) (with_number (drop from s.now) (of_length station)) result }
 {
-    match number::number_at(s, from, number::U32) {
-        Number::Bad => unread(s, from),
-        Number::Value { value: size, next } => {
-            if MAX_CHUNK < size {
-                return Next::Stop;
-            }
-            let n = size as usize;
-            if left(s, next) < n {
-                return Next::More;
-            }
-            Next::Chunk {
-                station,
-                at: next,
-                size: n,
-            }
-        }
+    let Some(Number { value: size, next }) = number_at(s, from, U32) else {
+        return unread(s, from);
+    };
+    if MAX_CHUNK < size {
+        return Next::Stop;
+    }
+    let n = size as usize;
+    if left(s, next) < n {
+        return Next::More;
+    }
+    Next::Chunk {
+        station,
+        at: next,
+        size: n,
     }
 }
 
@@ -85,12 +83,9 @@ fn sized(s: &[u8], station: u32, from: usize) -> Next
 pub fn next_chunk(s: &[u8], from: usize) -> Next
     ensures { Says s.now from max_waiting (next (drop from s.now)) result }
 {
-    match number::number_at(s, from, number::U32) {
-        Number::Bad => unread(s, from),
-        Number::Value {
-            value: station,
-            next,
-        } => sized(s, station as u32, next),
+    match number_at(s, from, U32) {
+        None => unread(s, from),
+        Some(station) => sized(s, station.value as u32, station.next),
     }
 }
 
@@ -100,10 +95,6 @@ pub fn keep(buffer: &mut [u8], from: usize, end: usize) -> usize
     ensures { Kept from end buffer.old buffer.new result }
 {
     let n = end - from;
-    let mut i: usize = 0;
-    while i < n {
-        buffer[i] = buffer[from + i];
-        i += 1;
-    }
+    buffer.copy_within(from..end, 0);
     n
 }

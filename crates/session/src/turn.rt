@@ -1,52 +1,72 @@
-// The broker's calls over memory that the program holds: the lent parts, and the handles by value.
+// The broker's calls over memory that the program holds.
+ghost use Rattle.std.specs.Prelude.{◌≡◌};
 ghost use Rattle.handle.specs.Words.{records_in};
-ghost use Rattle.valid.specs.Meaning.{memory_of};
-ghost use Rattle.session.specs.Turns.{Starts, Turns};
+ghost use Rattle.state.specs.HandleFacts.{changed};
+ghost use Rattle.calls.specs.Promise.{change_of};
+ghost use Rattle.session.specs.Turns.{SameMemory, held, Starts, Turns};
 
-use calls::Fed;
+use calls::{Fed, Turn};
 use handle::{HANDLE_WORDS, Handles, SLOTS};
+use start::CallRefusal;
 
-// What a feed returns, and the handles after it.
-#[derive(Clone, Copy)]
-pub struct Turned {
-    pub fed: Fed,
+// The lent parts, and the handles by value.
+#[derive(Drop)]
+pub struct Memory<'a> {
+    pub tokens: &'a mut [u64],
+    pub dacls: &'a mut [u8],
     pub handles: Handles,
+    pub control: &'a mut [u64],
+    pub pending: &'a mut [u8],
 }
 
-// The start's memory; its handles.
-pub fn start(
-    tokens: &mut [u64],
-    dacls: &mut [u8],
-    control: &mut [u64],
-    pending: &mut [u8],
-) -> Handles
-    ensures { Starts tokens.old dacls.old control.old pending.old tokens.new dacls.new control.new pending.new result }
+// The start's memory.
+pub fn start(memory: &mut Memory)
+    ensures same { SameMemory memory.old memory.new }
+    ensures starts { Starts memory.old memory.new }
 {
-    start::start(tokens, dacls, SLOTS, control, pending);
-    Handles {
+    memory.handles = Handles {
         words: [0; HANDLE_WORDS],
+    };
+    let _ = start::start(
+        memory.tokens,
+        memory.dacls,
+        SLOTS,
+        memory.control,
+        memory.pending,
+    );
+}
+
+// The handles after a feed: the one that changed stands in its slot.
+fn changed(handles: Handles, turn: Result<Turn, CallRefusal>) -> Handles
+    ensures { records_in result.words ≡ changed (records_in handles.words) (change_of turn) }
+{
+    match turn {
+        Ok(
+            Turn {
+                change: Some(change),
+                ..
+            },
+        ) => handle::place(handles, change.slot, change.handle),
+        _ => handles,
     }
 }
 
 // One feed of a station's chunk.
-pub fn feed(
-    station: u32,
-    chunk: &[u8],
-    out: &mut [u8],
-    tokens: &mut [u64],
-    dacls: &mut [u8],
-    handles: Handles,
-    control: &mut [u64],
-    pending: &mut [u8],
-) -> Turned
-    ensures { Turns station chunk.now (memory_of tokens.old dacls.old (records_in handles.words) control.old pending.old) (memory_of tokens.new dacls.new (records_in result.handles.words) control.new pending.new) out.old out.new result }
+pub fn feed(memory: &mut Memory, station: u32, chunk: &[u8], out: &mut [u8]) -> Fed
+    ensures same { SameMemory memory.old memory.new }
+    ensures turns { Turns station chunk.now (held memory.old) (held memory.new) out.old out.new result }
 {
     let turn = calls::feed(
-        station, chunk, out, tokens, dacls, SLOTS, handles, control, pending,
+        station,
+        chunk,
+        out,
+        memory.tokens,
+        memory.dacls,
+        SLOTS,
+        memory.handles,
+        memory.control,
+        memory.pending,
     );
-    let fed = turn.fed;
-    Turned {
-        fed: fed,
-        handles: handle::place(handles, turn.change.slot, turn.change.handle),
-    }
+    memory.handles = changed(memory.handles, turn);
+    Fed::of(turn)
 }

@@ -4,7 +4,7 @@ use native.Mathlib.Numerals.{add-one}
 use native.Mathlib.Omega.{arith}
 use mathlib.Core.Path.{◌≡◌, refl, sym, ap, ap₂, ◌∙◌}
 use mathlib.Core.List.{List, [], ◌∷◌, ◌++◌, append_assoc}
-use lib.ListN.{length, take, drop, get_or, set, length-set, length-drop, length-take, length-append, get_or-append, replicate}
+use lib.ListN.{length, take, drop, get_or, set, length-drop, length-take, length-append, get_or-append, replicate}
 use lib.Seq.{drop-drop, take_at, drop_at, get_or-append_seam, take-append-le, drop-append-add, take-append-add}
 use Rattle.table.specs.Lists.{pad, length_pad, pad_fits, take_pad}
 use Rattle.table.specs.Table.{put_record, flat}
@@ -129,27 +129,3 @@ module _ (ws x : List ℕ) (n k : ℕ) (size : length ws ≡ sid_words) (wide : 
       ∙ ap₂ (λ (y : List ℕ) (j : ℕ). (n + 1) ∷ ((p ++ take (n * row_words) (drop rows_at ws)) ++ (y ++ drop j (drop (n * row_words) (drop rows_at ws))))) f nine
       ∙ ap (λ (l : List ℕ). (n + 1) ∷ l) (append_assoc p (take (n * row_words) (drop rows_at ws)) (x ++ drop row_words (drop (n * row_words) (drop rows_at ws)))
       ∙ ap (λ (q : List ℕ). q ++ (take (n * row_words) (drop rows_at ws) ++ (x ++ drop row_words (drop (n * row_words) (drop rows_at ws))))) e)
-
-  -- whatever place and count they are, the stores keep the size
-  pub made_length : (new count : ℕ) (p b : List ℕ) → p ≡ shifted n k new (take (rows_at - 1) (drop 1 ws)) → b ≡ x
-      → length (set (take (rows_at + n * row_words) (take 1 ws ++ (p ++ drop (rows_at - 1) (drop 1 ws)))
-      ++ (b ++ drop (rows_at + n * row_words + row_words - (rows_at + n * row_words)) (drop (rows_at + n * row_words) (take 1 ws ++ (p ++ drop (rows_at - 1) (drop 1 ws)))))) 0 count)
-      ≡ length ws
-  made_length new count p b e f =
-      let w : List ℕ = take 1 ws ++ (p ++ drop (rows_at - 1) (drop 1 ws)) in
-      let at : ℕ = rows_at + n * row_words in
-      let pl : length p ≡ max_sids = ap length e ∙ length_shifted n k new (take (rows_at - 1) (drop 1 ws)) low (omega (arith, places_long)) ∙ places_long in
-      let wl : length w ≡ sid_words =
-      length-append (take 1 ws) (p ++ drop (rows_at - 1) (drop 1 ws))
-      ∙ omega (arith, length-take 1 ws, length-append p (drop (rows_at - 1) (drop 1 ws)), pl, length-drop (rows_at - 1) (drop 1 ws), length-drop 1 ws) in
-      length-set (take at w ++ (b ++ drop (at + row_words - at) (drop at w))) 0 count
-      ∙ length-append (take at w) (b ++ drop (at + row_words - at) (drop at w))
-      ∙ omega (
-        arith,
-        wl,
-        length-take at w,
-        length-append b (drop (at + row_words - at) (drop at w)),
-        ap length f,
-        length-drop (at + row_words - at) (drop at w),
-        length-drop at w,
-      )

@@ -1,57 +1,51 @@
--- Laws of the loops over rows and words: what is left to do gives what the whole gives. Assumes nothing.
+-- Laws of rows and of the loops over them: what is left to do gives what the whole gives. Assumes nothing.
 use Prim.Native.Nat.{ℕ, zero, suc, ◌+◌, ◌*◌, ◌-◌, ◌/◌, ◌%◌, ◌≤◌, ◌<◌}
 use native.Mathlib.Numerals.{add-one}
 use native.Mathlib.Omega.{arith}
 use mathlib.Core.Path.{◌≡◌, refl, sym, ap, ap₂, ◌∙◌}
 use mathlib.Core.Bool.{Bool, true, false, ◌&&◌, and-true, and_assoc}
-use mathlib.Core.List.{List, [], ◌∷◌}
+use mathlib.Core.List.{List, [], ◌∷◌, ◌++◌}
 use lib.Dec.{eqb, ltb}
 use lib.ListN.{length, take, drop, get_or, length-drop, length-take, drop_of_length-le}
-use lib.Seq.{drop-cons, take_all, drop-drop}
-use borrow.Author.Tests.{eq-eqb, ne_eqb, ltb-true, le-leb, lt-leb}
+use lib.Seq.{drop-cons, take_all, drop-drop, get_or-drop}
+use borrow.Author.Tests.{eq-eqb, eqb-true, ne_eqb, ltb-true, le-leb, lt-leb}
+use Rattle.std.specs.Prelude.{if◌then◌else◌, cond, Some}
+use Rattle.std.specs.Ordering.{is_some_and, is_lt, nat_cmp, partial_ordering_then}
+use Rattle.std.specs.Cmp.Lexicographic.{slice_partial_cmp}
+use Rattle.std.specs.declared.cmp.Ordering.TheVariants.{Less, Equal, Greater}
 use Rattle.rules.specs.Basic.{is_zero, is_below, all}
 use Rattle.rules.specs.Sid.{max_subs}
 use Rattle.rules.specs.SidTable.{max_sids}
 use Rattle.rules.specs.SidRows.{row_words, count_in, zero_from, is_row, less, rising_from, rising, row_at}
 use Rattle.rules.proofs.Logic.{all_mem, get_or_mem}
-use Rattle.lists.proofs.Loops.{Tested, tested_more}
 use Rattle.sid.specs.Tests.{past_of, all_below, is_row_at}
 
-pub below_more : (n : ℕ) (s : List ℕ) {ok : Bool} {i : ℕ} → Tested (is_below n) 0 s ok i → i < length s → Tested (is_below n) 0 s (ok && ltb (get_or s i 0) n) (i + 1)
-unfolding is_below
-below_more n s t h = tested_more (is_below n) 0 s t h refl
+-- ---- every word is below n
+
+pub all_below_more : (n : ℕ) (xs : List ℕ) (x : ℕ) {ok r : Bool} → ok ≡ all (is_below n) xs → r ≡ (ok && ltb x n) → r ≡ all (is_below n) (xs ++ (x ∷ []))
+unfolding is_below all
+all_below_more n xs x e q = q ∙ ap (λ b. b && ltb x n) e ∙ sym (snoc xs)
+  where
+    snoc : (xs : List ℕ) → all (is_below n) (xs ++ (x ∷ [])) ≡ (all (is_below n) xs && ltb x n)
+    snoc [] = and-true (ltb x n)
+    snoc (y ∷ ys) = ap (λ b. ltb y n && b) (snoc ys) ∙ sym (and_assoc (ltb y n) (all (is_below n) ys) (ltb x n))
 
 -- ---- two rows compared
 
-pub record Equal (a b : List ℕ) (i : ℕ) : Type 0 where
-  pub long_a : length a ≡ row_words
-  pub long_b : length b ≡ row_words
-  pub fits : i ≤ row_words
-  pub rest : less (drop i a) (drop i b) ≡ less a b
-
-pub equal_none : (a b : List ℕ) → length a ≡ row_words → length b ≡ row_words → Equal a b 0
-equal_none a b p q = record { long_a = p; long_b = q; fits = omega arith; rest = refl }
-
-module _ {a b : List ℕ} {i : ℕ} (t : Equal a b i) (h : i < row_words) where
-  split : less (drop i a) (drop i b) ≡ less (get_or a i 0 ∷ drop (suc i) a) (get_or b i 0 ∷ drop (suc i) b)
-  split = ap₂ less (drop-cons a i 0 (omega arith)) (drop-cons b i 0 (omega arith))
-
-  pub equal_more : get_or a i 0 ≡ get_or b i 0 → Equal a b (i + 1)
-  unfolding less
-  equal_more e = record {
-    long_a = t.long_a;
-    long_b = t.long_b;
-    fits = omega arith;
-    rest = ap (λ (k : ℕ). less (drop k a) (drop k b)) (add-one i) ∙ sym (split ∙ rw (eq-eqb (get_or a i 0) (get_or b i 0) e) refl) ∙ t.rest;
-  }
-
-  pub differs : (get_or a i 0 ≡ get_or b i 0 → ⊥) → ltb (get_or a i 0) (get_or b i 0) ≡ less a b
-  unfolding less
-  differs ne = sym (split ∙ rw (ne_eqb (get_or a i 0) (get_or b i 0) ne) refl) ∙ t.rest
-
-pub equal_done : {a b : List ℕ} {i : ℕ} → Equal a b i → row_words ≤ i → false ≡ less a b
+-- the order of slices is that of rows
+pub row_order : (a b : List ℕ) → length a ≡ length b → is_some_and is_lt (slice_partial_cmp (λ x y. Some (nat_cmp x y)) a b) ≡ less a b
 unfolding less
-equal_done {a} {b} {i} t h = sym (ap₂ less (drop_of_length-le a {i = i} (omega arith)) (drop_of_length-le b {i = i} (omega arith))) ∙ t.rest
+row_order [] [] l = refl
+row_order [] (y ∷ ys) l = absurd (omega arith)
+row_order (x ∷ xs) [] l = absurd (omega arith)
+row_order (x ∷ xs) (y ∷ ys) l = by (ltb x y) (eqb x y) refl refl (row_order xs ys (omega arith))
+  where
+    by : (p q : Bool) → ltb x y ≡ p → eqb x y ≡ q → is_some_and is_lt (slice_partial_cmp (λ x y. Some (nat_cmp x y)) xs ys) ≡ less xs ys
+        → is_some_and is_lt (partial_ordering_then (Some (cond p Less (cond q Equal Greater))) (slice_partial_cmp (λ x y. Some (nat_cmp x y)) xs ys)) ≡ (if q then less xs ys else p)
+    by true true h k e = absurd (omega (arith, ltb-true x y h, eqb-true x y k))
+    by true false h k e = refl
+    by false true h k e = e
+    by false false h k e = refl
 
 -- ---- parts of the table
 
@@ -63,11 +57,6 @@ part_row rows i = ap (λ (k : ℕ). take k (drop (i * row_words) rows)) {x = i *
 pub length_part : (rows : List ℕ) (i : ℕ) → length rows ≡ max_sids * row_words → i < max_sids
     → length (take (i * row_words + row_words - i * row_words) (drop (i * row_words) rows)) ≡ row_words
 length_part rows i l h = simp (length-take, length-drop) (omega arith)
-
-pub less_parts : (rows : List ℕ) (i j : ℕ) {r : Bool}
-    → r ≡ less (take (i * row_words + row_words - i * row_words) (drop (i * row_words) rows)) (take (j * row_words + row_words - j * row_words) (drop (j * row_words) rows))
-    → r ≡ less (row_at rows i) (row_at rows j)
-less_parts rows i j e = e ∙ ap₂ less (part_row rows i) (part_row rows j)
 
 -- ---- a row
 
@@ -112,28 +101,9 @@ module _ (row : List ℕ) (l : length row ≡ row_words) where
 
 -- ---- the rows, one after the other
 
-pub record RowsSeen (rows : List ℕ) (n : ℕ) (ok : Bool) (i : ℕ) : Type 0 where
-  pub long : length rows ≡ max_sids * row_words
-  pub few : n ≤ max_sids
-  pub fits : i ≤ n
-  pub seen : ok ≡ all_below (is_row_at rows) i
-
-pub seen_none : (rows : List ℕ) (n : ℕ) → length rows ≡ max_sids * row_words → n ≤ max_sids → RowsSeen rows n true 0
-unfolding all_below
-seen_none rows n l h = record { long = l; few = h; fits = omega arith; seen = refl }
-
-pub seen_more : {rows : List ℕ} {n : ℕ} {ok r : Bool} {i : ℕ} → RowsSeen rows n ok i → i < n
-    → r ≡ is_row (take (i * row_words + row_words - i * row_words) (drop (i * row_words) rows)) → RowsSeen rows n (ok && r) (i + 1)
+pub seen_more : (rows : List ℕ) (i : ℕ) {ok r : Bool} → ok ≡ all_below (is_row_at rows) i → r ≡ is_row (row_at rows i) → (ok && r) ≡ all_below (is_row_at rows) (i + 1)
 unfolding all_below is_row_at
-seen_more {rows} {n} {ok} {r} {i} t h e = record {
-  long = t.long;
-  few = t.few;
-  fits = omega arith;
-  seen = ap₂ ◌&&◌ t.seen (e ∙ ap is_row (part_row rows i)) ∙ sym (ap (all_below (is_row_at rows)) (add-one i));
-}
-
-pub seen_done : {rows : List ℕ} {n : ℕ} {ok : Bool} {i : ℕ} → RowsSeen rows n ok i → n ≤ i → ok ≡ all_below (is_row_at rows) n
-seen_done {rows} {n} {ok} {i} t h = t.seen ∙ ap (all_below (is_row_at rows)) {x = i} {y = n} (omega arith)
+seen_more rows i t e = ap₂ ◌&&◌ t e ∙ sym (ap (all_below (is_row_at rows)) (add-one i))
 
 -- ---- their order
 
@@ -141,35 +111,45 @@ pub below_at : (n : ℕ) (s : List ℕ) (i : ℕ) → all (is_below n) s ≡ tru
 unfolding is_below
 below_at n s i h l = ltb-true (get_or s i 0) n (all_mem (is_below n) s h (get_or_mem s i 0 l))
 
+-- the places behind the first, as the loop takes them
+abbrev pub rest_of : List ℕ → List ℕ
+rest_of places = take (length places - 1) (drop 1 places)
+
+rest_is : (places : List ℕ) → rest_of places ≡ drop 1 places
+rest_is places = take_all (length places - 1) (drop 1 places) (simp length-drop (omega arith))
+
+pub next_inside : (places : List ℕ) (i : ℕ) → all (is_below max_sids) places ≡ true → i < length (rest_of places) → get_or (rest_of places) i 0 < max_sids
+next_inside places i b h =
+    let e : get_or (rest_of places) i 0 ≡ get_or places (1 + i) 0 = ap (λ (l : List ℕ). get_or l i 0) (rest_is places) ∙ get_or-drop 1 places i 0 in
+    let l : get_or places (1 + i) 0 < max_sids = below_at max_sids places (1 + i) b (omega (arith, ap length (rest_is places), length-drop 1 places)) in
+    omega arith
+
+-- what the rest of the places, of which the one before is `at`, says of all
 pub record Rises (places rows : List ℕ) (ok : Bool) (at i : ℕ) : Type 0 where
-  pub long : length rows ≡ max_sids * row_words
-  pub below : all (is_below max_sids) places ≡ true
-  pub fits : i ≤ length places
   pub inside : at < max_sids
-  pub rest : (ok && rising_from (row_at rows) at (drop i places)) ≡ rising (row_at rows) places
+  pub rest : (ok && rising_from (row_at rows) at (drop i (rest_of places))) ≡ rising (row_at rows) places
 
-pub rises_none : (places rows : List ℕ) → length rows ≡ max_sids * row_words → 0 < length places → all (is_below max_sids) places ≡ true → Rises places rows true (get_or places 0 0) 1
+pub rises_none : (places rows : List ℕ) → 0 < length places → all (is_below max_sids) places ≡ true → Rises places rows true (get_or places 0 0) 0
 unfolding rising
-rises_none [] rows l h b = absurd (omega arith)
-rises_none (p ∷ ps) rows l h b = record { long = l; below = b; fits = omega arith; inside = below_at max_sids (p ∷ ps) 0 b (omega arith); rest = refl }
+rises_none [] rows h b = absurd (omega arith)
+rises_none (p ∷ ps) rows h b = record { inside = below_at max_sids (p ∷ ps) 0 b (omega arith); rest = ap (rising_from (row_at rows) p) (rest_is (p ∷ ps)) }
 
-pub rises_more : {places rows : List ℕ} {ok r : Bool} {at i : ℕ} → Rises places rows ok at i → i < length places
-    → r ≡ less (row_at rows at) (row_at rows (get_or places i 0)) → Rises places rows (ok && r) (get_or places i 0) (i + 1)
+pub rises_more : (places rows : List ℕ) {ok r : Bool} {at i : ℕ} → all (is_below max_sids) places ≡ true → Rises places rows ok at i → i < length (rest_of places)
+    → r ≡ less (row_at rows at) (row_at rows (get_or (rest_of places) i 0)) → Rises places rows (ok && r) (get_or (rest_of places) i 0) (i + 1)
 unfolding rising_from
-rises_more {places} {rows} {ok} {r} {at} {i} t h e = record {
-  long = t.long;
-  below = t.below;
-  fits = omega arith;
-  inside = below_at max_sids places i t.below h;
-  rest =
-      ap (λ b. ok && b && rising_from (row_at rows) (get_or places i 0) (drop (i + 1) places)) e
-      ∙ and_assoc ok (less (row_at rows at) (row_at rows (get_or places i 0))) (rising_from (row_at rows) (get_or places i 0) (drop (i + 1) places))
-      ∙ ap (λ (k : ℕ). ok && (less (row_at rows at) (row_at rows (get_or places i 0)) && rising_from (row_at rows) (get_or places i 0) (drop k places))) (add-one i)
-      ∙ ap (λ (l : List ℕ). ok && rising_from (row_at rows) at l) (sym (drop-cons places i 0 h))
-      ∙ t.rest;
-}
+rises_more places rows {ok} {r} {at} {i} b t h e =
+    let next : ℕ = get_or (rest_of places) i 0 in
+    record {
+      inside = next_inside places i b h;
+      rest =
+          ap (λ b. ok && b && rising_from (row_at rows) next (drop (i + 1) (rest_of places))) e
+          ∙ and_assoc ok (less (row_at rows at) (row_at rows next)) (rising_from (row_at rows) next (drop (i + 1) (rest_of places)))
+          ∙ ap (λ (k : ℕ). ok && (less (row_at rows at) (row_at rows next) && rising_from (row_at rows) next (drop k (rest_of places)))) (add-one i)
+          ∙ ap (λ (l : List ℕ). ok && rising_from (row_at rows) at l) (sym (drop-cons (rest_of places) i 0 h))
+          ∙ t.rest;
+    }
 
-pub rises_done : {places rows : List ℕ} {ok : Bool} {at i : ℕ} → Rises places rows ok at i → length places ≤ i → ok ≡ rising (row_at rows) places
+pub rises_done : {places rows : List ℕ} {ok : Bool} {at i : ℕ} → Rises places rows ok at i → length (rest_of places) ≤ i → ok ≡ rising (row_at rows) places
 unfolding rising_from
 rises_done {places} {rows} {ok} {at} {i} t h =
-    sym (and-true ok) ∙ ap (λ (l : List ℕ). ok && rising_from (row_at rows) at l) (sym (drop_of_length-le places {i = i} h)) ∙ t.rest
+    sym (and-true ok) ∙ ap (λ (l : List ℕ). ok && rising_from (row_at rows) at l) (sym (drop_of_length-le (rest_of places) {i = i} h)) ∙ t.rest

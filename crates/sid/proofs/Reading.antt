@@ -4,12 +4,13 @@ use native.Mathlib.Numerals.{add-one}
 use native.Mathlib.Omega.{arith}
 use mathlib.Core.Path.{◌≡◌, refl, sym, ap, ap₂, ◌∙◌}
 use mathlib.Core.Bool.{Bool, true, false}
+use mathlib.Core.Logic.{◌⊎◌}
 use mathlib.Core.List.{List, [], ◌∷◌, ◌++◌}
-use lib.Dec.{eqb, leb}
+use lib.Dec.{leb}
 use lib.ListN.{length, take, drop, get_or, set, length-set, length-drop, replicate, get_or-eq_default}
 use lib.Seq.{drop-cons, take_all, drop-drop, take-suc, take-suc-set, get_or-drop}
 use borrow.Author.Tests.{eq-eqb, ne_eqb, le-leb, lt-leb}
-use Rattle.std.specs.Prelude.{if◌then◌else◌}
+use Rattle.std.specs.Prelude.{if◌then◌else◌, Option, Some, None, is_some}
 use Rattle.rules.specs.Basic.{word32}
 use Rattle.rules.specs.Sid.{max_subs, from_bytes, sid_size, is_packed, subs_in, sid_in}
 use Rattle.rules.specs.SidRows.{row_words, pairs, sid_row}
@@ -32,15 +33,79 @@ from_four : (a b c d : ℕ) → from_bytes (a ∷ b ∷ c ∷ d ∷ []) ≡ a + 
 unfolding from_bytes
 from_four a b c d = omega arith
 
-pub four_value : (s : List ℕ) (at a b c d : ℕ) → at + 4 ≤ length s → a ≡ get_or s at 0 → b ≡ get_or s (at + 1) 0 → c ≡ get_or s (at + 2) 0 → d ≡ get_or s (at + 3) 0
-    → a + 256 * (b + 256 * (c + 256 * d)) ≡ from_bytes (take 4 (drop at s))
-four_value s at a b c d h ea eb ec ed =
-    omega (arith, ea, eb, ec, ed, from_four (get_or s at 0) (get_or s (at + 1) 0) (get_or s (at + 2) 0) (get_or s (at + 3) 0), ap from_bytes (four_list s at h))
-
-pub four_below : (a b c d : ℕ) → a < 256 → b < 256 → c < 256 → d < 256 → a + 256 * (b + 256 * (c + 256 * d)) < 2 ^ 32
-four_below a b c d p q r t = omega arith
+pub four_value : (s : List ℕ) (at : ℕ) {r : ℕ} → at + 4 ≤ length s → r ≡ get_or s at 0 + get_or s (at + 1) 0 * 256 + get_or s (at + 2) 0 * 65536 + get_or s (at + 3) 0 * 16777216
+    → r ≡ from_bytes (take 4 (drop at s))
+four_value s at h e = omega (arith, e, from_four (get_or s at 0) (get_or s (at + 1) 0) (get_or s (at + 2) 0) (get_or s (at + 3) 0), ap from_bytes (four_list s at h))
 
 -- ---- the size
+
+module _ (bytes : List ℕ) where
+  pub size_short : length bytes < 8 → None ≡ packed_size bytes
+  unfolding packed_size is_packed
+  size_short h = rw (lt-leb 8 (length bytes) h)
+
+  module _ (l : 8 ≤ length bytes) where
+    pub size_revision : (get_or bytes 0 0 ≡ 1 → ⊥) → None ≡ packed_size bytes
+    unfolding packed_size is_packed
+    size_revision ne = rw (le-leb 8 (length bytes) l, ne_eqb (get_or bytes 0 0) 1 ne)
+
+    module _ (r : get_or bytes 0 0 ≡ 1) (n : ℕ) (e : n ≡ get_or bytes 1 0) where
+      pub size_count : max_subs < n → None ≡ packed_size bytes
+      unfolding packed_size is_packed
+      size_count h = rw (le-leb 8 (length bytes) l, eq-eqb (get_or bytes 0 0) 1 r, lt-leb (get_or bytes 1 0) max_subs (omega arith))
+
+      module _ (few : n ≤ max_subs) where
+        fits : leb (get_or bytes 1 0) max_subs ≡ true
+        fits = le-leb (get_or bytes 1 0) max_subs (omega arith)
+
+        pub size_cut : length bytes < 8 + 4 * n → None ≡ packed_size bytes
+        unfolding packed_size is_packed sid_size
+        size_cut h = rw (le-leb 8 (length bytes) l, eq-eqb (get_or bytes 0 0) 1 r, fits, lt-leb (8 + 4 * get_or bytes 1 0) (length bytes) (omega arith))
+
+        pub size_whole : 8 + 4 * n ≤ length bytes → Some (8 + 4 * n) ≡ packed_size bytes
+        unfolding packed_size is_packed sid_size
+        size_whole h =
+            rw (le-leb 8 (length bytes) l, eq-eqb (get_or bytes 0 0) 1 r, fits, le-leb (8 + 4 * get_or bytes 1 0) (length bytes) (omega arith)) (ap (λ (k : ℕ). Some (8 + 4 * k)) e)
+
+  -- ---- for the callers: a size is the packed SID's that is read there, and None says that none is
+
+  pub size_none : None ≡ packed_size bytes → is_packed bytes ≡ false
+  unfolding packed_size
+  size_none h = by (is_packed bytes) refl h
+    where
+      by : (b : Bool) → is_packed bytes ≡ b → None ≡ (if b then Some (sid_size bytes) else None) → is_packed bytes ≡ false
+      by true e q = cc
+      by false e q = e
+
+  pub size_some : {n : ℕ} → Some n ≡ packed_size bytes → is_packed bytes ≡ true
+  unfolding packed_size
+  size_some {n} h = by (is_packed bytes) refl h
+    where
+      by : (b : Bool) → is_packed bytes ≡ b → Some n ≡ (if b then Some (sid_size bytes) else None) → is_packed bytes ≡ true
+      by true e q = e
+      by false e q = cc
+
+  pub size_is : {n : ℕ} → Some n ≡ packed_size bytes → n ≡ sid_size bytes
+  unfolding packed_size
+  size_is {n} h = by (is_packed bytes) h
+    where
+      by : (b : Bool) → Some n ≡ (if b then Some (sid_size bytes) else None) → n ≡ sid_size bytes
+      by true q = cc
+      by false q = cc
+
+  pub size_tested : {r : Option ℕ} → r ≡ packed_size bytes → is_some r ≡ is_packed bytes
+  unfolding packed_size
+  size_tested e = ap is_some e ∙ by (is_packed bytes)
+    where
+      by : (b : Bool) → is_some (if b then Some (sid_size bytes) else None) ≡ b
+      by true = refl
+      by false = refl
+
+-- nothing stands past the end
+pub size_past : (s : List ℕ) (at : ℕ) → (length s < at) ⊎ (length s < length s) → None ≡ packed_size (drop at s)
+size_past s at h = size_short (drop at s) (omega (arith, length-drop at s))
+
+-- ---- sub-authorities of a packed SID
 
 module _ (s : List ℕ) (at : ℕ) where
   long : length (drop at s) ≡ length s - at
@@ -51,43 +116,6 @@ module _ (s : List ℕ) (at : ℕ) where
 
   first_there : get_or (drop at s) 0 0 ≡ get_or s at 0
   first_there = get_or-drop at s 0 0 ∙ ap (λ (k : ℕ). get_or s k 0) {x = at + 0} {y = at} (omega arith)
-
-  pub size_short : length s - at < 8 → 0 ≡ packed_size (drop at s)
-  unfolding packed_size is_packed
-  size_short h = rw (lt-leb 8 (length (drop at s)) (omega (arith, long)))
-
-  pub size_none : length s ≤ at → 0 ≡ packed_size (drop at s)
-  size_none h = size_short (omega arith)
-
-  module _ (l : 8 ≤ length s - at) where
-    eight : leb 8 (length (drop at s)) ≡ true
-    eight = le-leb 8 (length (drop at s)) (omega (arith, long))
-
-    pub size_revision : (get_or s at 0 ≡ 1 → ⊥) → 0 ≡ packed_size (drop at s)
-    unfolding packed_size is_packed
-    size_revision ne = rw (eight, ne_eqb (get_or (drop at s) 0 0) 1 (λ e. ne (sym first_there ∙ e)))
-
-    module _ (r : get_or s at 0 ≡ 1) (n : ℕ) (e : n ≡ get_or s (at + 1) 0) where
-      revision : eqb (get_or (drop at s) 0 0) 1 ≡ true
-      revision = eq-eqb (get_or (drop at s) 0 0) 1 (first_there ∙ r)
-
-      pub size_count : max_subs < n → 0 ≡ packed_size (drop at s)
-      unfolding packed_size is_packed
-      size_count h = rw (eight, revision, lt-leb (get_or (drop at s) 1 0) max_subs (omega (arith, count_there)))
-
-      module _ (few : n ≤ max_subs) where
-        fits : leb (get_or (drop at s) 1 0) max_subs ≡ true
-        fits = le-leb (get_or (drop at s) 1 0) max_subs (omega (arith, count_there))
-
-        pub size_cut : length s - at < 8 + 4 * n → 0 ≡ packed_size (drop at s)
-        unfolding packed_size is_packed sid_size
-        size_cut h = rw (eight, revision, fits, lt-leb (8 + 4 * get_or (drop at s) 1 0) (length (drop at s)) (omega (arith, long, count_there)))
-
-        pub size_whole : 8 + 4 * n ≤ length s - at → 8 + 4 * n ≡ packed_size (drop at s)
-        unfolding packed_size is_packed sid_size
-        size_whole h = rw (eight, revision, fits, le-leb (8 + 4 * get_or (drop at s) 1 0) (length (drop at s)) (omega (arith, long, count_there))) (omega (arith, count_there))
-
-  -- ---- sub-authorities of a packed SID
 
   module _ (p : is_packed (drop at s) ≡ true) where
     pub packed_bounds : (get_or s (at + 1) 0 ≤ max_subs) × (at + 8 + 4 * get_or s (at + 1) 0 ≤ length s)
@@ -103,12 +131,6 @@ subs_at (suc n) bytes (suc i) h =
     ∙ ap (λ (l : List ℕ). from_bytes (take 4 l)) (drop-drop (4 * i) 4 bytes ∙ ap (λ (k : ℕ). drop k bytes) {x = 4 + 4 * i} {y = 4 * suc i} (omega arith))
 
 module _ (s : List ℕ) (at n i : ℕ) (p : is_packed (drop at s) ≡ true) (e : n ≡ get_or s (at + 1) 0) where
-  pub sub_start : length s < 2 ^ 64 → at + 8 < 2 ^ 64
-  sub_start l = omega (arith, packed_bounds s at p)
-
-  pub sub_fits : length s < 2 ^ 64 → i < n → at + 8 + 4 * i < 2 ^ 64
-  sub_fits l h = omega (arith, packed_bounds s at p)
-
   pub sub_room : i < n → at + 8 + 4 * i + 4 ≤ length s
   sub_room h = omega (arith, packed_bounds s at p)
 
@@ -217,50 +239,27 @@ pub record Loading (s : List ℕ) (at n : ℕ) (row : List ℕ) (i : ℕ) : Type
   pub front : take i row ≡ take i (sid_row (sid_in (drop at s)))
 
 module _ (s : List ℕ) (at : ℕ) where
-  pub loading_none : is_packed (drop at s) ≡ true → (n x y : ℕ) → n ≡ get_or s (at + 1) 0 → x ≡ from_bytes (take 4 (drop at s)) → y ≡ from_bytes (take 4 (drop (at + 4) s)) → Loading s at n (set (replicate 9 0) 0 (x + y * word32)) 1
-  loading_none p n x y e ex ey = record {
+  pub loading_none : is_packed (drop at s) ≡ true → (n x y : ℕ) → n ≡ get_or s (at + 1) 0 → x ≡ from_bytes (take 4 (drop at s)) → y ≡ from_bytes (take 4 (drop (at + 4) s)) → {v : ℕ} → v ≡ x + y * word32 → Loading s at n (set (replicate 9 0) 0 v) 1
+  loading_none p n x y e ex ey {v} ev = record {
     packed = p;
     count = e;
     size = refl;
     low = omega arith;
     high = omega arith;
-    front = grown s at p 0 (x + y * word32) (replicate 9 0) refl (omega arith) refl (load_header s at p x y ex ey);
+    front = grown s at p 0 v (replicate 9 0) refl (omega arith) refl (ev ∙ load_header s at p x y ex ey);
   }
 
-  pub loading_more : {n : ℕ} {row : List ℕ} {i : ℕ} → Loading s at n row i → i < row_words → (x y : ℕ)
-      → x ≡ get_or (sid_in (drop at s)).subs (2 * i - 2) 0 → y ≡ get_or (sid_in (drop at s)).subs (2 * i - 2 + 1) 0 → Loading s at n (set row i (x + y * word32)) (i + 1)
-  loading_more {n} {row} {i} t h x y ex ey = record {
+  pub loading_more : {n : ℕ} {row : List ℕ} {i : ℕ} → Loading s at n row i → i < row_words → (x y : ℕ) {v : ℕ} → v ≡ x + y * word32
+      → x ≡ get_or (sid_in (drop at s)).subs (2 * i - 2) 0 → y ≡ get_or (sid_in (drop at s)).subs (2 * i - 2 + 1) 0 → Loading s at n (set row i v) (i + 1)
+  loading_more {n} {row} {i} t h x y {v} ev ex ey = record {
     packed = t.packed;
     count = t.count;
-    size = length-set row i (x + y * word32) ∙ t.size;
+    size = length-set row i v ∙ t.size;
     low = omega arith;
     high = omega arith;
-    front = grown s at t.packed i (x + y * word32) row t.size h t.front (ap₂ (λ (a b : ℕ). a + b * word32) ex ey ∙ sym (load_at s at t.packed i t.low h));
+    front = grown s at t.packed i v row t.size h t.front (ev ∙ ap₂ (λ (a b : ℕ). a + b * word32) ex ey ∙ sym (load_at s at t.packed i t.low h));
   }
 
   pub loading_done : {n : ℕ} {row : List ℕ} {i : ℕ} → Loading s at n row i → row_words ≤ i → row ≡ sid_row (sid_in (drop at s))
   loading_done {n} {row} {i} t h =
       sym (take_all i row (omega arith)) ∙ t.front ∙ take_all i (sid_row (sid_in (drop at s))) (omega (arith, length_row (sid_in (drop at s))))
-
--- ---- for the callers: a size is the packed SID's that is read there, and 0 says that none is
-
-module _ (bytes : List ℕ) where
-  pub size_zero : packed_size bytes ≡ 0 → is_packed bytes ≡ false
-  unfolding packed_size sid_size
-  size_zero h = by (is_packed bytes) refl h
-    where
-      by : (b : Bool) → is_packed bytes ≡ b → (if b then 8 + 4 * get_or bytes 1 0 else 0) ≡ 0 → is_packed bytes ≡ false
-      by true e q = absurd (omega arith)
-      by false e q = e
-
-  pub size_some : (packed_size bytes ≡ 0 → ⊥) → is_packed bytes ≡ true
-  unfolding packed_size
-  size_some h = by (is_packed bytes) refl h
-    where
-      by : (b : Bool) → is_packed bytes ≡ b → ((if b then sid_size bytes else 0) ≡ 0 → ⊥) → is_packed bytes ≡ true
-      by true e q = e
-      by false e q = absurd (q refl)
-
-  pub size_is : is_packed bytes ≡ true → packed_size bytes ≡ sid_size bytes
-  unfolding packed_size
-  size_is p = rw p refl

@@ -6,9 +6,10 @@ use mathlib.Core.Path.{◌≡◌, refl, sym, ap, ap₂, ◌∙◌}
 use mathlib.Core.Bool.{Bool, true, false, not}
 use mathlib.Core.List.{List, [], ◌∷◌, ◌++◌, append_assoc}
 use lib.Dec.{eqb, leb}
-use lib.ListN.{length, take, drop, get_or, set, length-drop, length-take, length-append}
+use lib.ListN.{length, take, drop, get_or, length-drop, length-take, length-append}
 use lib.Seq.{drop-drop, take-suc, take_at, drop_at}
 use borrow.Author.Tests.{eq-eqb, ne_eqb, eqb-true, le-leb, lt-leb, leb-true, not-true, not-false}
+use Rattle.std.specs.Prelude.{Some, None}
 use Rattle.rules.specs.Basic.{word32}
 use Rattle.rules.specs.Sid.{max_subs, to_bytes, sub_bytes, packed}
 use Rattle.rules.specs.SidRows.{row_words, halves, count_in, row_sid, zero_from, is_row}
@@ -16,17 +17,12 @@ use Rattle.rules.proofs.Logic.{and_l, and_r}
 use Rattle.rules.proofs.Sids.{length_sub_bytes, length_halves}
 use Rattle.sid.specs.Reading.{can_write, Wrote}
 
-pub four_put : (n : ℕ) (out : List ℕ) → length out ≡ 4 → set (set (set (set out 0 (n % 256)) 1 (n / 256 % 256)) 2 (n / 65536 % 256)) 3 (n / 16777216 % 256) ≡ to_bytes 4 n
+four_bytes : (x : ℕ) → x % 256 ∷ x / 256 % 256 ∷ x / 65536 % 256 ∷ x / 16777216 % 256 ∷ [] ≡ to_bytes 4 x
 unfolding to_bytes
-four_put n [] l = absurd (omega arith)
-four_put n (a ∷ []) l = absurd (omega arith)
-four_put n (a ∷ b ∷ []) l = absurd (omega arith)
-four_put n (a ∷ b ∷ c ∷ []) l = absurd (omega arith)
-four_put n (a ∷ b ∷ c ∷ d ∷ []) l =
-    let x : n / 65536 % 256 ≡ n / 256 / 256 % 256 = omega arith in
-    let y : n / 16777216 % 256 ≡ n / 256 / 256 / 256 % 256 = omega arith in
-    ap₂ (λ (u v : ℕ). (n % 256) ∷ (n / 256 % 256) ∷ u ∷ v ∷ []) x y
-four_put n (a ∷ b ∷ c ∷ d ∷ e ∷ t) l = absurd (omega arith)
+four_bytes x =
+    let a : x / 65536 % 256 ≡ x / 256 / 256 % 256 = omega arith in
+    let b : x / 16777216 % 256 ≡ x / 256 / 256 / 256 % 256 = omega arith in
+    ap₂ (λ (u v : ℕ). (x % 256) ∷ (x / 256 % 256) ∷ u ∷ v ∷ []) a b
 
 half_low : (ws : List ℕ) (i : ℕ) → i / 2 < length ws → i % 2 ≡ 0 → get_or ws (i / 2) 0 % word32 ≡ get_or (halves ws) i 0
 unfolding halves
@@ -146,7 +142,7 @@ writing_none row out {r} l e h k = let q : is_row row ≡ true = sym e ∙ not-f
   front = refl;
 }
 
-pub writing_more : {row out₀ : List ℕ} {fours : ℕ} {out : List ℕ} {i : ℕ} → Writing row out₀ fours out i → i < fours → (x : ℕ) (b : List ℕ) → x ≡ get_or (halves row) i 0 → b ≡ to_bytes 4 x
+pub writing_more : {row out₀ : List ℕ} {fours : ℕ} {out : List ℕ} {i : ℕ} → Writing row out₀ fours out i → i < fours → (x : ℕ) (b : List ℕ) → x ≡ get_or (halves row) i 0 → b ≡ x % 256 ∷ x / 256 % 256 ∷ x / 65536 % 256 ∷ x / 16777216 % 256 ∷ []
     → Writing row out₀ fours (take (4 * i) out ++ (b ++ drop (4 * i + 4 - 4 * i) (drop (4 * i) out))) (i + 1)
 writing_more {row} {out₀} {fours} {out} {i} t h x b e f =
     let p : List ℕ = sub_bytes (take i (halves row)) in
@@ -155,7 +151,7 @@ writing_more {row} {out₀} {fours} {out} {i} t h x b e f =
     let high : drop (4 * i + 4 - 4 * i) (drop (4 * i) out) ≡ drop (4 * (i + 1)) out₀ =
     ap₂ drop {x = 4 * i + 4 - 4 * i} {y = 4} (omega arith) (ap (drop (4 * i)) t.front ∙ drop_at p (drop (4 * i) out₀) (4 * i) pl)
     ∙ drop-drop 4 (4 * i) out₀ ∙ ap (λ (k : ℕ). drop k out₀) {x = 4 * i + 4} {y = 4 * (i + 1)} (omega arith) in
-    let four : b ≡ to_bytes 4 (get_or (halves row) i 0) = f ∙ ap (to_bytes 4) e in
+    let four : b ≡ to_bytes 4 (get_or (halves row) i 0) = f ∙ four_bytes x ∙ ap (to_bytes 4) e in
     let whole : take (4 * i) out ++ (b ++ drop (4 * i + 4 - 4 * i) (drop (4 * i) out)) ≡ sub_bytes (take (i + 1) (halves row)) ++ drop (4 * (i + 1)) out₀ =
     ap₂ (λ (u v : List ℕ). u ++ v) low (ap₂ (λ (u v : List ℕ). u ++ v) four high)
     ∙ sym (append_assoc p (to_bytes 4 (get_or (halves row) i 0)) (drop (4 * (i + 1)) out₀))
@@ -195,24 +191,25 @@ pub it_can : (row out : List ℕ) → length row ≡ row_words → is_row row �
 unfolding can_write
 it_can row out l e h = rw (eq-eqb (length row) row_words l, e, le-leb (length (packed (row_sid row))) (length out) h)
 
-refused : (row out : List ℕ) → can_write row out ≡ false → Wrote row out out 0
+refused : (row out : List ℕ) → can_write row out ≡ false → Wrote row out out None
 refused row out e = record { size = rw e; bytes = rw e }
 
-pub no_row_size : (row out : List ℕ) → (length row ≡ row_words → ⊥) → Wrote row out out 0
+pub no_row_size : (row out : List ℕ) → (length row ≡ row_words → ⊥) → Wrote row out out None
 no_row_size row out ne = refused row out (cannot row out ne)
 
-pub no_row : (row out : List ℕ) {r : Bool} → length row ≡ row_words → r ≡ is_row row → not r ≡ true → Wrote row out out 0
+pub no_row : (row out : List ℕ) {r : Bool} → length row ≡ row_words → r ≡ is_row row → not r ≡ true → Wrote row out out None
 no_row row out {r} l e h = refused row out (not_a_row row out l (sym e ∙ not-true r h))
 
-pub no_room : (row out : List ℕ) {r : Bool} → length row ≡ row_words → r ≡ is_row row → not r ≡ false → length out < 4 * (get_or row 0 0 / 256 % 256 + 2) → Wrote row out out 0
+pub no_room : (row out : List ℕ) {r : Bool} → length row ≡ row_words → r ≡ is_row row → not r ≡ false → length out < 4 * (get_or row 0 0 / 256 % 256 + 2) → Wrote row out out None
 no_room row out {r} l e h k = let q : is_row row ≡ true = sym e ∙ not-false r h in refused row out (too_long row out l q (omega (arith, length_packed row l q)))
 
-pub writing_done : {row out₀ : List ℕ} {fours : ℕ} {out : List ℕ} {i : ℕ} → Writing row out₀ fours out i → fours ≤ i → Wrote row out₀ out (4 * fours)
+pub writing_done : {row out₀ : List ℕ} {fours : ℕ} {out : List ℕ} {i : ℕ} → Writing row out₀ fours out i → fours ≤ i → Wrote row out₀ out (Some (4 * fours))
 writing_done {row} {out₀} {fours} {out} {i} t h =
     let can : can_write row out₀ ≡ true = it_can row out₀ t.long t.is (omega (arith, length_packed row t.long t.is, t.count, t.room)) in
     let end : 4 * i ≡ 4 * fours = omega (arith, t.fits) in
     let same : i ≡ get_or row 0 0 / 256 % 256 + 2 = omega (arith, t.count, t.fits) in
+    let size : 4 * fours ≡ length (packed (row_sid row)) = omega (arith, length_packed row t.long t.is, t.count) in
     record {
-      size = rw can (omega (arith, length_packed row t.long t.is, t.count));
-      bytes = rw can (t.front ∙ ap₂ (λ (u : List ℕ) (k : ℕ). u ++ drop k out₀) (ap (λ (k : ℕ). sub_bytes (take k (halves row))) same ∙ row_packed row t.long t.is) end);
+      size = rw can (ap Some size);
+      bytes = rw can (t.front ∙ ap₂ (λ (u : List ℕ) (k : ℕ). u ++ drop k out₀) (ap (λ (k : ℕ). sub_bytes (take k (halves row))) same ∙ row_packed row t.long t.is) (end ∙ size));
     }

@@ -1,5 +1,5 @@
 -- What a lookup gives, what a new place does to the order, and what entering a SID gives. Assumes nothing.
-use Rattle.std.specs.Prelude.{ℕ, ◌+◌, ◌*◌, ◌≤◌, ◌≡◌, true, ◌⊎◌, List, ◌∷◌, ◌++◌, length, take, drop, if◌then◌else◌}
+use Rattle.std.specs.Prelude.{ℕ, ◌+◌, ◌*◌, ◌≤◌, ◌≡◌, true, Option, Some, None, IfSome, List, ◌∷◌, ◌++◌, length, take, drop, if◌then◌else◌}
 use Rattle.table.specs.Table.{put_record}
 use Rattle.rules.specs.Basic.{all, is_below}
 use Rattle.rules.specs.Growth.{Mem}
@@ -15,10 +15,10 @@ pub record Sought (places rows x : List ℕ) : Type 0 where
   pub below : all (is_below max_sids) places ≡ true
   pub rises : rising (row_at rows) places ≡ true
 
--- the one of the places whose row is x, or their number where there is none
-pub record FoundAt (places rows x : List ℕ) (r : ℕ) : Type 0 where
-  pub there : (r ≡ length places) ⊎ (Mem r places × (row_at rows r ≡ x))
-  pub only : (i : ℕ) → Mem i places → row_at rows i ≡ x → r ≡ i
+-- the one of the places whose row is x, if there is one
+pub record FoundAt (places rows x : List ℕ) (r : Option ℕ) : Type 0 where
+  pub there : IfSome r (λ i. Mem i places × (row_at rows i ≡ x))
+  pub only : (i : ℕ) → Mem i places → row_at rows i ≡ x → r ≡ Some i
 
 -- n places with one more at k
 unfoldable pub shifted : ℕ → ℕ → ℕ → List ℕ → List ℕ
@@ -34,6 +34,6 @@ pub record Rowed (x : List ℕ) : Type 0 where
   pub sound : valid_sid (row_sid x) ≡ true
 
 -- the SID of x is looked up, and entered if it is new and fits
-pub record EnteredAs (x before after : List ℕ) (r : ℕ) : Type 0 where
-  pub place : r ≡ place_of (row_sid x) (sids_at before)
+pub record EnteredAs (x before after : List ℕ) (r : Option ℕ) : Type 0 where
+  pub place : r ≡ (if fits_table (entered (row_sid x) (sids_at before)) then Some (place_of (row_sid x) (sids_at before)) else None)
   pub written : after ≡ (if fits_table (entered (row_sid x) (sids_at before)) then write_sids (entered (row_sid x) (sids_at before)) else before)

@@ -6,7 +6,6 @@ ghost use Rattle.sid.specs.Finding.{added, EnteredAs, Rowed};
 
 use crate::find::{find, rank, shift};
 use crate::layout::*;
-use table::slices::copy_words;
 
 // x behind the last of n rows, where k are before it.
 fn add(sids: &mut [u64], x: &[u64], n: usize, k: usize)
@@ -16,25 +15,24 @@ fn add(sids: &mut [u64], x: &[u64], n: usize, k: usize)
     shift(&mut sids[PLACES..ROWS], n, k, n as u64);
     let at = ROWS + n * ROW_WORDS;
     let end = at + ROW_WORDS;
-    copy_words(x, &mut sids[at..end]);
+    sids[at..end].copy_from_slice(x);
     sids[0] = n as u64 + 1;
 }
 
-// The place of the SID whose row is x, which is entered if it is new and there is room; without room, 256.
-pub fn enter(sids: &mut [u64], x: &[u64]) -> usize
+// The place of the SID whose row is x, which is entered if it is new and there is room.
+pub fn enter(sids: &mut [u64], x: &[u64]) -> Option<usize>
     requires { (sid_words_valid sids.old ≡ true) × Rowed x.now }
     ensures { EnteredAs x.now sids.old sids.new result }
 {
     let n = sids[0] as usize;
     let end = PLACES + n;
-    let i = find(&sids[PLACES..end], &sids[ROWS..SIDS], x);
-    if i < n {
-        return i;
+    if let Some(i) = find(&sids[PLACES..end], &sids[ROWS..SIDS], x) {
+        return Some(i);
     }
     if MAX_SIDS <= n {
-        return n;
+        return None;
     }
     let k = rank(&sids[PLACES..end], &sids[ROWS..SIDS], x);
     add(sids, x, n, k);
-    n
+    Some(n)
 }

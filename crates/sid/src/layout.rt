@@ -12,3 +12,6 @@ pub const SIDS: usize = ROWS + MAX_SIDS * ROW_WORDS;
 pub const ROW_WORDS: usize = 9;
 
 pub const MAX_SUBS: u64 = 15;
+
+// The first word of S-1-5-7 and of S-1-5-18.
+pub const NT_HEADER: u64 = 0x0500_0000_0000_0101;

@@ -1,7 +1,7 @@
 // Numbers in the SID table: 7 and 18 from the start, then 32 and up in the order of the rows.
 ghost use Rattle.std.specs.Prelude.{◌≡◌, ◌≤◌};
-ghost use Rattle.rules.specs.SidTable.{max_sids, number_at, place_of_number};
-ghost use Rattle.sid.specs.Numbers.{NumberIn, WroteNumber};
+ghost use Rattle.rules.specs.SidTable.{max_sids, number_at};
+ghost use Rattle.sid.specs.Numbers.{NumberIn, place_in, WroteNumber};
 
 use crate::layout::*;
 use crate::write::write;
@@ -38,40 +38,36 @@ pub fn is_number(n: u64, count: u64) -> bool
 }
 
 // Where a number stands.
-fn place_of(n: u64) -> usize
-    ensures { result ≡ place_of_number n }
+fn place_of(n: u64) -> Option<usize>
+    ensures { result ≡ place_in n }
 {
     if n == ANONYMOUS {
-        return 0;
+        return Some(0);
     }
     if n == SYSTEM {
-        return 1;
+        return Some(1);
     }
-    if n < OVER {
-        return 0;
+    if n < FIRST {
+        return None;
     }
-    (n - OVER) as usize
+    Some((n - OVER) as usize)
 }
 
-// The packed SID of a number in the table, at the start of out; its size. 0, and nothing written, where the words have another size or count,
-// the number is none of theirs, its row is no SID's, or there is no room. Nothing else of the words is tested.
-pub fn write_number(sids: &[u64], number: u32, out: &mut [u8]) -> usize
+// The packed SID of a number in the table, at the start of out; its size. None, and nothing written, where the words have another size or
+// count, the number is none of theirs, its row is no SID's, or there is no room. Nothing else of the words is tested.
+pub fn write_number(sids: &[u64], number: u32, out: &mut [u8]) -> Option<usize>
     ensures { WroteNumber sids.now number out.old out.new result }
 {
     if sids.len() != SIDS {
-        return 0;
+        return None;
     }
     let count = sids[0];
     if (MAX_SIDS as u64) < count {
-        return 0;
+        return None;
     }
-    let n = number as u64;
-    if !is_number(n, count) {
-        return 0;
-    }
-    let place = place_of(n);
+    let place = place_of(number as u64)?;
     if count as usize <= place {
-        return 0;
+        return None;
     }
     let at = ROWS + place * ROW_WORDS;
     let end = at + ROW_WORDS;

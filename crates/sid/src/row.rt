@@ -1,6 +1,7 @@
 // A SID's row: nine words.
-ghost use Rattle.std.specs.Prelude.{◌≡◌, length};
-ghost use Rattle.rules.specs.SidRows.{is_row, less, row_words};
+ghost use Rattle.std.specs.Prelude.{◌≡◌, ◌*◌, ◌<◌, length};
+ghost use Rattle.rules.specs.SidRows.{is_row, less, row_at, row_words};
+ghost use Rattle.rules.specs.SidTable.{max_sids};
 ghost use Rattle.sid.specs.Tests.{past_of};
 
 use crate::layout::{MAX_SUBS, ROW_WORDS};
@@ -32,19 +33,20 @@ pub fn is_row(row: &[u64]) -> bool
     (past(row[edge], n) == 0) & zero_words(&row[behind..ROW_WORDS])
 }
 
+// Row i of rows.
+pub(crate) fn row(rows: &[u64], i: usize) -> &[u64]
+    requires { (length rows.now ≡ max_sids * row_words) × (i < max_sids) }
+    ensures { (result.now ≡ row_at rows.now i) × (length result.now ≡ row_words) }
+{
+    let at = i * ROW_WORDS;
+    let end = at + ROW_WORDS;
+    &rows[at..end]
+}
+
 // The order of rows: the first word that differs is the smaller one.
 pub fn less(a: &[u64], b: &[u64]) -> bool
     requires { (length a.now ≡ row_words) × (length b.now ≡ row_words) }
     ensures { result ≡ less a.now b.now }
 {
-    let mut i: usize = 0;
-    while i < ROW_WORDS {
-        let x = a[i];
-        let y = b[i];
-        if x != y {
-            return x < y;
-        }
-        i += 1;
-    }
-    false
+    a < b
 }

@@ -2,27 +2,18 @@
 ghost use Rattle.std.specs.Prelude.{◌≡◌, true, ◌*◌, ◌≤◌, ◌<◌, length};
 ghost use Rattle.rules.specs.Basic.{all, is_below};
 ghost use Rattle.rules.specs.SidTable.{max_sids};
-ghost use Rattle.rules.specs.SidRows.{row_words, less, rising, row_at, sid_words, sid_words_valid};
+ghost use Rattle.rules.specs.SidRows.{row_words, rising, row_at, sid_words, sid_words_valid};
 ghost use Rattle.sid.specs.Tests.{all_below, is_row_at, starts_test, words_test};
 
 use crate::layout::*;
-use crate::row::{is_row, less};
+use crate::row::{is_row, less, row};
 use lists::words::zero_words;
 
-// The first word of S-1-5-7 and of S-1-5-18.
-const NT_HEADER: u64 = 0x500000000000101;
-
-// Every word is below n.
+// Every word is below n; a fold, which leaves no loop early, so that the compiler makes vectors of it.
 fn all_below(s: &[u64], n: u64) -> bool
     ensures { result ≡ all (is_below n) s.now }
 {
-    let mut ok = true;
-    let mut i: usize = 0;
-    while i < s.len() {
-        ok = ok & (s[i] < n);
-        i += 1;
-    }
-    ok
+    s.iter().fold(true, |ok, x| ok & (*x < n))
 }
 
 // The first n rows are SIDs'.
@@ -31,26 +22,10 @@ fn rows_valid(rows: &[u64], n: usize) -> bool
     ensures { result ≡ all_below (is_row_at rows.now) n }
 {
     let mut ok = true;
-    let mut i: usize = 0;
-    while i < n {
-        let at = i * ROW_WORDS;
-        let end = at + ROW_WORDS;
-        ok = ok & is_row(&rows[at..end]);
-        i += 1;
+    for i in 0..n {
+        ok = ok & is_row(row(rows, i));
     }
     ok
-}
-
-// Row i is before row j.
-fn less_at(rows: &[u64], i: usize, j: usize) -> bool
-    requires { (length rows.now ≡ max_sids * row_words) × (i < max_sids) × (j < max_sids) }
-    ensures { result ≡ less (row_at rows.now i) (row_at rows.now j) }
-{
-    let a = i * ROW_WORDS;
-    let a_end = a + ROW_WORDS;
-    let b = j * ROW_WORDS;
-    let b_end = b + ROW_WORDS;
-    less(&rows[a..a_end], &rows[b..b_end])
 }
 
 // Each place's row is before the next one's.
@@ -60,12 +35,10 @@ fn rises(places: &[u64], rows: &[u64]) -> bool
 {
     let mut ok = true;
     let mut at = places[0] as usize;
-    let mut i: usize = 1;
-    while i < places.len() {
-        let next = places[i] as usize;
-        ok = ok & less_at(rows, at, next);
+    for next in &places[1..] {
+        let next = *next as usize;
+        ok = ok & less(row(rows, at), row(rows, next));
         at = next;
-        i += 1;
     }
     ok
 }

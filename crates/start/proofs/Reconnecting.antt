@@ -14,6 +14,8 @@ use Rattle.handle.specs.declared.Handle.{Handle}
 use Rattle.state.specs.ReleaseFacts.{PartsIn}
 use Rattle.valid.specs.Meaning.{memory_of}
 use Rattle.valid.specs.Tested.{ValidTested}
+use Rattle.std.specs.Prelude.{Ok, Err}
+use Rattle.start.specs.declared.refusal.CallRefusal.TheVariants.{NoStation, InvalidMemory}
 use Rattle.start.specs.Promise.{ReconnectsWith}
 use Rattle.start.specs.Streams.{StreamDropped}
 use Rattle.start.proofs.Parts.{written_as, held_parts, held_pending}
@@ -38,14 +40,14 @@ module _ (m : Memory) (s : ℕ) where
   reconnects_0 h v = rw (lt-leb station_count s h, v)
 
 module _ (s count : ℕ) (items : List Handle) (ts ds cs ps : List ℕ) where
-  pub reconnect_no_station : station_count ≤ s → ReconnectsWith s count items ts ds cs ps cs ps no_station
+  pub reconnect_no_station : station_count ≤ s → ReconnectsWith s count items ts ds cs ps cs ps (Err NoStation)
   unfolding refused_on
   reconnect_no_station h = record {
     reconnected = λ hs l e. let d = no_station_lem (memory_of ts ds hs cs ps) s h in record { refusal = sym (ap (λ x. x.refusal) d); memory = sym (ap (λ x. x.after) d) };
   }
 
   module _ (h : s < station_count) (b : Bool) (t : ValidTested count items ts ds cs ps b) where
-    pub reconnect_invalid : not b ≡ true → ReconnectsWith s count items ts ds cs ps cs ps invalid_memory
+    pub reconnect_invalid : not b ≡ true → ReconnectsWith s count items ts ds cs ps cs ps (Err InvalidMemory)
     unfolding refused_on
     reconnect_invalid f = record {
       reconnected = λ hs l e.
@@ -53,9 +55,9 @@ module _ (s count : ℕ) (items : List Handle) (ts ds cs ps : List ℕ) where
           record { refusal = sym (ap (λ x. x.refusal) d); memory = sym (ap (λ x. x.after) d) };
     }
 
-    pub reconnects_with : not b ≡ false → {cs' ps' : List ℕ} → StreamDropped s cs ps cs' ps' → ReconnectsWith s count items ts ds cs ps cs' ps' 0
+    pub reconnects_with : not b ≡ false → {cs' ps' : List ℕ} → StreamDropped s cs ps cs' ps' → (u : _) → ReconnectsWith s count items ts ds cs ps cs' ps' (Ok u)
     unfolding change_station with_stations
-    reconnects_with f {cs'} {ps'} d = record {
+    reconnects_with f {cs'} {ps'} d u = record {
       reconnected = λ hs l e.
           let m : Memory = memory_of ts ds hs cs ps in
           let v : valid m ≡ true = sym (t.means hs l e) ∙ not-false b f in

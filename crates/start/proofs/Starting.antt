@@ -1,5 +1,5 @@
 -- The start's memory, and what start returns. Assumes nothing.
-use Prim.Native.Nat.{ℕ, zero, suc, ◌*◌, ◌<◌}
+use Prim.Native.Nat.{ℕ, zero, suc, ◌*◌, ◌<◌, ◌≤◌}
 use native.Mathlib.Omega.{arith}
 use native.Mathlib.Nat.{suc-mul, add_comm}
 use mathlib.Core.Path.{◌≡◌, refl, sym, ap, ap₂, ◌∙◌}
@@ -17,7 +17,6 @@ use Rattle.rules.specs.Station.{start_station}
 use Rattle.rules.specs.State.{start, token_slots, handle_slots, station_count}
 use Rattle.rules.specs.Memory.{token_words, pending_bytes, token_row, dacl_row, slot_row, slot_dacl, slot_handle, pending_row}
 use Rattle.rules.specs.Calls.{refused_on, start_on}
-use Rattle.rules.specs.Refusal.{invalid_memory}
 use Rattle.rules.proofs.Rows.{length_slot_row}
 use Rattle.privilege.specs.Meaning.{privileges_of}
 use Rattle.privilege.specs.declared.privileges.Privileges.{Privileges}
@@ -28,6 +27,8 @@ use Rattle.control.specs.Control.{ControlIn}
 use Rattle.valid.specs.Meaning.{memory_of}
 use Rattle.valid.specs.Tested.{SizesTested}
 use Rattle.valid.proofs.Sizes.{sizes_wrong, sizes_right, right_count}
+use Rattle.std.specs.Prelude.{Ok, Err}
+use Rattle.start.specs.declared.refusal.CallRefusal.TheVariants.{InvalidMemory}
 use Rattle.start.specs.Promise.{StartsWith}
 use Rattle.start.specs.Initial.{FirstTokens, Begun}
 use Rattle.start.proofs.Parts.{written_as}
@@ -108,20 +109,17 @@ begun {ts} {ds} {cs} {ps} t s e = record {
 -- ---- what start returns
 
 module _ (count : ℕ) (ts ds cs ps : List ℕ) (b : Bool) (t : SizesTested (length ts) (length ds) count (length cs) (length ps) b) where
-  pub start_refused : not b ≡ true → StartsWith count ts ds cs ps ts ds cs ps (record { refusal = invalid_memory; freed = 0 })
+  pub start_refused : b ≡ false → StartsWith count ts ds cs ps ts ds cs ps (Err InvalidMemory)
   unfolding start_on refused_on
-  start_refused f = record {
-    started = λ hs l. let e = sizes_wrong count ts ds cs ps b t f hs l in record { refusal = rw e; memory = rw e };
-    inside = omega arith;
-  }
+  start_refused f = record { started = λ hs l. let e = sizes_wrong count ts ds cs ps b t (ap not f) hs l in record { refusal = rw e; memory = rw e } }
 
-  pub starts : (f : not b ≡ false) → {ts' ds' cs' ps' : List ℕ} → Begun ts' ds' cs' ps' → StartsWith count ts ds cs ps ts' ds' cs' ps' (record { refusal = 0; freed = handle_slots })
+  pub starts : b ≡ true → {ts' ds' cs' ps' : List ℕ} → Begun ts' ds' cs' ps' → (u : _) → StartsWith count ts ds cs ps ts' ds' cs' ps' (Ok u)
   unfolding start_on
-  starts f {ts'} {ds'} {cs'} {ps'} w =
-      let n : count ≡ handle_slots = right_count count ts ds cs ps b t f in
+  starts f {ts'} {ds'} {cs'} {ps'} w u =
+      let n : count ≡ handle_slots = right_count count ts ds cs ps b t (ap not f) in
       record {
         started = λ hs l.
-            let e = sizes_right count ts ds cs ps b t f hs l in
+            let e = sizes_right count ts ds cs ps b t (ap not f) hs l in
             record {
               refusal = rw e;
               memory =
@@ -129,5 +127,7 @@ module _ (count : ℕ) (ts ds cs ps : List ℕ) (b : Bool) (t : SizesTested (len
                   (ap (λ is. replicate handle_slots none ++ is) (drop_of_length-le hs {i = handle_slots} (omega arith)) ∙ append-nil (replicate handle_slots none))
                   ∙ w.memory ∙ sym (rw e);
             };
-        inside = omega arith;
       }
+
+  pub fits_count : b ≡ true → handle_slots ≤ count
+  fits_count f = let n : count ≡ handle_slots = right_count count ts ds cs ps b t (ap not f) in omega arith

@@ -1,3 +1,4 @@
+pub mod Refusal
 pub mod Promise
 pub mod Initial
 pub mod Streams

@@ -7,18 +7,16 @@ ghost use Rattle.valid.specs.Meaning.{Lent};
 ghost use Rattle.start.specs.Initial.{FirstTokens, Begun};
 
 use privilege::privileges::Privileges;
-use table::slices;
 use token::layout::TOKEN_WORDS;
 use token::{Identity, row};
-use valid::layout::{DACLS, PENDING, TOKENS};
 
 // Token 1 in the first slot: SYSTEM's, with every privilege present, enabled and default. The other slots are free.
 fn write_tokens(tokens: &mut [u64], dacls: &mut [u8])
     requires { (length tokens.old ≡ token_slots * token_words) × (length dacls.old ≡ token_slots * max_dacl) }
     ensures { FirstTokens tokens.new dacls.new }
 {
-    slices::zero_words(TOKENS, tokens);
-    slices::zero_bytes(DACLS, dacls);
+    tokens.fill(0);
+    dacls.fill(0);
     let identity = Identity {
         user: 18,
         session: 999,
@@ -38,5 +36,5 @@ pub fn write(tokens: &mut [u64], dacls: &mut [u8], control: &mut [u64], pending:
 {
     write_tokens(tokens, dacls);
     control::initial::write(control);
-    slices::zero_bytes(PENDING, pending);
+    pending.fill(0);
 }

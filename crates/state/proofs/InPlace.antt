@@ -24,7 +24,7 @@ use Rattle.rules.proofs.Rows.{length_slot_row, length_slot_dacl}
 use Rattle.token.proofs.Laws.{put_words, put_dacls}
 use Rattle.token.proofs.Finding.{no_slot}
 use Rattle.state.specs.Parts.{TokensIn}
-use Rattle.state.specs.TokenCalls.{FoundAt, WordsChanged}
+use Rattle.state.specs.TokenCalls.{FoundAt, lent, WordsChanged}
 use Rattle.state.proofs.FormedLaws.{valid_formed}
 use Rattle.state.proofs.Slots.{found_live}
 use Rattle.state.proofs.TokenLooks.{slots_read, slots_long}
@@ -96,9 +96,6 @@ module _ (n : ℕ) {i : ℕ} {ts ds : List ℕ} (at : FoundAt n ts i) {σ : Stat
       record { words = h.words ∙ ap (flat slot_row) e; bytes = h.bytes ∙ ap (flat slot_dacl) e }
 
 -- ---- the row as it is lent, and as it comes back
-
-abbrev pub lent : ℕ → List ℕ → List ℕ
-lent i ts = take (i * token_words + token_words - i * token_words) (drop (i * token_words) ts)
 
 abbrev pub back : ℕ → List ℕ → List ℕ → List ℕ
 back i ws ts = take (i * token_words) ts ++ (ws ++ drop (i * token_words + token_words - i * token_words) (drop (i * token_words) ts))

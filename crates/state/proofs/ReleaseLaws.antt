@@ -2,15 +2,15 @@
 use Prim.Native.Nat.{ℕ, ◌≤◌, ◌<◌}
 use native.Mathlib.Omega.{arith}
 use mathlib.Core.Path.{◌≡◌, refl, sym, ap, ap₂, ◌∙◌, subst}
-use mathlib.Core.Bool.{Bool, true, false, ◌||◌}
+use mathlib.Core.Bool.{Bool, true, false, not, ◌||◌}
 use mathlib.Core.Logic.{◌⊎◌, ⊎_elim}
 use mathlib.Core.List.{List, ◌++◌, map, append_assoc}
 use lib.Dec.{ltb}
 use lib.ListN.{length, get_or, set, get_or-eq_default}
 use lib.Seq.{set_out}
-use borrow.Author.Tests.{ltb-false}
+use borrow.Author.Tests.{ltb-false, ne_eqb}
 use Rattle.table.specs.Table.{put_record}
-use Rattle.std.specs.Prelude.{if◌then◌else◌}
+use Rattle.std.specs.Prelude.{if◌then◌else◌, None, Some}
 use Rattle.rules.specs.Basic.{member, non_zero}
 use Rattle.rules.specs.Token.{max_dacl}
 use Rattle.rules.specs.Table.{Slot, free, live, or_else, lives, found, exchanged, with_slots}
@@ -24,7 +24,7 @@ use Rattle.rules.specs.Handle as rules
 use Rattle.rules.specs.State as state
 use Rattle.rules.specs.State.{State, token_slots, handle_slots, pair_slots, with_tokens, with_handles, with_stations, with_pairs, change_station, number_of, is_numbered, set_token, set_client, find_handle, drop_handle, has_pair, set_pair, handle_token, station_token, client_token, elevated_token, filtered_token, references, released}
 use Rattle.rules.specs.Memory.{token_words, sections, slot_row, slot_dacl}
-use Rattle.rules.proofs.Logic.{member_append}
+use Rattle.rules.proofs.Logic.{member_append, not_both}
 use Rattle.rules.proofs.Tables.{on_if, live_slot, length_exchanged, in_freed}
 use Rattle.rules.proofs.Index.{found_at, exchanged_set}
 use Rattle.rules.proofs.Facts.{Loose, valid_facts}
@@ -48,8 +48,8 @@ use Rattle.control.proofs.Sections.{control_same}
 use Rattle.control.proofs.PairRows.{row_held}
 use Rattle.state.specs.Parts.{HandlesIn}
 use Rattle.state.specs.Formed.{Formed}
-use Rattle.state.specs.ReleaseFacts.{PartsIn, TokenFreed, Closed, Installed, client, ActsFrom, PairLinked}
-use Rattle.state.proofs.HandleLaws.{handle_given, handle_dropped}
+use Rattle.state.specs.ReleaseFacts.{PartsIn, Referred, TokenFreed, Closed, Installed, client, ActsFrom, PairLinked}
+use Rattle.state.proofs.HandleLaws.{handle_given, no_handle_given, found_numbered, handle_dropped}
 use Rattle.state.proofs.Slots.{some_found, free_at}
 use Rattle.state.proofs.FormedLaws.{loose_formed, tokens_back, handles_back, pairs_back, tokens_same, handles_same}
 
@@ -58,20 +58,22 @@ use Rattle.state.proofs.FormedLaws.{loose_formed, tokens_back, handles_back, pai
 regroup : (a b c d e : List ℕ) → a ++ b ++ c ++ d ++ e ≡ a ++ (b ++ c ++ d ++ e)
 regroup a b c d e = simp append_assoc
 
-module _ {token : ℕ} {hs : List Handle} {cs ts ds : List ℕ} {a b : Bool} (by_handle : a ≡ is_referred token hs) (by-control : Refer token cs b) where
-  referred : (σ : State) → Formed σ → PartsIn σ ts ds hs cs → (a || b) ≡ member token (references σ)
-  unfolding references
-  referred σ f p =
+pub referred : {token : ℕ} {hs : List Handle} {cs : List ℕ} {a b : Bool} → a ≡ is_referred token hs → Refer token cs b → Referred token hs cs (a || b)
+unfolding references
+referred {token} {hs} {cs} by_handle by_control = record {
+  refers = λ σ f h k.
       let held = map handle_token (lives σ.handles.slots) in
-      ap₂ ◌||◌ (by_handle ∙ ap (λ ps. member token (map handle_token (lives ps))) (handles_back σ f hs p.handles)) (by-control.refer σ p.control (pairs_back σ f cs p.control))
+      ap₂ ◌||◌ (by_handle ∙ ap (λ ps. member token (map handle_token (lives ps))) (handles_back σ f hs h)) (by_control.refer σ k (pairs_back σ f cs k))
       ∙ sym (ap (member token) (regroup held (map station_token σ.stations) (non_zero (map client_token σ.stations)) (map elevated_token (lives σ.pairs)) (map filtered_token (lives σ.pairs)))
-      ∙ member_append token held _)
+      ∙ member_append token held _);
+}
 
-  pub token_kept : (a || b) ≡ true → TokenFreed token ts ds hs cs ts ds
+module _ {token : ℕ} {hs : List Handle} {cs ts ds : List ℕ} {r : Bool} (k : Referred token hs cs r) where
+  pub token_kept : r ≡ true → TokenFreed token ts ds hs cs ts ds
   unfolding freed_one
-  token_kept t = record { tokens = λ σ f p. rw (sym (referred σ f p) ∙ t) p.tokens }
+  token_kept t = record { tokens = λ σ f p. rw (sym (k.refers σ f p.handles p.control) ∙ t) p.tokens }
 
-  module _ {i : ℕ} (unreferred : (a || b) ≡ false) (found : (bs : List ℕ) → i ≡ found_index (is_numbered token) (slots_of ts bs)) where
+  module _ {i : ℕ} (unreferred : r ≡ false) (found : (bs : List ℕ) → i ≡ found_index (is_numbered token) (slots_of ts bs)) where
     index : (σ : State) → Formed σ → PartsIn σ ts ds hs cs → exchanged (is_numbered token) free σ.tokens.slots ≡ set σ.tokens.slots i free
     index σ f p =
         exchanged_set (is_numbered token) free σ.tokens.slots
@@ -84,7 +86,7 @@ module _ {token : ℕ} {hs : List Handle} {cs ts ds : List ℕ} {a b : Bool} (by
       tokens = λ σ f p.
           let slots = σ.tokens.slots in
           let low : i < length slots = omega (arith, f.token_slots_long) in
-          rw (sym (referred σ f p) ∙ unreferred) (rw (index σ f p) (record {
+          rw (sym (k.refers σ f p.handles p.control) ∙ unreferred) (rw (index σ f p) (record {
             words = ew ∙ ap (put_record token_words i (slot_row free)) p.tokens.words ∙ put_words slots i low free;
             bytes = ed ∙ ap (put_record max_dacl i (slot_dacl free)) p.tokens.bytes ∙ put_dacls slots i low free;
           }));
@@ -95,7 +97,7 @@ module _ {token : ℕ} {hs : List Handle} {cs ts ds : List ℕ} {a b : Bool} (by
     token_missing h = record {
       tokens = λ σ f p.
           let out : set σ.tokens.slots i free ≡ σ.tokens.slots = set_out σ.tokens.slots i free (omega (arith, f.token_slots_long)) in
-          rw (sym (referred σ f p) ∙ unreferred) (tokens_same (sym (index σ f p ∙ out)) p.tokens);
+          rw (sym (k.refers σ f p.handles p.control) ∙ unreferred) (tokens_same (sym (index σ f p ∙ out)) p.tokens);
     }
 
 -- ---- the changes that take a reference away
@@ -125,17 +127,28 @@ swept : {token : ℕ} {hs : List Handle} {cs ts ds ts' ds' : List ℕ} (σ : Sta
 swept {hs = hs} {cs} {ts' = ts'} {ds'} σ l e f p = subst (λ (τ : State). PartsIn τ ts' ds' hs cs) (sym e) (freed_parts σ (loose_formed σ l) f p)
 
 pub closed : (s n : ℕ) (hs : List Handle) {cs ts ds ts' ds' : List ℕ} {i : ℕ} {h : Handle}
-    → i ≡ find_index s n hs → h ≡ get_or hs i none → TokenFreed h.token ts ds (set hs i none) cs ts' ds'
-    → Closed s n ts ds hs cs ts' ds' (record { slot = i; handle = none })
+    → length hs ≡ handle_slots → i < handle_slots → i ≡ find_index s n hs → h ≡ get_or hs i none → TokenFreed h.token ts ds (set hs i none) cs ts' ds'
+    → Closed s n ts ds hs cs ts' ds' (Some (record { slot = i; handle = none }))
 unfolding state.handle_of drop_handle with_handles with_slots sections handle_token
-closed s n hs {i = i} {h = h} e q f = record {
+closed s n hs {i = i} {h = h} long l e q f = record {
   parts = λ σ v p known.
       let facts = valid_facts σ v in
       let one = close_frees σ s n (state.handle_of σ s n) facts (live_slot rules.no_handle (find_handle σ s n) known) in
       let same : (state.handle_of σ s n).token ≡ h.token = ap handle_token (sym ((handle_given s n hs e q).handle σ v p.handles)) in
       swept (drop_handle s n σ) (drop_loose σ s n facts.loose) (rw same at one) f
       (record { handles = handle_dropped s n hs e σ v p.handles; control = control_same refl p.control; tokens = tokens_same refl p.tokens });
+  live = λ σ v k. sym ((handle_given s n hs e q).live σ v k ∙ ap not (ne_eqb h.number 0 (found_numbered s n hs e long l q)));
+  none = λ x. cc;
 }
+
+pub not_closed : (s n : ℕ) (hs : List Handle) {cs ts ds : List ℕ} → length hs ≡ handle_slots → handle_slots ≡ find_index s n hs → Closed s n ts ds hs cs ts ds None
+not_closed s n hs long e =
+    let g = no_handle_given s n hs e long (omega arith) in
+    record {
+      parts = λ σ v p known. absurd (not_both known (g.live σ v p.handles));
+      live = λ σ v k. sym (g.live σ v k);
+      none = λ x. (refl, refl);
+    }
 
 -- a station's reference or a pair's: no slot is freed
 no_slot : (ws : List ℕ) {ts ds cs' ts' ds' : List ℕ} {before now : ℕ} → before ≡ now → TokenFreed before ts ds (set (records_in ws) handle_slots none) cs' ts' ds'
@@ -193,20 +206,20 @@ pair_placed σ p long =
     (ap (ltb (found_index (is_of p.session) σ.pairs)) (sym long) ∙ sym (some_found (is_of p.session) σ.pairs))
     ∙ sym (set_pair_lem σ p))
 
-pub linked : (place session elevated filtered : ℕ) (ws : List ℕ) {cs ts ds cs' ts₁ ds₁ ts₂ ds₂ : List ℕ} {before : Control.Pair} → place < pair_slots
-    → RowGiven place cs before → PairSet place session elevated filtered cs cs'
+pub linked : (place : ℕ) (q : Control.Pair) (ws : List ℕ) {cs ts ds cs' ts₁ ds₁ ts₂ ds₂ : List ℕ} {before : Control.Pair} → place < pair_slots
+    → RowGiven place cs before → PairSet place q cs cs'
     → TokenFreed before.elevated ts ds (set (records_in ws) handle_slots none) cs' ts₁ ds₁ → TokenFreed before.filtered ts₁ ds₁ (set (records_in ws) handle_slots none) cs' ts₂ ds₂
-    → PairLinked place session elevated filtered ts ds (records_in ws) cs ts₂ ds₂ cs'
+    → PairLinked place q.session q.elevated q.filtered ts ds (records_in ws) cs ts₂ ds₂ cs'
 unfolding set_pair with_pairs pair_before elevated_token filtered_token
-linked place session elevated filtered ws {cs' = cs'} {ts₂ = ts₂} {ds₂} h g k f₁ f₂ = record {
+linked place q ws {cs' = cs'} {ts₂ = ts₂} {ds₂} h g k f₁ f₂ = record {
   parts = λ σ v p new at.
       let facts = valid_facts σ v in
-      let pair = pair_of session elevated filtered in
+      let pair = pair_of q.session q.elevated q.filtered in
       let long = facts.loose.pairs_sized in
       let τ = set_pair pair σ in
       let loose = pair_loose σ pair new facts.loose in
       let formed = loose_formed τ loose in
-      let old = row_held σ p.control h g ∙ ap (or_else no_pair) (ap (λ (i : ℕ). get_or σ.pairs i free) at ∙ place_before session σ.pairs long) in
+      let old = row_held σ p.control h g ∙ ap (or_else no_pair) (ap (λ (i : ℕ). get_or σ.pairs i free) at ∙ place_before q.session σ.pairs long) in
       let parts : PartsIn τ _ _ (records_in ws) cs' = record {
         handles = handles_same refl p.handles;
         control = subst (λ (μ : State). ControlIn μ cs') (ap (λ (i : ℕ). with_pairs (set σ.pairs i (live pair)) σ) at ∙ pair_placed σ pair long) (k.control σ p.control);

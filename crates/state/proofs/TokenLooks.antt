@@ -1,12 +1,13 @@
 -- What is read in the parts of a valid state. Assumes nothing.
-use Prim.Native.Nat.{ℕ}
+use Prim.Native.Nat.{ℕ, ◌<◌}
 use native.Mathlib.Omega.{arith}
 use mathlib.Core.Path.{◌≡◌, sym, ap, ap₂, ◌∙◌}
 use mathlib.Core.Bool.{true, ◌&&◌}
 use mathlib.Core.List.{List}
 use lib.Dec.{ltb}
 use lib.ListN.{length}
-use borrow.Author.Tests.{ltb-true}
+use borrow.Author.Tests.{ltb-true, lt-ltb, le-ltb}
+use Rattle.std.specs.Prelude.{Option, None, Some, is_some, unwrap_or, IfSome}
 use Rattle.rules.specs.Number.{max64}
 use Rattle.rules.specs.Table.{can_add}
 use Rattle.rules.specs.State.{State, token_slots, can_add_token}
@@ -19,7 +20,7 @@ use Rattle.token.specs.Meaning.{slots_of}
 use Rattle.control.specs.Counters.{NextGiven}
 use Rattle.state.specs.Parts.{TokensIn}
 use Rattle.state.proofs.FormedLaws.{valid_formed, tokens_back}
-use Rattle.state.specs.TokenCalls.{CanAdd}
+use Rattle.state.specs.TokenCalls.{FreeSlot, CanAdd}
 use Rattle.state.proofs.Slots.{some_free_lem}
 
 -- ---- the slots that the rows stand for
@@ -32,16 +33,16 @@ slots_long σ v = (valid_facts σ v).loose.tokens.sized
 
 -- ---- room for a token
 
--- free_slot's result
-abbrev pub FreeAt : List ℕ → ℕ → Type 0
-FreeAt ts r = (bs : List ℕ) → r ≡ free_index (slots_of ts bs)
+pub some_below : (n : ℕ) (o : Option ℕ) → IfSome o (λ k. k < n) → is_some o ≡ ltb (unwrap_or o n) n
+some_below n None l = sym (le-ltb n n (omega arith))
+some_below n (Some k) l = sym (lt-ltb k n l)
 
-pub can_add_lem : {ts cs : List ℕ} {i n : ℕ} → FreeAt ts i → NextGiven token_counter cs n → CanAdd ts cs (ltb i token_slots && ltb n max64)
+pub can_add_lem : (o : Option ℕ) {ts cs : List ℕ} {n : ℕ} → FreeSlot ts o → NextGiven token_counter cs n → CanAdd ts cs (is_some o && ltb n max64)
 unfolding can_add_token can_add
-can_add_lem {i = i} {n = n} e w = record {
-  below = λ h. let l = ltb-true n max64 (and_r (ltb i token_slots) _ h) in omega (arith, w.word);
+can_add_lem o {n = n} e w = record {
+  below = λ h. let l = ltb-true n max64 (and_r (is_some o) _ h) in omega (arith, w.word);
   can_add = λ σ v {ds} t j.
       let ps = σ.tokens.slots in
-      let at : ltb i token_slots ≡ ltb (free_index ps) (length ps) = ap₂ ltb (e ds ∙ ap free_index (slots_read v t)) (sym (slots_long σ v)) in
-      ap₂ ◌&&◌ (at ∙ sym (some_free_lem ps)) (ap (λ (k : ℕ). ltb k max64) (w.next σ j));
+      let at : ltb (unwrap_or o token_slots) token_slots ≡ ltb (free_index ps) (length ps) = ap₂ ltb (e.0 ds ∙ ap free_index (slots_read v t)) (sym (slots_long σ v)) in
+      ap₂ ◌&&◌ (some_below token_slots o e.1 ∙ at ∙ sym (some_free_lem ps)) (ap (λ (k : ℕ). ltb k max64) (w.next σ j));
 }

@@ -1,14 +1,13 @@
 -- Who a token is and whether it is restricted, read in its row; its elevation, read and stored there; its privileges, read and marked there.
 -- Assumes nothing.
-use Prim.Native.Nat.{ℕ, suc, ◌+◌, ◌*◌, ◌%◌, ◌^◌, ◌≤◌, ◌<◌}
+use Prim.Native.Nat.{ℕ, suc, ◌%◌, ◌^◌, ◌≤◌, ◌<◌}
 use native.Mathlib.Omega.{arith}
 use mathlib.Core.Path.{◌≡◌, refl, sym, ap, subst, ◌∙◌}
-use mathlib.Core.Bool.{Bool, false, not}
+use mathlib.Core.Bool.{Bool, true, false, not}
 use mathlib.Core.List.{List, [], ◌∷◌}
 use lib.Dec.{eqb}
 use lib.ListN.{length, get_or}
 use borrow.Author.Tests.{ne_eqb}
-use Rattle.table.specs.Table.{record_element}
 use Rattle.rules.specs.Basic.{is_empty}
 use Rattle.rules.specs.Privileges as Rules
 use Rattle.rules.specs.Privileges.{is_enabled, mark_used, granted}
@@ -16,7 +15,8 @@ use Rattle.rules.specs.Token.{Token, default_elevation, with_privileges, with_el
 use Rattle.rules.specs.State as State
 use Rattle.rules.specs.State.{State, token_slots, no_token, held, used_on, used, caller, change_token}
 use Rattle.rules.specs.Head as Head
-use Rattle.rules.specs.Memory.{token_words, head, token_row, token_at, identity_at}
+use Rattle.rules.specs.Memory.{head, token_row, token_at, identity_at}
+use Rattle.rules.specs.Valid.{valid}
 use Rattle.rules.proofs.Rows.{token_back}
 use Rattle.rules.proofs.Bits.{power_inside}
 use Rattle.privilege.specs.Meaning.{privileges_of}
@@ -26,8 +26,8 @@ use Rattle.token.specs.Row.{identity_in, privileges_in, Becomes}
 use Rattle.token.specs.declared.Identity.{Identity}
 use Rattle.control.specs.Stations.{CallerNumber}
 use Rattle.state.specs.Parts.{TokensIn}
-use Rattle.state.specs.TokenCalls.{FoundAt, IdentityGiven, IdentityAt, RestrictedGiven, RestrictedAt, ElevationGiven, ElevationAt, PrivilegesAt, Held, Marked, WordsChanged, Used}
-use Rattle.state.proofs.InPlace.{lent, back, in_slot, lent_row, no_token_lem, words_changed, words_unchanged}
+use Rattle.state.specs.TokenCalls.{FoundAt, lent, IdentityGiven, IdentityAt, RestrictedGiven, ElevationGiven, PrivilegesGiven, Held, Marked, WordsChanged, Used}
+use Rattle.state.proofs.InPlace.{back, in_slot, lent_row, no_token_lem, words_changed, words_unchanged}
 
 -- ---- reading
 
@@ -36,14 +36,20 @@ unfolding is_empty
 empty_size [] = refl
 empty_size (x ∷ xs) = sym (ne_eqb (suc (length xs)) 0 (λ h. omega arith))
 
+pub privileges_in_row : (ws : List ℕ) (t : Token) → ws ≡ token_row t → privileges_of (privileges_in ws) ≡ t.privileges
+unfolding token_row head
+privileges_in_row ws t e = ap (λ (l : List ℕ). privileges_of (privileges_in l)) e
+
+-- in the row of a slot
+
 module _ {i : ℕ} {ts : List ℕ} where
-  pub identity_at_lem : {r : Identity} → i < token_slots → r ≡ identity_in (lent i ts) → IdentityAt i ts r
+  pub identity_at_lem : {r : Identity} {ws : List ℕ} → ws ≡ lent i ts → i < token_slots → r ≡ identity_in ws → IdentityAt i ts r
   unfolding identity_at token_at
-  identity_at_lem l e = record {
+  identity_at_lem k l e = record {
     given = λ n at. record {
       identity = λ σ v h.
           let s = in_slot n at v h l in
-          ap identity_of (e ∙ ap identity_in (lent_row n at v h l)) ∙ ap (λ (t : Token). t.identity) (token_back (State.token_of σ n) s.is_valid);
+          ap identity_of (e ∙ ap identity_in (k ∙ lent_row n at v h l)) ∙ ap (λ (t : Token). t.identity) (token_back (State.token_of σ n) s.is_valid);
     };
   }
 
@@ -51,44 +57,52 @@ module _ {i : ℕ} {ts : List ℕ} where
   unfolding no_token new_token primary_of
   no_identity l = record { given = λ n at. record { identity = λ σ v h. sym (ap (λ (t : Token). t.identity) (no_token_lem n at v h l)) } }
 
-  pub identity_of_lem : {n : ℕ} {r : Identity} → FoundAt n ts i → IdentityAt i ts r → IdentityGiven n ts r
-  identity_of_lem {n} at g = g.given n at
+-- in the row of a number's token, or of none
 
-  pub restricted_at : i < token_slots → RestrictedAt i ts (not (eqb (get_or ts (i * token_words + Head.restricting_count) 0) 0))
+module _ (n : ℕ) {ts ws : List ℕ} (o : (i : ℕ) × FoundAt n ts i × (i < token_slots) × (ws ≡ lent i ts)) where
+  row_is : (σ : State) → valid σ ≡ true → {ds : List ℕ} → TokensIn σ ts ds → ws ≡ token_row (State.token_of σ n)
+  row_is σ v h = o.3 ∙ lent_row n o.1 v h o.2
+
+  pub identity_given : {r : Identity} → r ≡ identity_in ws → IdentityGiven n ts r
+  identity_given e = (identity_at_lem o.3 o.2 e).given n o.1
+
+  pub restricted_given : {r : Bool} → r ≡ not (eqb (get_or ws Head.restricting_count 0) 0) → RestrictedGiven n ts r
   unfolding token_row head is_restricted
-  restricted_at l = record {
-    given = λ n at. record {
-      restricted = λ σ v h.
-          let sids = (State.token_of σ n).limits.restricting in
-          let count : get_or ts (i * token_words + Head.restricting_count) 0 ≡ length sids =
-          record_element token_words i Head.restricting_count ts 0 (omega arith) ∙ ap (λ (ws : List ℕ). get_or ws Head.restricting_count 0) (in_slot n at v h l).words in
-          ap (λ (k : ℕ). not (eqb k 0)) count ∙ ap not (sym (empty_size sids));
-    };
+  restricted_given e = record {
+    restricted = λ σ v h.
+        let sids = (State.token_of σ n).limits.restricting in
+        e ∙ ap (λ (w : List ℕ). not (eqb (get_or w Head.restricting_count 0) 0)) (row_is σ v h) ∙ ap not (sym (empty_size sids));
   }
 
-  pub not_restricted : token_slots ≤ i → RestrictedAt i ts false
-  unfolding no_token new_token no_limits is_restricted is_empty
-  not_restricted l = record { given = λ n at. record { restricted = λ σ v h. sym (ap is_restricted (no_token_lem n at v h l)) } }
+  pub elevation_given : {r : ℕ} → r ≡ get_or ws Head.elevation 0 → ElevationGiven n ts r
+  unfolding token_row head
+  elevation_given e = record { elevation = λ σ v h. e ∙ ap (λ (w : List ℕ). get_or w Head.elevation 0) (row_is σ v h) }
 
-  pub restricted_of : {n : ℕ} {r : Bool} → FoundAt n ts i → RestrictedAt i ts r → RestrictedGiven n ts r
-  restricted_of {n} at g = g.given n at
+  pub privileges_given : {p : Privileges} → p ≡ privileges_in ws → PrivilegesGiven n ts p
+  privileges_given e = record { privileges = λ σ v h. ap privileges_of e ∙ privileges_in_row ws (State.token_of σ n) (row_is σ v h) }
+
+module _ (n : ℕ) {ts : List ℕ} (o : FoundAt n ts token_slots) where
+  is_none : (σ : State) → valid σ ≡ true → {ds : List ℕ} → TokensIn σ ts ds → State.token_of σ n ≡ no_token
+  is_none σ v h = no_token_lem n o v h (omega arith)
+
+  pub nobody : IdentityGiven n ts (record { user = 0; session = 0; kind = 1; level = 0; integrity = 0; root = 0 })
+  nobody = (no_identity {i = token_slots} {ts = ts} (omega arith)).given n o
+
+  pub unrestricted : RestrictedGiven n ts false
+  unfolding no_token new_token no_limits is_restricted is_empty
+  unrestricted = record { restricted = λ σ v h. sym (ap is_restricted (is_none σ v h)) }
+
+  pub unelevated : ElevationGiven n ts default_elevation
+  unfolding no_token new_token
+  unelevated = record { elevation = λ σ v h. sym (ap (λ (t : Token). t.elevation) (is_none σ v h)) }
+
+  pub unprivileged : PrivilegesGiven n ts (record { present = 0; enabled = 0; by_default = 0; used = 0 })
+  unfolding no_token new_token granted
+  unprivileged = record { privileges = λ σ v h. sym (ap (λ (t : Token). t.privileges) (is_none σ v h)) }
+
+-- ---- changed in place
 
 module _ {i : ℕ} {ts : List ℕ} where
-  pub elevation_at : i < token_slots → ElevationAt i ts (get_or ts (i * token_words + Head.elevation) 0)
-  unfolding token_row head
-  elevation_at l = record {
-    given = λ n at. record {
-      elevation = λ σ v h. record_element token_words i Head.elevation ts 0 (omega arith) ∙ ap (λ (ws : List ℕ). get_or ws Head.elevation 0) (in_slot n at v h l).words;
-    };
-  }
-
-  pub no_elevation : token_slots ≤ i → ElevationAt i ts default_elevation
-  unfolding no_token new_token
-  no_elevation l = record { given = λ n at. record { elevation = λ σ v h. sym (ap (λ (t : Token). t.elevation) (no_token_lem n at v h l)) } }
-
-  pub elevation_of : {n r : ℕ} → FoundAt n ts i → ElevationAt i ts r → ElevationGiven n ts r
-  elevation_of {n} at g = g.given n at
-
   -- another elevation
   pub elevated_in_place : {n : ℕ} {ws : List ℕ} (e : ℕ) → FoundAt n ts i → i < token_slots → Becomes (with_elevation e) (lent i ts) ws → WordsChanged n (with_elevation e) ts (back i ws ts)
   unfolding with_elevation
@@ -98,26 +112,13 @@ module _ {i : ℕ} {ts : List ℕ} where
   unfolding with_elevation
   elevated_nowhere e at l = words_unchanged at (with_elevation e) (λ t. refl) l
 
-pub privileges_in_row : (ws : List ℕ) (t : Token) → ws ≡ token_row t → privileges_of (privileges_in ws) ≡ t.privileges
-unfolding token_row head
-privileges_in_row ws t e = ap (λ (l : List ℕ). privileges_of (privileges_in l)) e
-
-pub privileges_at_lem : {i : ℕ} {ts : List ℕ} {p : Privileges} → i < token_slots → p ≡ privileges_in (lent i ts) → PrivilegesAt i ts p
-privileges_at_lem {i} {ts} l e = record {
-  given = λ n at σ v h. ap privileges_of e ∙ privileges_in_row (lent i ts) (State.token_of σ n) (lent_row n at v h l);
+pub held_given : {s m : ℕ} {ts cs : List ℕ} → CallerNumber s cs m → {n : ℕ} {p : Privileges} {r : Bool} → PrivilegesGiven m ts p → r ≡ is_enabled n (privileges_of p) → Held n s ts cs r
+unfolding held caller
+held_given c {n} g e = record {
+  held = λ σ v h j. e ∙ ap (is_enabled n) (g.privileges σ v h) ∙ ap (λ (k : ℕ). is_enabled n (State.token_of σ k).privileges) (c.number σ j);
 }
 
-pub no_privileges : {i : ℕ} {ts : List ℕ} → token_slots ≤ i → PrivilegesAt i ts (record { present = 0; enabled = 0; by_default = 0; used = 0 })
-unfolding no_token new_token granted
-no_privileges l = record { given = λ n at σ v h. sym (ap (λ (t : Token). t.privileges) (no_token_lem n at v h l)) }
-
 module _ {s m i : ℕ} {ts cs : List ℕ} (c : CallerNumber s cs m) (at : FoundAt m ts i) where
-  pub held_given : {n : ℕ} {p : Privileges} {r : Bool} → PrivilegesAt i ts p → r ≡ is_enabled n (privileges_of p) → Held n s ts cs r
-  unfolding held caller
-  held_given {n} g e = record {
-    held = λ σ v h j. e ∙ ap (is_enabled n) (g.given m at σ v h) ∙ ap (λ (k : ℕ). is_enabled n (State.token_of σ k).privileges) (c.number σ j);
-  }
-
   -- ---- the used mark
 
   used_by : {n : ℕ} {ts' : List ℕ} → WordsChanged m (used_on n) ts ts' → Used n s ts cs ts'

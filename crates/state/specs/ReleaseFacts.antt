@@ -1,5 +1,6 @@
 -- What the changes that free a token give, for every state that the parts hold. Assumes nothing.
-use Rattle.std.specs.Prelude.{ℕ, ◌≡◌, true, ◌⊎◌, List}
+use Rattle.std.specs.Prelude.{ℕ, ◌≡◌, Bool, true, ◌⊎◌, Option, is_some, IsNone, List}
+use Rattle.rules.specs.Basic.{member}
 use Rattle.rules.specs.Growth.{Mem}
 use Rattle.rules.specs.Token.{Token, primary}
 use Rattle.rules.specs.Table.{is_live, lives}
@@ -8,7 +9,7 @@ use Rattle.rules.specs.Station.{Client, no_client}
 use Rattle.rules.specs.Acting.{ActsFor}
 use Rattle.rules.specs.Linking.{Linked}
 use Rattle.rules.specs.Index.{freed_one}
-use Rattle.rules.specs.State.{State, find_handle, drop_handle, set_token, set_client, set_pair, released}
+use Rattle.rules.specs.State.{State, find_handle, drop_handle, set_token, set_client, set_pair, references, released}
 use Rattle.handle.specs.declared.Handle.{Handle}
 use Rattle.control.specs.Control.{ControlIn}
 use Rattle.control.specs.Pairs.{pair_of, place_for}
@@ -23,12 +24,19 @@ pub record PartsIn (σ : State) (ts ds : List ℕ) (hs : List Handle) (cs : List
   pub control : ControlIn σ cs
   pub tokens : TokensIn σ ts ds
 
+-- a handle, a station or a pair refers to the token
+pub record Referred (token : ℕ) (hs : List Handle) (cs : List ℕ) (r : Bool) : Type 0 where
+  pub refers : (σ : State) → Formed σ → HandlesIn σ hs → ControlIn σ cs → r ≡ member token (references σ)
+
 pub record TokenFreed (token : ℕ) (ts ds : List ℕ) (hs : List Handle) (cs ts' ds' : List ℕ) : Type 0 where
   pub tokens : (σ : State) → Formed σ → PartsIn σ ts ds hs cs → TokensIn (freed_one token σ) ts' ds'
 
-pub record Closed (station number : ℕ) (ts ds : List ℕ) (hs : List Handle) (cs ts' ds' : List ℕ) (r : Change) : Type 0 where
+-- none where there is no such handle
+pub record Closed (station number : ℕ) (ts ds : List ℕ) (hs : List Handle) (cs ts' ds' : List ℕ) (r : Option Change) : Type 0 where
   pub parts : (σ : State) → valid σ ≡ true → PartsIn σ ts ds hs cs → is_live (find_handle σ station number) ≡ true
       → PartsIn (released (drop_handle station number σ)) ts' ds' (changed hs r) cs
+  pub live : (σ : State) → valid σ ≡ true → HandlesIn σ hs → is_some r ≡ is_live (find_handle σ station number)
+  pub none : IsNone r → (ts' ≡ ts) × (ds' ≡ ds)
 
 -- where the number is that of a live primary token
 pub record Installed (station number : ℕ) (ts ds : List ℕ) (hs : List Handle) (cs ts' ds' cs' : List ℕ) : Type 0 where

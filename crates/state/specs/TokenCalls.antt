@@ -1,15 +1,14 @@
 -- What the calls on tokens give: a definition of the rules, for every valid state that the parts hold. Assumes nothing.
-use Rattle.std.specs.Prelude.{ℕ, ◌<◌, ◌≡◌, Bool, true, List, length, set}
-use Rattle.table.specs.Table.{flat}
+use Rattle.std.specs.Prelude.{ℕ, ◌+◌, ◌-◌, ◌*◌, ◌<◌, ◌≤◌, ◌≡◌, Bool, true, Option, List, take, drop, unwrap_or, IfSome, MatchOption}
+use Rattle.std.specs.Borrow.{Bor}
 use Rattle.rules.specs.Number.{max64}
 use Rattle.rules.specs.Token as Rules
-use Rattle.rules.specs.Table.{Slot, live}
 use Rattle.rules.specs.State as State
 use Rattle.rules.specs.State.{State, token_slots, is_numbered, held, change_token, used, can_add_token, add_token}
-use Rattle.rules.specs.Index.{found_index}
+use Rattle.rules.specs.Index.{free_index, found_index}
 use Rattle.rules.specs.Valid.{valid}
 use Rattle.rules.specs.Privileges.{mark_used}
-use Rattle.rules.specs.Memory.{next_token, next_handle, token_row, dacl_row, slot_row, slot_dacl}
+use Rattle.rules.specs.Memory.{token_words, next_token, next_handle, token_row, dacl_row}
 use Rattle.privilege.specs.Meaning.{privileges_of}
 use Rattle.privilege.specs.declared.privileges.Privileges.{Privileges}
 use Rattle.token.specs.Meaning.{identity_of, slots_of}
@@ -23,6 +22,23 @@ use Rattle.state.specs.Parts.{TokensIn}
 abbrev pub FoundAt : ℕ → List ℕ → ℕ → Type 0
 FoundAt n ts r = (bs : List ℕ) → r ≡ found_index (is_numbered n) (slots_of ts bs)
 
+abbrev pub SlotOf : ℕ → List ℕ → Option ℕ → Type 0
+SlotOf n ts r = FoundAt n ts (unwrap_or r token_slots) × IfSome r (λ i. i < token_slots)
+
+abbrev pub FreeSlot : List ℕ → Option ℕ → Type 0
+FreeSlot ts r = ((bs : List ℕ) → unwrap_or r token_slots ≡ free_index (slots_of ts bs)) × IfSome r (λ i. i < token_slots)
+
+-- slot i's words
+abbrev pub lent : ℕ → List ℕ → List ℕ
+lent i ts = take (i * token_words + token_words - i * token_words) (drop (i * token_words) ts)
+
+abbrev pub RowAt : ℕ → List ℕ → Option (Bor (List ℕ)) → Type 0
+RowAt i ts r = MatchOption r (token_slots ≤ i) (λ ws. (i < token_slots) × (ws.now ≡ lent i ts))
+
+-- the row of the live token of number n
+abbrev pub RowOf : ℕ → List ℕ → Option (Bor (List ℕ)) → Type 0
+RowOf n ts r = MatchOption r (FoundAt n ts token_slots) (λ ws. (i : ℕ) × FoundAt n ts i × (i < token_slots) × (ws.now ≡ lent i ts))
+
 pub record IdentityGiven (n : ℕ) (ts : List ℕ) (r : Identity) : Type 0 where
   pub identity : (σ : State) → valid σ ≡ true → {ds : List ℕ} → TokensIn σ ts ds → identity_of r ≡ (State.token_of σ n).identity
 
@@ -33,17 +49,11 @@ pub record IdentityAt (slot : ℕ) (ts : List ℕ) (r : Identity) : Type 0 where
 pub record RestrictedGiven (n : ℕ) (ts : List ℕ) (r : Bool) : Type 0 where
   pub restricted : (σ : State) → valid σ ≡ true → {ds : List ℕ} → TokensIn σ ts ds → r ≡ Rules.is_restricted (State.token_of σ n)
 
-pub record RestrictedAt (slot : ℕ) (ts : List ℕ) (r : Bool) : Type 0 where
-  pub given : (n : ℕ) → FoundAt n ts slot → RestrictedGiven n ts r
-
 pub record ElevationGiven (n : ℕ) (ts : List ℕ) (r : ℕ) : Type 0 where
   pub elevation : (σ : State) → valid σ ≡ true → {ds : List ℕ} → TokensIn σ ts ds → r ≡ (State.token_of σ n).elevation
 
-pub record ElevationAt (slot : ℕ) (ts : List ℕ) (r : ℕ) : Type 0 where
-  pub given : (n : ℕ) → FoundAt n ts slot → ElevationGiven n ts r
-
-pub record PrivilegesAt (slot : ℕ) (ts : List ℕ) (r : Privileges) : Type 0 where
-  pub given : (n : ℕ) → FoundAt n ts slot → (σ : State) → valid σ ≡ true → {ds : List ℕ} → TokensIn σ ts ds → privileges_of r ≡ (State.token_of σ n).privileges
+pub record PrivilegesGiven (n : ℕ) (ts : List ℕ) (r : Privileges) : Type 0 where
+  pub privileges : (σ : State) → valid σ ≡ true → {ds : List ℕ} → TokensIn σ ts ds → privileges_of r ≡ (State.token_of σ n).privileges
 
 pub record Held (n s : ℕ) (ts cs : List ℕ) (r : Bool) : Type 0 where
   pub held : (σ : State) → valid σ ≡ true → {ds : List ℕ} → TokensIn σ ts ds → ControlIn σ cs → r ≡ held σ s n
@@ -53,11 +63,6 @@ pub record CanAdd (ts cs : List ℕ) (r : Bool) : Type 0 where
   pub can_add : (σ : State) → valid σ ≡ true → {ds : List ℕ} → TokensIn σ ts ds → ControlIn σ cs → r ≡ can_add_token σ
 
 -- ---- changes
-
--- slot i gets the rows of some token u
-pub record RowsPut (ws bs : List ℕ) (i : ℕ) (ts ds ts' ds' : List ℕ) : Type 0 where
-  pub words : (u : Rules.Token) → ws ≡ token_row u → (ps : List (Slot Rules.Token)) → length ps ≡ token_slots → ts ≡ flat slot_row ps → ts' ≡ flat slot_row (set ps i (live u))
-  pub bytes : (u : Rules.Token) → bs ≡ dacl_row u → (ps : List (Slot Rules.Token)) → length ps ≡ token_slots → ds ≡ flat slot_dacl ps → ds' ≡ flat slot_dacl (set ps i (live u))
 
 -- a new token by its rows, whatever token they are of
 pub record RowAdded (ws bs ts ds cs ts' ds' cs' : List ℕ) : Type 0 where

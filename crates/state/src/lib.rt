@@ -2,5 +2,6 @@
 #![tactic(auto)]
 
 pub mod handles;
+pub mod parts;
 pub mod release;
 pub mod tokens;

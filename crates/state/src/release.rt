@@ -1,112 +1,100 @@
 // A token lives while a handle, a station or a linked pair refers to it: the changes that take a reference away free the token that lost it.
-ghost use Rattle.std.specs.Prelude.{◌<◌, set};
-ghost use Rattle.rules.specs.State.{pair_slots, station_count};
+ghost use Rattle.std.specs.Prelude.{◌≡◌, ◌<◌, set, unwrap_or};
+ghost use Rattle.rules.specs.State.{pair_slots, handle_slots};
 ghost use Rattle.handle.specs.Meaning.{none};
 ghost use Rattle.handle.specs.Words.{records_in};
-ghost use Rattle.state.specs.Parts.{Lent};
-ghost use Rattle.state.specs.ReleaseFacts.{TokenFreed, Closed, Installed, ActsFrom, PairLinked};
+ghost use Rattle.control.specs.Stations.{ClientGiven};
+ghost use Rattle.control.specs.Pairs.{RowGiven};
+ghost use Rattle.state.specs.Parts.{SameParts};
+ghost use Rattle.state.specs.ReleaseFacts.{Referred, TokenFreed, Closed, Installed, ActsFrom, PairLinked};
 
 use crate::handles::Change;
+use crate::parts::Parts;
+use control::pairs::Pair;
+use control::stations::{Client, Station};
 use control::{pairs, references, stations};
-use handle::{HANDLE_WORDS, NONE, SLOTS};
-use token::layout::TOKEN_SLOTS;
+use handle::{NONE, SLOTS};
 use token::slots;
 
-// The token is freed if no handle, but for the one in a slot that is freed, no station and no pair refers to it.
-pub fn free_unreferenced(
-    token: u64,
-    freed: usize,
-    handles: &[u64; HANDLE_WORDS],
-    tokens: &mut [u64],
-    dacls: &mut [u8],
-    control: &[u64],
-)
-    requires { Lent tokens.old dacls.old control.now }
-    ensures { TokenFreed token tokens.old dacls.old (set (records_in handles.now) freed none) control.now tokens.new dacls.new }
-{
-    let by_handle = handle::refers(handles, freed, token);
-    let by_control = references::refer(token, control);
-    if by_handle | by_control {
-        return;
+impl Parts<'_> {
+    // The token that the station acts for and the level in force.
+    pub fn client_of(&self, station: Station) -> Client
+        ensures { ClientGiven station.number self.now.control.now result }
+    {
+        stations::client_of(station, self.control)
     }
-    let slot = slots::find(tokens, token);
-    if slot < TOKEN_SLOTS {
-        slots::clear_at(tokens, dacls, slot);
+
+    // The row of a pair's place.
+    pub fn pair_at(&self, place: usize) -> Pair
+        requires { place < pair_slots }
+        ensures { RowGiven place self.now.control.now result }
+    {
+        pairs::row(place, self.control)
     }
-}
 
-// The station's handle of that number is dropped, and its token freed if it was the last reference.
-pub fn close(
-    station: u32,
-    number: u32,
-    handles: &[u64; HANDLE_WORDS],
-    tokens: &mut [u64],
-    dacls: &mut [u8],
-    control: &[u64],
-) -> Change
-    requires { Lent tokens.old dacls.old control.now }
-    ensures { Closed station number tokens.old dacls.old (records_in handles.now) control.now tokens.new dacls.new result }
-{
-    let slot = handle::find(handles, station, number);
-    let closed = handle::at(handles, slot);
-    free_unreferenced(closed.token, slot, handles, tokens, dacls, control);
-    Change {
-        slot: slot,
-        handle: NONE,
+    // Some handle, but for the one in a slot that is freed, some station or some pair refers to the token.
+    fn refers(&self, token: u64, freed: Option<usize>) -> bool
+        ensures { Referred token (set (records_in self.now.handles.now) (unwrap_or freed handle_slots) none) self.now.control.now result }
+    {
+        let by_handle = handle::refers(self.handles, freed.unwrap_or(SLOTS), token);
+        by_handle | references::refer(token, self.control)
     }
-}
 
-// The station gets another primary token, and the one before is freed if that was its last reference.
-pub fn install(
-    station: u32,
-    number: u64,
-    handles: &[u64; HANDLE_WORDS],
-    tokens: &mut [u64],
-    dacls: &mut [u8],
-    control: &mut [u64],
-)
-    requires { (station < station_count) × Lent tokens.old dacls.old control.old }
-    ensures { Installed station number tokens.old dacls.old (records_in handles.now) control.old tokens.new dacls.new control.new }
-{
-    let before = stations::caller_number(station, control);
-    stations::set_token(station, number, control);
-    free_unreferenced(before, SLOTS, handles, tokens, dacls, control);
-}
+    // The token is freed if nothing refers to it, but for the handle in a slot that is freed.
+    pub fn free_unreferenced(&mut self, token: u64, freed: Option<usize>)
+        ensures same { SameParts self.old self.new }
+        ensures control { self.new.control.now ≡ self.old.control.now }
+        ensures freed { TokenFreed token self.old.tokens.now self.old.dacls.now (set (records_in self.old.handles.now) (unwrap_or freed handle_slots) none) self.old.control.now self.new.tokens.now self.new.dacls.now }
+    {
+        if self.refers(token, freed) {
+            return;
+        }
+        if let Some(slot) = self.slot_of(token) {
+            slots::clear_at(self.tokens, self.dacls, slot);
+        }
+    }
 
-// The station acts for a token at a level, or with 0 and 0 for none, and the token that it acted for is freed if that was its last reference.
-pub fn act_for(
-    station: u32,
-    token: u64,
-    level: u64,
-    handles: &[u64; HANDLE_WORDS],
-    tokens: &mut [u64],
-    dacls: &mut [u8],
-    control: &mut [u64],
-)
-    requires { (station < station_count) × Lent tokens.old dacls.old control.old }
-    ensures { ActsFrom station token level tokens.old dacls.old (records_in handles.now) control.old tokens.new dacls.new control.new }
-{
-    let before = stations::client_of(station, control);
-    stations::set_client(station, token, level, control);
-    free_unreferenced(before.token, SLOTS, handles, tokens, dacls, control);
-}
+    // The station's live handle of that number is dropped, and its token freed if it was the last reference.
+    pub fn close(&mut self, station: u32, number: u32) -> Option<Change>
+        ensures same { SameParts self.old self.new }
+        ensures control { self.new.control.now ≡ self.old.control.now }
+        ensures closed { Closed station number self.old.tokens.now self.old.dacls.now (records_in self.old.handles.now) self.old.control.now self.new.tokens.now self.new.dacls.now result }
+    {
+        let slot = handle::find(self.handles, station, number)?;
+        let closed = handle::at(self.handles, slot);
+        self.free_unreferenced(closed.token, Some(slot));
+        Some(Change { slot, handle: NONE })
+    }
 
-// A pair of a session takes a place, and the tokens of the pair that stood there are freed where that was their last reference.
-pub fn link(
-    place: usize,
-    session: u64,
-    elevated: u64,
-    filtered: u64,
-    handles: &[u64; HANDLE_WORDS],
-    tokens: &mut [u64],
-    dacls: &mut [u8],
-    control: &mut [u64],
-)
-    requires { (place < pair_slots) × Lent tokens.old dacls.old control.old }
-    ensures { PairLinked place session elevated filtered tokens.old dacls.old (records_in handles.now) control.old tokens.new dacls.new control.new }
-{
-    let before = pairs::row(place, control);
-    pairs::set_pair(place, session, elevated, filtered, control);
-    free_unreferenced(before.elevated, SLOTS, handles, tokens, dacls, control);
-    free_unreferenced(before.filtered, SLOTS, handles, tokens, dacls, control);
+    // The station gets another primary token, and the one before is freed if that was its last reference.
+    pub fn install(&mut self, station: Station, number: u64)
+        ensures same { SameParts self.old self.new }
+        ensures installed { Installed station.number number self.old.tokens.now self.old.dacls.now (records_in self.old.handles.now) self.old.control.now self.new.tokens.now self.new.dacls.now self.new.control.now }
+    {
+        let before = self.caller_number(station);
+        stations::set_token(station, number, self.control);
+        self.free_unreferenced(before, None);
+    }
+
+    // The station acts for a token at a level, or with 0 and 0 for none, and the token that it acted for is freed if that was its last reference.
+    pub fn act_for(&mut self, station: Station, token: u64, level: u64)
+        ensures same { SameParts self.old self.new }
+        ensures acts { ActsFrom station.number token level self.old.tokens.now self.old.dacls.now (records_in self.old.handles.now) self.old.control.now self.new.tokens.now self.new.dacls.now self.new.control.now }
+    {
+        let before = self.client_of(station);
+        stations::set_client(station, token, level, self.control);
+        self.free_unreferenced(before.token, None);
+    }
+
+    // A pair takes a place, and the tokens of the pair that stood there are freed where that was their last reference.
+    pub fn link(&mut self, place: usize, pair: Pair)
+        requires { place < pair_slots }
+        ensures same { SameParts self.old self.new }
+        ensures linked { PairLinked place pair.session pair.elevated pair.filtered self.old.tokens.now self.old.dacls.now (records_in self.old.handles.now) self.old.control.now self.new.tokens.now self.new.dacls.now self.new.control.now }
+    {
+        let before = self.pair_at(place);
+        pairs::set_pair(place, pair, self.control);
+        self.free_unreferenced(before.elevated, None);
+        self.free_unreferenced(before.filtered, None);
+    }
 }

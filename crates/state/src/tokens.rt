@@ -1,171 +1,40 @@
 // The state's tokens, in the parts that hold it.
-ghost use Rattle.std.specs.Prelude.{◌≡◌, ◌*◌, ◌<◌, length};
+ghost use Rattle.std.specs.Prelude.{◌≡◌, ◌<◌, length};
 ghost use Rattle.rules.specs.Number.{max64};
 ghost use Rattle.rules.specs.Token.{max_dacl, with_elevation};
-ghost use Rattle.rules.specs.State.{token_slots, station_count};
-ghost use Rattle.rules.specs.Memory.{token_words, control_words, next_token};
-ghost use Rattle.state.specs.Parts.{Lent};
-ghost use Rattle.state.specs.TokenCalls.{IdentityGiven, IdentityAt, RestrictedGiven, RestrictedAt, ElevationGiven, ElevationAt, PrivilegesAt, Held, Marked, CanAdd, WordsChanged, RowsPut, RowAdded, Used};
+ghost use Rattle.rules.specs.Memory.{token_words, next_token};
+ghost use Rattle.control.specs.Stations.{CallerNumber};
+ghost use Rattle.state.specs.Parts.{SameParts, WordsAlone};
+ghost use Rattle.state.specs.TokenCalls.{RowAt, RowOf, IdentityGiven, IdentityAt, RestrictedGiven, ElevationGiven, PrivilegesGiven, SlotOf, FreeSlot, Held, Marked, CanAdd, WordsChanged, RowAdded, Used};
 
-use control::counters;
+use crate::parts::Parts;
 use control::layout::{MAX_TOKEN, NEXT_TOKEN};
-use control::stations::caller_number;
+use control::stations::Station;
+use control::{counters, stations};
 use privilege::privileges::Privileges;
 use privilege::words;
 use token::layout::{ELEVATION, RESTRICTING_COUNT, TOKEN_SLOTS, TOKEN_WORDS};
 use token::{Identity, row, slots};
 
-// ---- looking
+// Who the empty token is.
+const NOBODY: Identity = Identity {
+    user: 0,
+    session: 0,
+    kind: Identity::PRIMARY,
+    level: 0,
+    integrity: 0,
+    root: 0,
+};
 
-// Who the token in a slot is; past the last slot, who the empty token is.
-pub fn identity_at(slot: usize, tokens: &[u64]) -> Identity
-    requires { length tokens.now ≡ token_slots * token_words }
-    ensures { IdentityAt slot tokens.now result }
-{
-    if slot < TOKEN_SLOTS {
-        let at = slot * TOKEN_WORDS;
-        let end = at + TOKEN_WORDS;
-        return row::identity_in(&tokens[at..end]);
-    }
-    Identity {
-        user: 0,
-        session: 0,
-        kind: Identity::PRIMARY,
-        level: 0,
-        integrity: 0,
-        root: 0,
-    }
-}
+const NO_PRIVILEGES: Privileges = Privileges {
+    present: 0,
+    enabled: 0,
+    by_default: 0,
+    used: 0,
+};
 
-// The same of the live token of a number.
-pub fn identity_of(number: u64, tokens: &[u64]) -> Identity
-    requires { length tokens.now ≡ token_slots * token_words }
-    ensures { IdentityGiven number tokens.now result }
-{
-    let slot = slots::find(tokens, number);
-    identity_at(slot, tokens)
-}
-
-// The token in a slot has restricting SIDs; past the last slot there are none.
-fn restricted_at(slot: usize, tokens: &[u64]) -> bool
-    requires { length tokens.now ≡ token_slots * token_words }
-    ensures { RestrictedAt slot tokens.now result }
-{
-    if slot < TOKEN_SLOTS {
-        let at = slot * TOKEN_WORDS + RESTRICTING_COUNT;
-        return tokens[at] != 0;
-    }
-    false
-}
-
-// The same of the live token of a number.
-pub fn is_restricted(number: u64, tokens: &[u64]) -> bool
-    requires { length tokens.now ≡ token_slots * token_words }
-    ensures { RestrictedGiven number tokens.now result }
-{
-    let slot = slots::find(tokens, number);
-    restricted_at(slot, tokens)
-}
-
-// The elevation of the token in a slot; past the last slot, that of the empty token.
-fn elevation_at(slot: usize, tokens: &[u64]) -> u64
-    requires { length tokens.now ≡ token_slots * token_words }
-    ensures { ElevationAt slot tokens.now result }
-{
-    if slot < TOKEN_SLOTS {
-        let at = slot * TOKEN_WORDS + ELEVATION;
-        return tokens[at];
-    }
-    1
-}
-
-// The same of the live token of a number.
-pub fn elevation_of(number: u64, tokens: &[u64]) -> u64
-    requires { length tokens.now ≡ token_slots * token_words }
-    ensures { ElevationGiven number tokens.now result }
-{
-    let slot = slots::find(tokens, number);
-    elevation_at(slot, tokens)
-}
-
-// The privileges of the token in a slot; none past the last slot.
-fn privileges_at(slot: usize, tokens: &[u64]) -> Privileges
-    requires { length tokens.now ≡ token_slots * token_words }
-    ensures { PrivilegesAt slot tokens.now result }
-{
-    if slot < TOKEN_SLOTS {
-        let at = slot * TOKEN_WORDS;
-        let end = at + TOKEN_WORDS;
-        return row::privileges_in(&tokens[at..end]);
-    }
-    Privileges {
-        present: 0,
-        enabled: 0,
-        by_default: 0,
-        used: 0,
-    }
-}
-
-// The privilege is enabled on the caller's token.
-pub fn held(privilege: u64, station: u32, tokens: &[u64], control: &[u64]) -> bool
-    requires { (length tokens.now ≡ token_slots * token_words) × (length control.now ≡ control_words) × (station < station_count) }
-    ensures { Held privilege station tokens.now control.now result }
-{
-    let number = caller_number(station, control);
-    let slot = slots::find(tokens, number);
-    let p = privileges_at(slot, tokens);
-    p.holds(privilege)
-}
-
-pub fn can_add_token(tokens: &[u64], control: &[u64]) -> bool
-    requires { (length tokens.now ≡ token_slots * token_words) × (length control.now ≡ control_words) }
-    ensures { CanAdd tokens.now control.now result }
-{
-    let slot = slots::free_slot(tokens);
-    let next = counters::next(NEXT_TOKEN, control);
-    (slot < TOKEN_SLOTS) & (next < MAX_TOKEN)
-}
-
-// ---- changes
-
-// A slot past the end changes nothing.
-fn put_rows(words: &[u64], bytes: &[u8], tokens: &mut [u64], dacls: &mut [u8], slot: usize)
-    requires { (length words.now ≡ token_words) × (length bytes.now ≡ max_dacl) × (length tokens.old ≡ token_slots * token_words) × (length dacls.old ≡ token_slots * max_dacl) }
-    ensures { RowsPut words.now bytes.now slot tokens.old dacls.old tokens.new dacls.new }
-{
-    if slot < TOKEN_SLOTS {
-        slots::put_at(words, bytes, tokens, dacls, slot);
-    }
-}
-
-// A new token by its rows, whose number is the next one.
-pub fn add_row(
-    words: &[u64],
-    bytes: &[u8],
-    tokens: &mut [u64],
-    dacls: &mut [u8],
-    control: &mut [u64],
-)
-    requires { Lent tokens.old dacls.old control.old × (length words.now ≡ token_words) × (length bytes.now ≡ max_dacl) × (next_token control.old < max64) }
-    ensures { RowAdded words.now bytes.now tokens.old dacls.old control.old tokens.new dacls.new control.new }
-{
-    let slot = slots::free_slot(tokens);
-    put_rows(words, bytes, tokens, dacls, slot);
-    counters::step(NEXT_TOKEN, control);
-}
-
-// The token of that number gets another elevation.
-pub fn elevate(number: u64, elevation: u64, tokens: &mut [u64])
-    requires { length tokens.old ≡ token_slots * token_words }
-    ensures { WordsChanged number (with_elevation elevation) tokens.old tokens.new }
-{
-    let slot = slots::find(tokens, number);
-    if slot < TOKEN_SLOTS {
-        let at = slot * TOKEN_WORDS;
-        let end = at + TOKEN_WORDS;
-        row::set_elevation(&mut tokens[at..end], elevation);
-    }
-}
+// The elevation of the empty token, Default.
+const DEFAULT: u64 = 1;
 
 fn mark_used(bits: u64, words: &mut [u64])
     requires { length words.old ≡ token_words }
@@ -175,16 +44,151 @@ fn mark_used(bits: u64, words: &mut [u64])
     row::set_privileges(words, p.mark_used(bits));
 }
 
-// A success needed the privilege: its used bit is set on the caller's token.
-pub fn used(privilege: u64, station: u32, tokens: &mut [u64], control: &[u64])
-    requires { (length tokens.old ≡ token_slots * token_words) × (length control.now ≡ control_words) × (station < station_count) × (privilege < 64) }
-    ensures { Used privilege station tokens.old control.now tokens.new }
-{
-    let number = caller_number(station, control);
-    let slot = slots::find(tokens, number);
-    if slot < TOKEN_SLOTS {
+// ---- looking
+
+impl Parts<'_> {
+    // The row of the token in a slot; none past the last slot.
+    pub fn row_at(&self, slot: usize) -> Option<&[u64]>
+        ensures { RowAt slot self.now.tokens.now result }
+    {
+        if TOKEN_SLOTS <= slot {
+            return None;
+        }
         let at = slot * TOKEN_WORDS;
         let end = at + TOKEN_WORDS;
-        mark_used(words::bit(privilege), &mut tokens[at..end]);
+        Some(&self.tokens[at..end])
+    }
+
+    // The slot of the live token of a number.
+    pub fn slot_of(&self, number: u64) -> Option<usize>
+        ensures { SlotOf number self.now.tokens.now result }
+    {
+        slots::find(self.tokens, number)
+    }
+
+    // The row of the live token of a number.
+    fn row_of(&self, number: u64) -> Option<&[u64]>
+        ensures { RowOf number self.now.tokens.now result }
+    {
+        self.row_at(self.slot_of(number)?)
+    }
+
+    // Who the token in a slot is; past the last slot, who the empty token is.
+    pub fn identity_at(&self, slot: usize) -> Identity
+        ensures { IdentityAt slot self.now.tokens.now result }
+    {
+        match self.row_at(slot) {
+            Some(row) => row::identity_in(row),
+            None => NOBODY,
+        }
+    }
+
+    // Who the live token of a number is.
+    pub fn identity_of(&self, number: u64) -> Identity
+        ensures { IdentityGiven number self.now.tokens.now result }
+    {
+        match self.row_of(number) {
+            Some(row) => row::identity_in(row),
+            None => NOBODY,
+        }
+    }
+
+    // It has restricting SIDs.
+    pub fn is_restricted(&self, number: u64) -> bool
+        ensures { RestrictedGiven number self.now.tokens.now result }
+    {
+        match self.row_of(number) {
+            Some(row) => row[RESTRICTING_COUNT] != 0,
+            None => false,
+        }
+    }
+
+    pub fn elevation_of(&self, number: u64) -> u64
+        ensures { ElevationGiven number self.now.tokens.now result }
+    {
+        match self.row_of(number) {
+            Some(row) => row[ELEVATION],
+            None => DEFAULT,
+        }
+    }
+
+    fn privileges_of(&self, number: u64) -> Privileges
+        ensures { PrivilegesGiven number self.now.tokens.now result }
+    {
+        match self.row_of(number) {
+            Some(row) => row::privileges_in(row),
+            None => NO_PRIVILEGES,
+        }
+    }
+
+    // The number of a station's primary token.
+    pub fn caller_number(&self, station: Station) -> u64
+        ensures { CallerNumber station.number self.now.control.now result }
+    {
+        stations::caller_number(station, self.control)
+    }
+
+    // The privilege is enabled on the caller's token.
+    pub fn held(&self, privilege: u64, station: Station) -> bool
+        ensures { Held privilege station.number self.now.tokens.now self.now.control.now result }
+    {
+        self.privileges_of(self.caller_number(station))
+            .holds(privilege)
+    }
+
+    pub fn can_add_token(&self) -> bool
+        ensures { CanAdd self.now.tokens.now self.now.control.now result }
+    {
+        let next = self.next(NEXT_TOKEN);
+        slots::free_slot(self.tokens).is_some() & (next < MAX_TOKEN)
+    }
+
+    fn free_slot(&self) -> Option<usize>
+        ensures { FreeSlot self.now.tokens.now result }
+    {
+        slots::free_slot(self.tokens)
+    }
+}
+
+// ---- changes
+
+impl Parts<'_> {
+    // A new token by its rows, whose number is the next one.
+    pub fn add_row(&mut self, words: &[u64], bytes: &[u8])
+        requires { (length words.now ≡ token_words) × (length bytes.now ≡ max_dacl) × (next_token self.old.control.now < max64) }
+        ensures same { SameParts self.old self.new }
+        ensures added { RowAdded words.now bytes.now self.old.tokens.now self.old.dacls.now self.old.control.now self.new.tokens.now self.new.dacls.now self.new.control.now }
+    {
+        let slot = self.free_slot();
+        counters::step(NEXT_TOKEN, self.control);
+        if let Some(slot) = slot {
+            slots::put_at(words, bytes, self.tokens, self.dacls, slot);
+        }
+    }
+
+    // The token of that number gets another elevation.
+    pub fn elevate(&mut self, number: u64, elevation: u64)
+        ensures alone { WordsAlone self.old self.new }
+        ensures changed { WordsChanged number (with_elevation elevation) self.old.tokens.now self.new.tokens.now }
+    {
+        if let Some(slot) = self.slot_of(number) {
+            let at = slot * TOKEN_WORDS;
+            let end = at + TOKEN_WORDS;
+            row::set_elevation(&mut self.tokens[at..end], elevation);
+        }
+    }
+
+    // A success needed the privilege: its used bit is set on the caller's token.
+    pub fn used(&mut self, privilege: u64, station: Station)
+        requires { privilege < 64 }
+        ensures alone { WordsAlone self.old self.new }
+        ensures used { Used privilege station.number self.old.tokens.now self.old.control.now self.new.tokens.now }
+    {
+        let caller = self.caller_number(station);
+        if let Some(slot) = self.slot_of(caller) {
+            let at = slot * TOKEN_WORDS;
+            let end = at + TOKEN_WORDS;
+            mark_used(words::bit(privilege), &mut self.tokens[at..end]);
+        }
     }
 }

@@ -94,9 +94,6 @@ length_stays (a ∷ s) bytes =
 
 -- ---- what they come to, by the length, and how many bytes more leave a part
 
-pub sure_none : (pending : List ℕ) → Sure pending 0
-sure_none pending = record { stays = λ bytes lo hi. absurd (omega arith) }
-
 module _ (row : List ℕ) (count : ℕ) (h : count ≤ length row) (r : declared.Length) (f : Announced row count r) where
   is : (l : declared.Length) → r ≡ l → length_of (take count row) ≡ length_from row count l
   is l e = sym f.means ∙ ap (length_from row count) e
@@ -116,9 +113,6 @@ module _ (row : List ℕ) (count : ℕ) (h : count ≤ length row) (r : declared
 
     within : (1 ≤ start) × (start ≤ count)
     within = subst (Begins count) e f.bounds
-
-    pub starts_within : start ≤ count
-    starts_within = within.1
 
     pub body_short : count - start < n → FramedAs row count code.Part
     unfolding framed framed_by

@@ -56,12 +56,12 @@ module _ (chunk row : List ℕ) (count m k : ℕ) (long : length row ≡ pending
   ends_within = omega (arith, fits_at_once)
 
   -- what the lent part comes back as
-  pub joined_at_once : (out : List ℕ) → out ≡ take (k - 0) chunk → 1 ≤ length chunk → k ≤ length chunk - 1
+  pub joined_at_once : (out : List ℕ) → out ≡ take k chunk → 1 ≤ length chunk → k ≤ length chunk - 1
       → JoinedAtOnce chunk row count (take count row ++ (out ++ drop (count + k - count) (drop count row))) k
   joined_at_once out e some b = record {
     sure = fewer s a;
     row =
-        ap₂ (λ (x y : List ℕ). take count row ++ (x ++ y)) (e ∙ ap (λ (i : ℕ). take i chunk) {x = k - 0} {y = k} (omega arith))
+        ap₂ (λ (x y : List ℕ). take count row ++ (x ++ y)) e
         (ap (λ (i : ℕ). drop i (drop count row)) (add-sub_cancel_left count k) ∙ drop-drop k count row)
         ∙ sym (append_assoc (take count row) (take k chunk) (drop (count + k) row));
     used = omega arith;
@@ -179,10 +179,12 @@ module _ {chunk before : List ℕ} {count : ℕ} {row after : List ℕ} {n i k :
   pub turn_goes_on : r ≡ code.Part → Joining chunk before count last (n + k + 1) (i + k + 1)
   turn_goes_on g = goes_on (joining_block j a) more r f g
 
-  pub stream_breaks : r ≡ code.Broken → Joined chunk before count last (record { used = i + k + 1; count = n + k + 1; what = code.Broken })
+  -- the stream breaks, or a frame is whole
+  pub turn_ends : (r ≡ code.Part → ⊥) → Joined chunk before count last (record { used = i + k + 1; count = n + k + 1; what = r })
   unfolding stop_on
-  stream_breaks g = halts (joining_block j a) more r f code.Broken refl g
-
-  pub frame_ends : (start : ℕ) → r ≡ code.Whole start → Joined chunk before count last (record { used = i + k + 1; count = n + k + 1; what = code.Whole start })
-  unfolding stop_on
-  frame_ends start g = halts (joining_block j a) more r f (code.Whole start) refl g
+  turn_ends g = by r refl
+    where
+      by : (what : Framed) → r ≡ what → Joined chunk before count last (record { used = i + k + 1; count = n + k + 1; what = r })
+      by code.Part e = absurd (g e)
+      by code.Broken e = rw e (halts (joining_block j a) more r f code.Broken refl e)
+      by (code.Whole start) e = rw e (halts (joining_block j a) more r f (code.Whole start) refl e)

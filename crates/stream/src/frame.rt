@@ -1,5 +1,5 @@
 // What a row's first bytes come to, by the one or two length bytes and the count.
-ghost use Rattle.std.specs.Prelude.{◌≡◌, ◌||◌, ◌≤◌, ◌<◌, eqb, leb, ltb, length, take};
+ghost use Rattle.std.specs.Prelude.{◌≡◌, ◌||◌, ◌≤◌, eqb, leb, ltb, length, take};
 ghost use Rattle.rules.specs.Frame.{max_body};
 ghost use Rattle.stream.specs.Join.{Sure};
 ghost use Rattle.stream.specs.Meaning.{Announced, FramedAs};
@@ -10,17 +10,12 @@ use crate::Framed;
 pub const MAX_BODY: usize = 2048;
 
 // What the first bytes say of the body's length: nothing yet, that no length is valid, or the length, and where the body begins.
+// Three answers: no Option or Result.
 #[derive(Clone, Copy)]
 enum Length {
     Unread,
     Invalid,
     Known { start: usize, size: usize },
-}
-
-fn wide(x: u8) -> usize
-    ensures { (result ≡ x) × (result < 256) }
-{
-    x as usize
 }
 
 // No length of a body: the second byte b is not the last of a shortest form, or the length n is too large.
@@ -38,7 +33,7 @@ fn announced(row: &[u8], count: usize) -> Length
     if count == 0 {
         return Length::Unread;
     }
-    let a = wide(row[0]);
+    let a = usize::from(row[0]);
     if a == 0 {
         return Length::Invalid;
     }
@@ -48,7 +43,7 @@ fn announced(row: &[u8], count: usize) -> Length
     if count == 1 {
         return Length::Unread;
     }
-    let b = wide(row[1]);
+    let b = usize::from(row[1]);
     let n = a - 128 + 128 * b;
     if invalid(b, n) {
         return Length::Invalid;
@@ -80,8 +75,7 @@ pub fn sure(row: &[u8], count: usize) -> usize
     ensures { Sure (take count row.now) result }
 {
     match announced(row, count) {
-        Length::Unread => 0,
-        Length::Invalid => 0,
+        Length::Unread | Length::Invalid => 0,
         Length::Known { start, size } => {
             let here = count - start;
             if here < size { size - here - 1 } else { 0 }

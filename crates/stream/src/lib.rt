@@ -8,12 +8,11 @@ ghost use Rattle.stream.specs.Meaning.{JoinedAtOnce, Joined};
 pub mod frame;
 
 use frame::{MAX_BODY, framed, sure};
-use table::slices;
 
 // A row of pending bytes: a frame's two length bytes and its body.
 pub const PENDING_BYTES: usize = MAX_BODY + 2;
 
-// What the first bytes of a stream come to: a part of a frame, a break, or a whole frame, whose body begins at start.
+// What the first bytes of a stream come to: a part of a frame, a break, or a whole frame, whose body begins at start. Three ways: no Option or Result.
 #[derive(Clone, Copy)]
 pub enum Framed {
     Part,
@@ -29,20 +28,13 @@ pub struct Stopped {
     pub what: Framed,
 }
 
-fn least(a: usize, b: usize) -> usize
-    ensures { (result ≤ a) × (result ≤ b) }
-{
-    if a < b { a } else { b }
-}
-
 // The bytes of a chunk, but for its last one, join at once while the pending ones stay a part of a frame for sure. Answers how many.
 fn join_at_once(chunk: &[u8], row: &mut [u8], count: usize) -> usize
     requires { (1 ≤ length chunk.now) × (length row.old ≡ pending_bytes) × (count < pending_bytes) }
     ensures { JoinedAtOnce chunk.now row.old count row.new result }
 {
-    let k = least(sure(row, count), chunk.len() - 1);
-    let end = count + k;
-    slices::copy_bytes(&chunk[0..k], &mut row[count..end]);
+    let k = sure(row, count).min(chunk.len() - 1);
+    row[count..count + k].copy_from_slice(&chunk[..k]);
     k
 }
 
@@ -53,6 +45,7 @@ pub fn join(chunk: &[u8], row: &mut [u8], count: usize) -> Stopped
 {
     let mut n = count;
     let mut i: usize = 0;
+    // A turn takes several bytes, so i is no counter that goes up by one.
     while i < chunk.len() {
         let k = join_at_once(&chunk[i..], row, n);
         n += k;
@@ -60,23 +53,14 @@ pub fn join(chunk: &[u8], row: &mut [u8], count: usize) -> Stopped
         row[n] = chunk[i];
         n += 1;
         i += 1;
-        match framed(row, n) {
-            Framed::Part => {}
-            Framed::Broken => {
-                return Stopped {
-                    used: i,
-                    count: n,
-                    what: Framed::Broken,
-                };
-            }
-            Framed::Whole { start } => {
-                return Stopped {
-                    used: i,
-                    count: n,
-                    what: Framed::Whole { start },
-                };
-            }
-        }
+        let what = framed(row, n);
+        let Framed::Part = what else {
+            return Stopped {
+                used: i,
+                count: n,
+                what,
+            };
+        };
     }
     Stopped {
         used: i,
@@ -90,5 +74,5 @@ pub fn clear(row: &mut [u8], count: usize)
     requires { count ≤ length row.old }
     ensures { row.new ≡ replicate count 0 ++ drop count row.old }
 {
-    slices::zero_bytes(count, &mut row[0..count]);
+    row[..count].fill(0);
 }

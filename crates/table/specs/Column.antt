@@ -30,7 +30,7 @@ index_within w x (suc n) xs = next (eqb (get_or xs 0 0) x) (index_within w x n (
     next true h = omega arith
     next false h = omega arith
 
--- a loop that has passed i rows: x is in none of them
+-- a loop that has passed i rows: x is in none of them. Nothing cites it now; it stays as a theorem
 pub record Seeking (w n x : ℕ) (xs : List ℕ) (i : ℕ) : Type 0 where
   pub within : i ≤ n
   pub rest : index_of x (column w n xs) ≡ i + index_of x (column w (n - i) (drop (i * w) xs))

@@ -13,16 +13,16 @@ use Rattle.rules.proofs.Facts.{token_facts}
 use Rattle.rules.proofs.Rows.{token_back}
 use Rattle.privilege.specs.Meaning.{privileges_of}
 use Rattle.privilege.specs.declared.privileges.Privileges.{Privileges}
-use Rattle.token.specs.Row.{Becomes}
+use Rattle.token.specs.Row.{privileges_stored, Becomes}
 
 module _ {ws : List ℕ} where
   pub modified_stepped : {m : ℕ} → m ≡ (get_or ws Head.modified 0 + 1) % 2 ^ 64 → Becomes next_modified ws (set ws Head.modified m)
   unfolding token_row head next_modified
   modified_stepped q = record { row = λ t e. ap (set ws Head.modified) q ∙ ap (λ (l : List ℕ). set l Head.modified ((get_or l Head.modified 0 + 1) % 2 ^ 64)) e }
 
-  pub privileges_set : (p : Privileges) → Becomes (with_privileges (privileges_of p)) ws (set (set (set (set ws Head.present p.present) Head.enabled p.enabled) Head.by_default p.by_default) Head.used p.used)
+  pub privileges_set : (p : Privileges) {ws' : List ℕ} → ws' ≡ privileges_stored p ws → Becomes (with_privileges (privileges_of p)) ws ws'
   unfolding token_row head with_privileges
-  privileges_set p = record { row = λ t e. ap (λ (l : List ℕ). set (set (set (set l Head.present p.present) Head.enabled p.enabled) Head.by_default p.by_default) Head.used p.used) e }
+  privileges_set p q = record { row = λ t e. q ∙ ap (privileges_stored p) e }
 
   pub scope_set : (v : ℕ) → Becomes (with_scope v) ws (set ws Head.scope v)
   unfolding token_row head with_scope
@@ -31,6 +31,8 @@ module _ {ws : List ℕ} where
   pub elevation_set : (v : ℕ) → Becomes (with_elevation v) ws (set ws Head.elevation v)
   unfolding token_row head with_elevation
   elevation_set v = record { row = λ t e. ap (λ (l : List ℕ). set l Head.elevation v) e }
+
+pub ruleset changes = (modified_stepped, privileges_set, scope_set, elevation_set)
 
 -- ---- the words of a token's groups
 

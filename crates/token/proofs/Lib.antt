@@ -1,5 +1,5 @@
+pub mod GroupBits
 pub mod Finding
 pub mod Laws
 pub mod Changing
 pub mod NewRow
-pub mod Regrouped

@@ -1,7 +1,7 @@
 -- The row of a new token: its groups, one after the other, and then its head. Assumes nothing.
 use Rattle.std.proofs.Common.{◌≡◌, ℕ, suc, ◌+◌, ◌-◌, ◌<◌, List, [], ◌∷◌, ◌++◌, map, length, set, replicate, sym, refl, ap, ◌∙◌, ap₂, suc-add, zero-add, arith, length-append, length-set}
 use mathlib.Core.List.{map-append}
-use lib.ListN.{length-replicate, length-map}
+use lib.ListN.{length-map}
 use lib.Seq.{append_snoc, set-append_seam, set-append_left}
 use Rattle.table.specs.Lists.{pad, length_pad, pad_fits}
 use Rattle.rules.specs.Group.{Group}
@@ -12,6 +12,7 @@ use Rattle.privilege.specs.Meaning.{privileges_of}
 use Rattle.privilege.specs.declared.privileges.Privileges.{Privileges}
 use Rattle.token.specs.Meaning.{identity_of}
 use Rattle.token.specs.NewRow.{headless, Headed}
+use Rattle.token.specs.Row.{privileges_stored}
 use Rattle.token.specs.declared.Identity.{Identity}
 
 -- ---- a group more
@@ -32,7 +33,7 @@ set_pad n xs a h =
 
 pub length_headless : (gs : List Group) → length (headless gs) ≡ token_words
 unfolding headless
-length_headless gs = simp (length-append, length_pad, length-replicate)
+length_headless gs = simp (length-append, length_pad)
 
 pub no_groups : replicate token_words 0 ≡ headless []
 unfolding headless pad
@@ -55,14 +56,17 @@ one_group gs g {i} {w} h e f =
 -- ---- the head
 
 module _ (n : ℕ) (i : Identity) (p : Privileges) where
-  abbrev headed : ℕ → List ℕ → List ℕ
-  headed count ws =
+  -- with the privileges not yet stored
+  abbrev headed : List ℕ → List ℕ
+  headed ws =
       let numbers : List ℕ = set (set ws Head.number n) Head.modified n in
       let identity : List ℕ = set (set (set (set numbers Head.session i.session) Head.user i.user) Head.type i.kind) Head.level i.level in
-      let integrity : List ℕ = set (set identity Head.elevation 1) Head.integrity i.integrity in
-      let privileges : List ℕ = set (set (set (set integrity Head.present p.present) Head.enabled p.enabled) Head.by_default p.by_default) Head.used p.used in
-      set (set privileges Head.group_count count) Head.root i.root
+      set (set identity Head.elevation 1) Head.integrity i.integrity
 
-  pub head_set : {count : ℕ} {ws : List ℕ} → Headed n (identity_of i) (privileges_of p) count ws (headed count ws)
+  pub head_set : {count : ℕ} {ws ws' : List ℕ} → ws' ≡ privileges_stored p (headed ws)
+      → Headed n (identity_of i) (privileges_of p) count ws (set (set ws' Head.group_count count) Head.root i.root)
   unfolding headless token_row head new_token no_limits no_defaults mark
-  head_set = record { row = λ gs e l. ap₂ headed (sym l) e; long = λ e. simp length-set e }
+  head_set {count} {ws} {ws'} q = record {
+    row = λ gs e l. ap₂ (λ (m : ℕ) (x : List ℕ). set (set x Head.group_count m) Head.root i.root) (sym l) (q ∙ ap (λ (x : List ℕ). privileges_stored p (headed x)) e);
+    long = λ e. simp length-set (ap length q ∙ simp length-set e);
+  }

@@ -1,5 +1,5 @@
 -- What the parts of a token's row stand for, as values of the code, and what they are written as. Assumes nothing.
-use Rattle.std.specs.Prelude.{◌≡◌, ℕ, ◌+◌, ◌*◌, ◌/◌, List, slice_index}
+use Rattle.std.specs.Prelude.{◌≡◌, ℕ, ◌+◌, ◌*◌, ◌/◌, List, slice_index, set}
 use Rattle.rules.specs.Group as Rules-group
 use Rattle.rules.specs.Token as Rules
 use Rattle.rules.specs.Head as Head
@@ -25,6 +25,9 @@ identity_in ws =
 
 abbrev pub privileges_in : List ℕ → Privileges
 privileges_in ws = record { present = slice_index ws Head.present; enabled = slice_index ws Head.enabled; by_default = slice_index ws Head.by_default; used = slice_index ws Head.used }
+
+abbrev pub privileges_stored : Privileges → List ℕ → List ℕ
+privileges_stored p ws = set (set (set (set ws Head.present p.present) Head.enabled p.enabled) Head.by_default p.by_default) Head.used p.used
 
 abbrev pub word_of : Group → ℕ
 word_of g = g.sid + g.attributes * word32

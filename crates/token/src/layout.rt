@@ -57,7 +57,7 @@ pub const DACL_COUNT: usize = 19;
 
 pub const ROOT: usize = 20;
 
-// The elevations of a linked pair's tokens.
+// The elevations of a linked pair's tokens: numbers, as `row::set_elevation` promises what it does for each.
 pub const FULL: u64 = 2;
 
 pub const LIMITED: u64 = 3;

@@ -10,14 +10,15 @@ pub mod row;
 pub mod slots;
 pub mod words;
 
-#[derive(Clone, Copy)]
+#[derive(Clone, Copy, PartialEq, Eq)]
 pub struct Group {
     pub sid: u32,
     pub attributes: u32,
 }
 
-// What a token keeps as long as it lives; `kind` is its type.
-#[derive(Clone, Copy)]
+// What a token keeps as long as it lives; `kind` is its type. It and the level are numbers: `row::identity_in` reads them from the words of
+// any row, valid or not.
+#[derive(Clone, Copy, PartialEq, Eq)]
 pub struct Identity {
     pub user: u32,
     pub session: u64,
@@ -35,8 +36,9 @@ impl Identity {
 }
 
 // One of the five levels.
+#[tactic(auto, unfolding(rules::specs::Create::valid_integrity, rules::specs::Basic::member))]
 pub fn valid_integrity(i: u64) -> bool
     ensures { result ≡ valid_integrity i }
 {
-    (i == 0) | ((i == 4096) | ((i == 8192) | ((i == 12288) | (i == 16384))))
+    matches!(i, 0 | 4096 | 8192 | 12288 | 16384)
 }

@@ -1,17 +1,19 @@
-// A token's row in lent memory: its words, and the bytes of its DACL.
+// The words of a token's row in lent memory. A row is a slice whose length each contract asks for: of an array made of a part of the lent
+// words, a proof doesn't know what the words hold after it.
+#![tactic(auto, using(crate::proofs::Changing::changes, crate::proofs::NewRow::head_set))]
+
 ghost use Rattle.std.specs.Prelude.{◌≡◌, ◌<◌, min, length, slice_index};
-ghost use Rattle.rules.specs.Token.{max_dacl, next_modified, with_elevation, with_privileges, with_scope};
-ghost use Rattle.rules.specs.Memory.{token_words, slot_row, slot_dacl};
-ghost use Rattle.rules.specs.Table.{free};
+ghost use Rattle.rules.specs.Token.{next_modified, with_elevation, with_privileges, with_scope};
+ghost use Rattle.rules.specs.Memory.{token_words};
 ghost use Rattle.token.specs.Meaning.{identity_of};
 ghost use Rattle.privilege.specs.Meaning.{privileges_of};
-ghost use Rattle.token.specs.Row.{identity_in, privileges_in, Becomes};
+ghost use Rattle.token.specs.Row.{identity_in, privileges_in, privileges_stored, Becomes};
 ghost use Rattle.token.specs.NewRow.{Headed};
 
 use crate::Identity;
 use crate::layout::*;
 use privilege::privileges::Privileges;
-use table::{WORD_32, slices};
+use table::WORD_32;
 
 // ---- reading
 
@@ -41,42 +43,12 @@ pub fn privileges_in(words: &[u64]) -> Privileges
     }
 }
 
-// A count, cut to its list's size.
+// A count, cut to its list's size. The two stay apart: callers name the size by itself too.
 pub fn count_in(words: &[u64], at: usize, size: usize) -> usize
     requires { at < length words.now }
     ensures { result ≡ min (slice_index words.now at) size }
 {
-    let count = words[at];
-    let most = size as u64;
-    if count < most { count as usize } else { size }
-}
-
-// A copy of the row.
-pub fn copied(words: &[u64]) -> [u64; TOKEN_WORDS]
-    requires { length words.now ≡ token_words }
-    ensures { result ≡ words.now }
-{
-    let mut out = [0u64; TOKEN_WORDS];
-    let mut i: usize = 0;
-    while i < TOKEN_WORDS {
-        out[i] = words[i];
-        i += 1;
-    }
-    out
-}
-
-// A copy of the DACL's row.
-pub fn copied_dacl(bytes: &[u8]) -> [u8; MAX_DACL]
-    requires { length bytes.now ≡ max_dacl }
-    ensures { result ≡ bytes.now }
-{
-    let mut out = [0u8; MAX_DACL];
-    let mut i: usize = 0;
-    while i < MAX_DACL {
-        out[i] = bytes[i];
-        i += 1;
-    }
-    out
+    words[at].min(size as u64) as usize
 }
 
 // ---- writing
@@ -100,12 +72,19 @@ pub fn set_head(
     words[LEVEL] = identity.level as u64;
     words[ELEVATION] = 1;
     words[INTEGRITY] = identity.integrity as u64;
+    store_privileges(words, p);
+    words[GROUP_COUNT] = group_count as u64;
+    words[ROOT] = identity.root;
+}
+
+fn store_privileges(words: &mut [u64], p: Privileges)
+    requires { length words.old ≡ token_words }
+    ensures { words.new ≡ privileges_stored p words.old }
+{
     words[PRESENT] = p.present;
     words[ENABLED] = p.enabled;
     words[BY_DEFAULT] = p.by_default;
     words[USED] = p.used;
-    words[GROUP_COUNT] = group_count as u64;
-    words[ROOT] = identity.root;
 }
 
 // ---- changes in place
@@ -115,17 +94,14 @@ pub fn step_modified(words: &mut [u64])
     requires { length words.old ≡ token_words }
     ensures { Becomes next_modified words.old words.new }
 {
-    words[MODIFIED] = std::num::wrapping_add_u64(words[MODIFIED], 1);
+    words[MODIFIED] = words[MODIFIED].wrapping_add(1);
 }
 
 pub fn set_privileges(words: &mut [u64], p: Privileges)
     requires { length words.old ≡ token_words }
     ensures { Becomes (with_privileges (privileges_of p)) words.old words.new }
 {
-    words[PRESENT] = p.present;
-    words[ENABLED] = p.enabled;
-    words[BY_DEFAULT] = p.by_default;
-    words[USED] = p.used;
+    store_privileges(words, p);
 }
 
 pub fn set_scope(words: &mut [u64], scope: u32)
@@ -140,13 +116,4 @@ pub fn set_elevation(words: &mut [u64], elevation: u64)
     ensures { Becomes (with_elevation elevation) words.old words.new }
 {
     words[ELEVATION] = elevation;
-}
-
-// A free slot.
-pub fn clear(words: &mut [u64], bytes: &mut [u8])
-    requires { (length words.old ≡ token_words) × (length bytes.old ≡ max_dacl) }
-    ensures { (words.new ≡ slot_row free) × (bytes.new ≡ slot_dacl free) }
-{
-    slices::zero_words(TOKEN_WORDS, words);
-    slices::zero_bytes(MAX_DACL, bytes);
 }

@@ -1,40 +1,33 @@
 // A group and its word, SID + attributes * 2^32.
 ghost use Rattle.std.specs.Prelude.{◌≡◌};
-ghost use Rattle.rules.specs.Group.{is_enabled, is_owner};
-ghost use Rattle.rules.specs.Memory.{unpack};
-ghost use Rattle.token.specs.Row.{group_in, word_of};
+ghost use Rattle.rules.specs.Memory.{pack, unpack};
 
 use crate::Group;
-use privilege::words::has;
 use table::WORD_32;
 
-pub fn unpack(w: u64) -> Group
-    ensures { result ≡ group_in w }
-{
-    Group {
-        sid: (w % WORD_32) as u32,
-        attributes: (w / WORD_32) as u32,
+impl From<u64> for Group {
+    ghost use Rattle.token.specs.Meaning.{group_of};
+    ghost use Rattle.token.specs.Row.{group_in};
+
+    ghost from_gives = { λ w g. (g ≡ group_in w) × (group_of g ≡ unpack w) };
+
+    #[tactic(auto, unfolding(rules::specs::Memory::unpack))]
+    fn from(w: u64) -> Group {
+        Group {
+            sid: (w % WORD_32) as u32,
+            attributes: (w / WORD_32) as u32,
+        }
     }
 }
 
-pub fn pack(g: Group) -> u64
-    ensures { result ≡ word_of g }
-{
-    let sid = g.sid as u64;
-    let attributes = g.attributes as u64;
-    sid + attributes * WORD_32
-}
+impl From<Group> for u64 {
+    ghost use Rattle.token.specs.Meaning.{group_of};
+    ghost use Rattle.token.specs.Row.{word_of};
 
-// ENABLED, by the word.
-pub fn is_enabled(w: u64) -> bool
-    ensures { result ≡ is_enabled (unpack w) }
-{
-    has(w / WORD_32, 2)
-}
+    ghost from_gives = { λ g w. (w ≡ word_of g) × (w ≡ pack (group_of g)) };
 
-// OWNER, by the word.
-pub fn is_owner(w: u64) -> bool
-    ensures { result ≡ is_owner (unpack w) }
-{
-    has(w / WORD_32, 3)
+    #[tactic(auto, unfolding(rules::specs::Memory::pack))]
+    fn from(g: Group) -> u64 {
+        g.sid as u64 + g.attributes as u64 * WORD_32
+    }
 }

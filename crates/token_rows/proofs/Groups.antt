@@ -1,8 +1,10 @@
 -- The groups of a row, tested word by word. Assumes nothing.
-use Rattle.std.proofs.Common.{◌≡◌, ℕ, zero, suc, ◌+◌, ◌-◌, ◌*◌, ◌/◌, ◌%◌, ◌^◌, ◌<◌, ◌≤◌, Bool, true, false, not, ◌&&◌, ◌||◌, eqb, List, map, length, get_or, sym, refl, ap, ◌∙◌, ap₂, mod-lt, div-add-mod', sub-one, arith, le-ltb, lt-ltb}
+use Rattle.std.proofs.Common.{◌≡◌, ℕ, zero, suc, ◌+◌, ◌-◌, ◌*◌, ◌/◌, ◌%◌, ◌^◌, ◌<◌, ◌≤◌, Bool, true, false, not, ◌&&◌, ◌||◌, eqb, List, map, length, get_or, sym, refl, ap, ◌∙◌, ap₂, mod-lt, div-add-mod', sub-one, arith, le-ltb, lt-ltb, Bor}
 use native.Mathlib.Nat.{div-div-eq-div-mul}
 use lib.Bits.{bit_and, bit_or, or_comm, or_shr, and_block, and_high, and_mask, and_zero_r}
 use lib.ListN.{length-map, get_or-map}
+use Rattle.std.specs.Prelude.{Option, Some, None, MatchOption}
+use Rattle.std.specs.List.{HoldsAt}
 use Rattle.rules.specs.Basic.{all, implies, both_or_neither, word32}
 use Rattle.rules.specs.Bits.{has, within}
 use Rattle.rules.specs.Group.{no_group, is_enabled, is_owner, is_deny_only}
@@ -141,20 +143,19 @@ groups_tested s ea eb ec =
 
 -- ---- an owner index
 
-pub owner_user : (xs : List ℕ) (o : ℕ) → o ≡ 0 → true ≡ valid_owner (map unpack xs) o
+pub owner_user : (xs : List ℕ) (o : ℕ) → o ≡ 0 → eqb o 0 ≡ valid_owner (map unpack xs) o
 unfolding valid_owner
 owner_user xs zero e = refl
 owner_user xs (suc k) e = absurd (omega arith)
 
-pub owner_past : (xs : List ℕ) (o : ℕ) → length xs < o → false ≡ valid_owner (map unpack xs) o
-unfolding valid_owner
-owner_past xs zero h = absurd (omega arith)
-owner_past xs (suc k) h = sym (rw (le-ltb k (length (map unpack xs)) (omega (arith, length-map xs unpack))))
-
-pub owner_group : (xs : List ℕ) (o : ℕ) {b : Bool} → (o ≡ 0 → ⊥) → o ≤ length xs → b ≡ is_owner (unpack (get_or xs (o - 1) 0)) → b ≡ valid_owner (map unpack xs) o
+-- what stands at the index before it, if anything
+pub owner_group : (xs : List ℕ) (o : ℕ) (found : Option (Bor ℕ)) {b : Bool} → (o ≡ 0 → ⊥)
+    → MatchOption found (length xs ≤ o - 1) (λ x. (o - 1 < length xs) × HoldsAt (λ y. x.now ≡ y) xs (o - 1))
+    → MatchOption found (b ≡ false) (λ x. b ≡ is_owner (unpack x.now)) → b ≡ valid_owner (map unpack xs) o
 unfolding valid_owner unpack no_group
-owner_group xs zero e h eb = absurd (e refl)
-owner_group xs (suc k) e h eb =
+owner_group xs zero found e h eb = absurd (e refl)
+owner_group xs (suc k) None e h eb = eb ∙ sym (rw (le-ltb k (length (map unpack xs)) (omega (arith, length-map xs unpack))))
+owner_group xs (suc k) (Some x) e h eb =
     eb
-    ∙ ap (λ (j : ℕ). is_owner (unpack (get_or xs j 0))) (sub-one (suc k))
-    ∙ sym (ap₂ (λ a b. a && b) (lt-ltb k (length (map unpack xs)) (omega (arith, length-map xs unpack))) (ap is_owner (get_or-map unpack xs k 0)))
+    ∙ ap (λ (n : ℕ). is_owner (unpack n)) (h.1 0 ∙ ap (λ (j : ℕ). get_or xs j 0) (sub-one (suc k)))
+    ∙ sym (ap₂ (λ a b. a && b) (lt-ltb k (length (map unpack xs)) (omega (arith, length-map xs unpack, h.0))) (ap is_owner (get_or-map unpack xs k 0)))

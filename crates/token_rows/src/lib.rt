@@ -14,9 +14,8 @@ ghost use Rattle.token_rows.specs.Tests.{group_test, carried_to, head_test, Coun
 use lists::words::{narrow_words, zero_bytes, zero_words};
 use privilege::privileges::Privileges;
 use table::WORD_32;
-use token::Identity;
 use token::layout::*;
-use token::words::is_owner;
+use token::{Group, Identity};
 
 pub const PRIMARY: u64 = Identity::PRIMARY as u64;
 
@@ -38,7 +37,7 @@ const BOTH: u64 = 0x2000000000;
 fn carried(w: u64) -> u64
     ensures { result ≡ carried_to w }
 {
-    std::num::wrapping_add_u64(w & PAIRS, CARRY)
+    (w & PAIRS).wrapping_add(CARRY)
 }
 
 // No group has a bit of no attribute, LOGON_ID by half, or both ENABLED and DENY_ONLY.
@@ -47,11 +46,9 @@ fn groups_valid(s: &[u64]) -> bool
 {
     let mut any: u64 = 0;
     let mut carry: u64 = 0;
-    let mut i: usize = 0;
-    while i < s.len() {
-        any = any | s[i];
-        carry = carry | carried(s[i]);
-        i += 1;
+    for w in s {
+        any |= *w;
+        carry |= carried(*w);
     }
     let attributes = any / WORD_32;
     ((attributes & ATTRIBUTES) == attributes) & (carry / BY_HALF % 2 == 0) & (carry / BOTH % 2 == 0)
@@ -61,15 +58,10 @@ fn groups_valid(s: &[u64]) -> bool
 fn owner_valid(groups: &[u64], owner: u64) -> bool
     ensures { result ≡ valid_owner (map unpack groups.now) owner }
 {
-    let n = groups.len() as u64;
-    if owner == 0 {
-        return true;
-    }
-    if n < owner {
-        return false;
-    }
-    let k = (owner - 1) as usize;
-    is_owner(groups[k])
+    owner == 0
+        || groups
+            .get((owner - 1) as usize)
+            .is_some_and(|w| Group::from(*w).is_owner())
 }
 
 // The fields but the integrity, the owner, the primary group and the counts.
@@ -149,14 +141,11 @@ pub fn tokens_valid(tokens: &[u64], dacls: &[u8]) -> bool
     ensures { result ≡ test_rows token_test token_words max_dacl token_slots tokens.now dacls.now }
 {
     let mut ok = true;
-    let mut i: usize = 0;
-    while i < TOKEN_SLOTS {
-        let at = i * TOKEN_WORDS;
-        let end = at + TOKEN_WORDS;
-        let from = i * MAX_DACL;
-        let till = from + MAX_DACL;
-        ok = ok & token_valid(&tokens[at..end], &dacls[from..till]);
-        i += 1;
+    for (words, dacl) in tokens
+        .chunks_exact(TOKEN_WORDS)
+        .zip(dacls.chunks_exact(MAX_DACL))
+    {
+        ok &= token_valid(words, dacl);
     }
     ok
 }

@@ -35,13 +35,14 @@ module _ (s : List ℕ) {r : Framed} (f : FramedAs s (length s) r) where
   unfolding is_part
   is_part_lem e = as_framed what.Part e
 
-  pub is_broken_lem : r ≡ what.Broken → false ≡ is_part (framed s)
+  pub is_other : (r ≡ what.Part → ⊥) → false ≡ is_part (framed s)
   unfolding is_part
-  is_broken_lem e = as_framed what.Broken e
-
-  pub is_whole : (start : ℕ) → r ≡ what.Whole start → false ≡ is_part (framed s)
-  unfolding is_part
-  is_whole start e = as_framed (what.Whole start) e
+  is_other n = by r refl
+    where
+      by : (x : Framed) → r ≡ x → false ≡ is_part (framed s)
+      by what.Part e = absurd (n e)
+      by what.Broken e = as_framed what.Broken e
+      by (what.Whole start) e = as_framed (what.Whole start) e
 
 -- ---- the row
 

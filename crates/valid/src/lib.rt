@@ -59,12 +59,11 @@ pub fn valid(
 ) -> bool
     ensures { ValidTested count (records_in handles.now) tokens.now dacls.now control.now pending.now result }
 {
-    let t = tokens.len();
-    let d = dacls.len();
-    let c = control.len();
-    let p = pending.len();
-    if !is_sized(t, d, count, c, p) {
-        return false;
-    }
-    parts_valid(tokens, dacls, handles, control, pending)
+    is_sized(
+        tokens.len(),
+        dacls.len(),
+        count,
+        control.len(),
+        pending.len(),
+    ) && parts_valid(tokens, dacls, handles, control, pending)
 }

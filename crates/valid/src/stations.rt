@@ -16,11 +16,7 @@ use stream::{Framed, PENDING_BYTES, frame};
 fn is_part(s: &[u8]) -> bool
     ensures { result ≡ is_part (framed s.now) }
 {
-    match frame::framed(s, s.len()) {
-        Framed::Part => true,
-        Framed::Broken => false,
-        Framed::Whole { start: _ } => false,
-    }
+    matches!(frame::framed(s, s.len()), Framed::Part)
 }
 
 // Nothing pending, or a proper part of a frame and no break; zeros past it.
@@ -37,7 +33,7 @@ fn stream_valid(words: &[u64], bytes: &[u8]) -> bool
         return false;
     }
     let n = count as usize;
-    (broken == 0) & is_part(&bytes[0..n]) & zero_bytes(&bytes[n..PENDING_BYTES])
+    (broken == 0) & is_part(&bytes[..n]) & zero_bytes(&bytes[n..])
 }
 
 // A level is in force only where the station acts for a token.
@@ -68,12 +64,8 @@ fn all_idle(rows: &[u64]) -> bool
     ensures { result ≡ all_idle rows.now }
 {
     let mut ok = true;
-    let mut i: usize = 0;
-    while i < STATIONS {
-        let at = i * STATION_WORDS;
-        let end = at + STATION_WORDS;
-        ok = ok & is_idle(&rows[at..end]);
-        i += 1;
+    for row in rows.chunks_exact(STATION_WORDS) {
+        ok &= is_idle(row);
     }
     ok
 }
@@ -83,14 +75,11 @@ fn rows_valid(rows: &[u64], pending: &[u8]) -> bool
     ensures { result ≡ test_rows station_test station_words pending_bytes station_count rows.now pending.now }
 {
     let mut ok = true;
-    let mut i: usize = 0;
-    while i < STATIONS {
-        let at = i * STATION_WORDS;
-        let end = at + STATION_WORDS;
-        let from = i * PENDING_BYTES;
-        let till = from + PENDING_BYTES;
-        ok = ok & station_valid(&rows[at..end], &pending[from..till]);
-        i += 1;
+    for (row, bytes) in rows
+        .chunks_exact(STATION_WORDS)
+        .zip(pending.chunks_exact(PENDING_BYTES))
+    {
+        ok &= station_valid(row, bytes);
     }
     ok
 }

@@ -1,10 +1,13 @@
 -- A law for each end. Assumes nothing.
-use borrow.Author.Rules.{rules}
+use mathlib.Core.Path.{refl}
+use Rattle.std.proofs.lemmas.Result.{err_from_is_err_and}
 use Rattle.adjust_groups.proofs.GroupsEnding.{row_refused, row_switched}
 use Rattle.adjust_groups.proofs.adjust_row.Goals as goal
 
-pub returns-then-x-ne0 : goal.returns-then-x-ne0
-returns-then-x-ne0 c = search (rules, row_refused)
+pub returns-in_err-previous : goal.returns-in_err-previous
+returns-in_err-previous c =
+    let p = err_from_is_err_and c.from_residual.result c.from_residual.ensures.1 in
+    rw (p.1, p.2) (row_refused c.args.words.now c.identity_in-identity.ensures c.count_in-end.ensures c.in_err-previous.ensures refl)
 
 pub returns : goal.returns
-returns c = search (rules, row_switched)
+returns c = row_switched c.args.words.now c.identity_in-identity.ensures c.count_in-end.ensures c.in_ok-previous.ensures refl c.step_modified.ensures

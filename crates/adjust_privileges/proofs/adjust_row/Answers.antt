@@ -1,10 +1,9 @@
 -- The four words and the modified number, or nothing. Assumes nothing.
-use borrow.Author.Rules.{rules}
 use Rattle.adjust_privileges.proofs.PrivilegesEnding.{bad_entry, adjusts}
 use Rattle.adjust_privileges.proofs.adjust_row.Goals as goal
 
-pub returns-then-not-adjusted : goal.returns-then-not-adjusted
-returns-then-not-adjusted c = search (rules, bad_entry)
+pub returns-in_default : goal.returns-in_default
+returns-in_default c = bad_entry _ c.privileges_in-before.ensures c.in_default.ensures
 
 pub returns : goal.returns
-returns c = search (rules, adjusts)
+returns c = adjusts _ c.privileges_in-before.ensures _ c.in-Some.ensures c.set_privileges.ensures c.step_modified.ensures

@@ -2,17 +2,8 @@
 use borrow.Author.Rules.{rules}
 use Rattle.rules.specs.Query.{words, classes, class_bytes}
 use Rattle.rules.specs.Memory.{identity_at, privileges_at, token_at}
-use Rattle.answer.proofs.Classes.{known_low, known_high}
-use Rattle.answer.proofs.Answers.{class_fits_in, class_wrote, dacl_fits_in, dacl_wrote, one_wrote, none_wrote}
+use Rattle.answer.proofs.Answers.{same_room, same_wrote, class_fits_in, class_wrote, one_wrote}
 use Rattle.answer.proofs.put_class.Goals as goal
-
-pub put-requires : goal.put-requires
-unfolding class_bytes classes token_at identity_at privileges_at words
-put-requires c = search rules
-
-pub returns-then-not-known : goal.returns-then-not-known
-unfolding class_bytes classes token_at identity_at privileges_at words
-returns-then-not-known c = search (rules, none_wrote)
 
 pub put_groups-requires : goal.put_groups-requires
 unfolding class_bytes classes token_at identity_at privileges_at words
@@ -22,46 +13,29 @@ pub put_privileges-requires : goal.put_privileges-requires
 unfolding class_bytes classes token_at identity_at privileges_at words
 put_privileges-requires c = search (rules, class_fits_in)
 
-pub put_dacl-requires : goal.put_dacl-requires
+pub put_all-requires : goal.put_all-requires
 unfolding class_bytes classes token_at identity_at privileges_at words
-put_dacl-requires c = search (rules, dacl_fits_in)
-
-pub put_statistics-requires : goal.put_statistics-requires
-unfolding class_bytes classes token_at identity_at privileges_at words
-put_statistics-requires c = search (rules, class_fits_in)
+put_all-requires c = search (rules, same_room, class_fits_in)
 
 pub put_sids-requires : goal.put_sids-requires
 unfolding class_bytes classes token_at identity_at privileges_at words
 put_sids-requires c = search (rules, class_fits_in)
 
-pub one-requires : goal.one-requires
+pub returns-in-Groups : goal.returns-in-Groups
 unfolding class_bytes classes token_at identity_at privileges_at words
-one-requires c = search (rules, known_low, known_high)
+returns-in-Groups c = search (rules, class_wrote)
 
-pub put-requires-in_default : goal.put-requires-in_default
+pub returns-in-Privileges : goal.returns-in-Privileges
 unfolding class_bytes classes token_at identity_at privileges_at words
-put-requires-in_default c = search rules
+returns-in-Privileges c = search (rules, class_wrote)
 
-pub returns-in-2 : goal.returns-in-2
+pub returns-in-Statistics : goal.returns-in-Statistics
 unfolding class_bytes classes token_at identity_at privileges_at words
-returns-in-2 c = search (rules, class_wrote)
+returns-in-Statistics c = search (rules, class_wrote, same_wrote _ _ _ c.statistics.ensures c.put_all.ensures)
 
-pub returns-in-3 : goal.returns-in-3
+pub returns-in-Restricting : goal.returns-in-Restricting
 unfolding class_bytes classes token_at identity_at privileges_at words
-returns-in-3 c = search (rules, class_wrote)
+returns-in-Restricting c = search (rules, class_wrote)
 
-pub returns-in-6 : goal.returns-in-6
-unfolding class_bytes classes token_at identity_at privileges_at words
-returns-in-6 c = search (rules, dacl_wrote)
-
-pub returns-in-9 : goal.returns-in-9
-unfolding class_bytes classes token_at identity_at privileges_at words
-returns-in-9 c = search (rules, class_wrote)
-
-pub returns-in-10 : goal.returns-in-10
-unfolding class_bytes classes token_at identity_at privileges_at words
-returns-in-10 c = search (rules, class_wrote)
-
-pub returns-in_default : goal.returns-in_default
-unfolding class_bytes classes token_at identity_at privileges_at words
-returns-in_default c = search (rules, one_wrote)
+pub returns-in-Single : goal.returns-in-Single
+returns-in-Single c = search (rules, one_wrote)

@@ -5,7 +5,7 @@ use Rattle.answer.proofs.Answers.{class_room}
 use Rattle.answer.proofs.put_class_at.Goals as goal
 
 pub put_class-requires : goal.put_class-requires
-put_class-requires c = let a = c.args in search (rules, class_room a.tokens.now a.dacls.now a.out.now a.slot a.class (λ i. (c.shared_slice_known-1.given i).fits))
+put_class-requires c = search (rules, class_room)
 
 pub returns : goal.returns
 returns c = search (rules, ← part_at)

@@ -1,7 +1,7 @@
 -- After i turns the first i groups are stored. Assumes nothing.
 use borrow.Author.Rules.{rules}
-use Rattle.answer.proofs.ClassLists.{no_pair_in, pair_in, pairs_in_lem}
-use Rattle.answer.proofs.Answers.{start_room, start_wrote}
+use Rattle.answer.proofs.ClassLists.{no_pair_in, pair_in, few_pairs, pairs_stored}
+use Rattle.answer.proofs.Answers.{same_room, same_wrote}
 use Rattle.answer.proofs.put_groups.Goals as goal
 
 pub loop-i-init : goal.loop-i-init
@@ -11,7 +11,7 @@ pub loop-i-preserved : goal.loop-i-preserved
 loop-i-preserved c = search (rules, pair_in)
 
 pub put_all-requires : goal.put_all-requires
-put_all-requires c = search (rules, start_room, pairs_in_lem)
+put_all-requires c = search (rules, same_room, few_pairs, pairs_stored)
 
 pub returns : goal.returns
-returns c = search (rules, start_wrote, pairs_in_lem)
+returns c = search (rules, same_wrote, pairs_stored)

@@ -1,35 +1,26 @@
 -- By the tests of 11, 12 and 13. At the last, the chunk's bytes are known to be bytes since the start. Assumes nothing.
 use Rattle.std.proofs.Common.{ap, not}
+use mathlib.Core.Path.{sym}
 use Rattle.start.proofs.Parts.{tested_valid, tested_lent}
 use Rattle.calls.proofs.Feeding.{feed_no_station, feed_short, feed_invalid, feeds_with}
 use Rattle.calls.proofs.feed.Goals as goal
 
-pub returns-then-station-ge-STATIONS : goal.returns-then-station-ge-STATIONS
-returns-then-station-ge-STATIONS c = feed_no_station _ _ _ _ _ _ _ _ _ c.if-station-ge-STATIONS.true c.unanswered.ensures
+pub returns-in_default : goal.returns-in_default
+returns-in_default c = feed_no_station _ _ _ _ _ _ _ _ _ c.in_default.ensures
 
 pub returns-then-out-lt-MAX_ANSWER : goal.returns-then-out-lt-MAX_ANSWER
-returns-then-out-lt-MAX_ANSWER c = feed_short _ _ _ _ _ _ _ _ _ c.if-station-ge-STATIONS.false c.if-out-lt-MAX_ANSWER.true c.unanswered-then-out-lt-MAX_ANSWER.ensures
+returns-then-out-lt-MAX_ANSWER c = feed_short _ _ _ _ _ _ _ _ _ c.in-Some.ensures.1 c.if-out-lt-MAX_ANSWER.true
 
 pub returns-then-not-valid : goal.returns-then-not-valid
-returns-then-not-valid c = feed_invalid _ _ _ _ _ _ _ _ _ c.if-station-ge-STATIONS.false c.if-out-lt-MAX_ANSWER.false _ c.valid.ensures (ap not c.if-not-valid.true) c.unanswered-then-not-valid.ensures
+returns-then-not-valid c = feed_invalid _ _ _ _ _ _ _ _ _ c.in-Some.ensures.1 c.if-out-lt-MAX_ANSWER.false _ c.valid.ensures (ap not c.if-not-valid.true)
 
-pub accept-requires : goal.accept-requires
-accept-requires c = let v = c.valid.ensures in (tested_lent v (ap not c.if-not-valid.false), tested_valid v (ap not c.if-not-valid.false), c.if-station-ge-STATIONS.false, c.if-out-lt-MAX_ANSWER.false)
+pub invariant_of-parts : goal.invariant_of-parts
+invariant_of-parts c = let l = tested_lent c.valid.ensures (ap not c.if-not-valid.false) in record { tokens_long = l.tokens; dacls_long = l.dacls; control_long = l.control }
 
-pub shape_of-out : goal.shape_of-out
-shape_of-out c = c.out-1.given
-
-pub shape_of-tokens : goal.shape_of-tokens
-shape_of-tokens c = c.tokens-1.given
-
-pub shape_of-dacls : goal.shape_of-dacls
-shape_of-dacls c = c.dacls-1.given
-
-pub shape_of-control : goal.shape_of-control
-shape_of-control c = c.control-1.given
-
-pub shape_of-pending : goal.shape_of-pending
-shape_of-pending c = c.pending-1.given
+pub accept-turn-requires : goal.accept-turn-requires
+accept-turn-requires c = let v = c.valid.ensures in (tested_valid v (ap not c.if-not-valid.false), (tested_lent v (ap not c.if-not-valid.false)).pending, c.if-out-lt-MAX_ANSWER.false)
 
 pub returns : goal.returns
-returns c = feeds_with _ _ _ _ _ _ _ _ _ c.if-station-ge-STATIONS.false c.if-out-lt-MAX_ANSWER.false _ c.valid.ensures c.shared_slice_known-1.given (ap not c.if-not-valid.false) c.accept.ensures
+returns c =
+    let n = c.accept-turn.ensures.same in
+    rw (c.tokens-1.given.1.1 (sym n.1), c.dacls-1.given.1.1 (sym n.2), c.control-1.given.1.1 (sym n.3)) (feeds_with _ _ _ _ _ _ _ _ _ c.in-Some.ensures.1 c.if-out-lt-MAX_ANSWER.false _ c.valid.ensures c.type_inv.chunk (ap not c.if-not-valid.false) (rw c.in-Some.ensures.0 at c.accept-turn.ensures.accepted))

@@ -1,43 +1,13 @@
--- A condition's kinds one by one, and a list's loop. Assumes nothing.
-use Rattle.std.proofs.Common.{rules}
-use Rattle.condition.proofs.Telling.{none_deep, no_kind, negation, no_number_lem, every, some, one_privilege, one_group, no_such_kind, list_begins, list_bad, list_goes_on, list_ends}
+-- The two kinds that name something, and the step of the loop; the others by the laws of Telling. Assumes nothing.
+use Rattle.std.proofs.Common.{rules, arith}
+use Rattle.condition.proofs.Telling.{one_privilege, one_group, list_goes_on}
 use Rattle.condition.proofs.+condition_conditions.Goals as goal
 
-pub condition-returns-then-depth-eq0 : goal.condition-returns-then-depth-eq0
-condition-returns-then-depth-eq0 t c = search (rules, none_deep)
+pub condition-returns-in_ok-n-in-4 : goal.condition-returns-in_ok-n-in-4
+condition-returns-in_ok-n-in-4 t c = one_privilege c.args.token.now _ _ _ c.if-depth-eq0.false _ _ c.in_ok-number.ensures.means _ _ c.in_ok-n-in-4.ensures.means (search rules) _ _ (search rules) (search rules)
 
-pub condition-returns-in_default : goal.condition-returns-in_default
-condition-returns-in_default t c = search (rules, no_kind)
+pub condition-returns-in_ok-sid-in-5 : goal.condition-returns-in_ok-sid-in-5
+condition-returns-in_ok-sid-in-5 t c = one_group c.args.token.now _ _ _ c.if-depth-eq0.false _ _ c.in_ok-number.ensures.means _ _ c.in_ok-sid-in-5.ensures.means (search rules) _ (search rules)
 
-pub condition-returns-then-kind-eq3 : goal.condition-returns-then-kind-eq3
-condition-returns-then-kind-eq3 t c = search (rules, negation)
-
-pub condition-returns-in_default-number_at : goal.condition-returns-in_default-number_at
-condition-returns-in_default-number_at t c = search (rules, no_number_lem)
-
-pub condition-returns-then-kind-eq1 : goal.condition-returns-then-kind-eq1
-condition-returns-then-kind-eq1 t c = search (rules, every)
-
-pub condition-returns-then-kind-eq2 : goal.condition-returns-then-kind-eq2
-condition-returns-then-kind-eq2 t c = search (rules, some)
-
-pub condition-returns-then-kind-eq4 : goal.condition-returns-then-kind-eq4
-condition-returns-then-kind-eq4 t c = search (rules, one_privilege)
-
-pub condition-returns-then-kind-eq5 : goal.condition-returns-then-kind-eq5
-condition-returns-then-kind-eq5 t c = search (rules, one_group)
-
-pub condition-returns : goal.condition-returns
-condition-returns t c = search (rules, no_such_kind)
-
-pub conditions-loop-left-init : goal.conditions-loop-left-init
-conditions-loop-left-init t c = search (rules, list_begins)
-
-pub conditions-returns-in-Bad : goal.conditions-returns-in-Bad
-conditions-returns-in-Bad t c = search (rules, list_bad)
-
-pub conditions-loop-left-preserved : goal.conditions-loop-left-preserved
-conditions-loop-left-preserved t c = search (rules, list_goes_on)
-
-pub conditions-returns : goal.conditions-returns
-conditions-returns t c = search (rules, list_ends)
+pub conditions-loop-preserved : goal.conditions-loop-preserved
+conditions-loop-preserved t c = list_goes_on _ _ _ _ _ _ _ _ _ c.loop.invariant (omega arith) _ _ _ c.in_ok-next.ensures _ c.joined-value.ensures

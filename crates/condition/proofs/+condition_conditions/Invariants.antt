@@ -1,8 +1,8 @@
 -- A condition calls conditions one less deep, and those call one as deep as themselves: the measures are twice the depth left, and one more
--- for a list; of the list's loop, the conditions left. Assumes nothing.
-use Rattle.std.proofs.Common.{◌≡◌, drop, ◌+◌, ◌*◌}
-use Rattle.rules.specs.Request as layout
-use Rattle.condition.specs.Told.{tell, list_outcome, asked}
+-- for a list. Assumes nothing.
+use Rattle.std.proofs.Common.{◌≡◌, ◌+◌, ◌-◌, ◌*◌}
+use Rattle.number.specs.Reader.{rest_of}
+use Rattle.condition.specs.Told.{asked, tell, list_outcome, counted}
 use Rattle.condition.proofs.Telling.{Rest}
 use Rattle.condition.proofs.+condition_conditions.Given as goal
 
@@ -12,11 +12,8 @@ decreases-condition l = 2 * l.depth
 abbrev pub decreases-conditions : goal.decreases-conditions
 decreases-conditions l = 2 * l.depth + 1
 
--- what the conditions left come to, with what is known so far, is what all of them come to
-abbrev pub invariant-conditions-loop-left : goal.invariant-conditions-loop-left
-invariant-conditions-loop-left l =
-    Rest l.s l.at l.depth l.left l.all l.enabled l.groups l.value l.known
-    ≡ tell (list_outcome l.all (asked l.enabled l.groups)) (layout.conditions l.count (layout.condition l.depth) (drop l.from l.s))
-
-abbrev pub decreases-conditions-loop-left : goal.decreases-conditions-loop-left
-decreases-conditions-loop-left l = l.left
+-- what the conditions left come to, with what is told so far, is what all of them come to
+abbrev pub invariant-conditions-loop : goal.invariant-conditions-loop
+invariant-conditions-loop l =
+    Rest l.all (asked l.token) l.depth (l.count - l.counter) (rest_of l.r.rest) (record { value = l.value; known = l.r.known })
+    ≡ tell l.fn.r.known (list_outcome l.all (asked l.token)) (counted l.depth (rest_of l.fn.r.rest))

@@ -1,13 +1,8 @@
--- From the last group to the first. Assumes nothing.
-use borrow.Author.Rules.{rules}
-use Rattle.condition.proofs.Groups.{group_none, group_more, group_all}
+-- By the words. Assumes nothing.
+use Rattle.std.proofs.Common.{arith}
+use Rattle.std.proofs.lemmas.Grind.{common_steps}
+use Rattle.condition.proofs.Groups.{some_word}
 use Rattle.condition.proofs.has_group.Goals as goal
 
-pub loop-i-init : goal.loop-i-init
-loop-i-init c = search (rules, group_none)
-
-pub loop-i-preserved : goal.loop-i-preserved
-loop-i-preserved c = search (rules, group_more)
-
 pub returns : goal.returns
-returns c = search (rules, group_all)
+returns c = some_word c.args.sid c.args.groups.now (grind (arith, common_steps))

@@ -1,21 +1,16 @@
 -- A law for each end. Assumes nothing.
-use Rattle.std.proofs.Common.{ap, not}
 use borrow.Author.Rules.{rules}
-use Rattle.decide.proofs.Issuing.{numbers_left}
-use Rattle.create.proofs.CreateEnding.{create_not_held, create_refused, create_no_room, creates}
+use Rattle.std.proofs.lemmas.Result.{err_from_is_err_and}
+use Rattle.create.proofs.CreateEnding.{create_not_held, create_refused, creates}
 use Rattle.create.proofs.create.Goals as goal
 
-pub returns-then-not-held : goal.returns-then-not-held
-returns-then-not-held c = search (rules, create_not_held)
+pub returns-then-not-held-clause-carried : goal.returns-then-not-held-clause-carried
+returns-then-not-held-clause-carried c = create_not_held _ _ _ c.held.ensures (search rules)
 
-pub returns-then-not-make : goal.returns-then-not-make
-returns-then-not-make c = search (rules, create_refused)
+pub returns-in_err-make-clause-carried : goal.returns-in_err-make-clause-carried
+returns-in_err-make-clause-carried c =
+    let p = err_from_is_err_and c.from_residual.result c.from_residual.ensures.1 in
+    rw (p.1, p.2) (create_refused _ _ _ c.held.ensures (search rules) c.known_sids-known.ensures c.in_err-make.ensures)
 
-pub returns-then-not-can_issue : goal.returns-then-not-can_issue
-returns-then-not-can_issue c = search (rules, create_no_room)
-
-pub issue_created-requires : goal.issue_created-requires
-issue_created-requires c = (search rules, search rules, search rules, numbers_left c.can_issue.ensures (ap not c.if-not-can_issue.false))
-
-pub returns : goal.returns
-returns c = creates _ _ _ _ _ _ _ _ _ c.held.ensures (ap not c.if-not-held.false) c.known_sids-known.ensures c.make.ensures (ap not c.if-not-make.false) c.can_issue.ensures (ap not c.if-not-can_issue.false) c.next-n.ensures c.issue_created.ensures
+pub returns-clause-carried : goal.returns-clause-carried
+returns-clause-carried c = creates _ _ _ c.held.ensures (search rules) c.known_sids-known.ensures c.in_ok-make.ensures c.next-n.ensures c.issue_created.ensures.created

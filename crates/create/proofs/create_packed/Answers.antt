@@ -1,29 +1,24 @@
 -- A law for each end. Assumes nothing.
-use Rattle.std.proofs.Common.{ap, not}
 use borrow.Author.Rules.{rules}
-use Rattle.create.proofs.PackedEnding.{table_sound, user_packed, packed_left, packed_not_held, packed_broken, packed_refused, packed_no_room, packed_creates}
+use Rattle.std.proofs.lemmas.Result.{err_from_is_err_and}
+use Rattle.create.proofs.PackedEnding.{packed_not_held, packed_broken, packed_refused, packed_no_room, packed_creates}
 use Rattle.create.proofs.create_packed.Goals as goal
 
-pub returns-then-not-held : goal.returns-then-not-held
-returns-then-not-held c = search (rules, packed_not_held)
+pub returns-then-not-held-clause-carried : goal.returns-then-not-held-clause-carried
+returns-then-not-held-clause-carried c = packed_not_held _ _ _ c.held.ensures (search rules)
 
-pub returns-then-not-is_packed-table_valid : goal.returns-then-not-is_packed-table_valid
-returns-then-not-is_packed-table_valid c = search (rules, packed_broken)
+pub returns-then-not-is_packed-table_valid-clause-carried : goal.returns-then-not-is_packed-table_valid-clause-carried
+returns-then-not-is_packed-table_valid-clause-carried c = packed_broken _ _ _ c.held.ensures c.table_of-table.ensures c.is_packed.ensures c.table_valid.ensures (search rules)
 
-pub make_packed-made-requires : goal.make_packed-made-requires
-make_packed-made-requires c = (search rules, table_sound _ _ _ _ c.is_packed.ensures c.table_valid.ensures (ap not c.if-not-is_packed-table_valid.false), user_packed _ _ _ _ c.is_packed.ensures c.table_valid.ensures (ap not c.if-not-is_packed-table_valid.false))
+pub returns-in_err-make_packed-clause-carried : goal.returns-in_err-make_packed-clause-carried
+returns-in_err-make_packed-clause-carried c =
+    let p = err_from_is_err_and c.from_residual.result c.from_residual.ensures.1 in
+    rw (p.1, p.2) (packed_refused _ _ _ c.held.ensures (search rules) c.table_of-table.ensures c.in_err-make_packed.ensures)
 
-pub returns-then-not-made : goal.returns-then-not-made
-returns-then-not-made c = search (rules, packed_refused)
+pub returns-in_err-end-clause-carried : goal.returns-in_err-end-clause-carried
+returns-in_err-end-clause-carried c =
+    let p = err_from_is_err_and c.from_residual-in_err-end.result c.from_residual-in_err-end.ensures.1 in
+    rw (p.1, p.2) (packed_no_room _ _ _ c.held.ensures (search rules) c.table_of-table.ensures c.in_ok-make_packed.ensures c.in_err-end.ensures.created)
 
-pub returns-then-not-made-can_issue : goal.returns-then-not-made-can_issue
-returns-then-not-made-can_issue c = packed_no_room _ _ _ _ _ _ _ _ _ c.held.ensures (ap not c.if-not-held.false) c.copied-table.ensures c.make_packed-made.ensures c.if-not-made.false c.can_issue.ensures (ap not c.if-not-made-can_issue.true) c.refused-then-not-made-can_issue.ensures
-
-pub issue_created-end-requires : goal.issue_created-end-requires
-issue_created-end-requires c = (c.requires.0, c.requires.1, search rules, packed_left c.make_packed-made.result.room c.can_issue.ensures (ap not c.if-not-made-can_issue.false))
-
-pub set-requires : goal.set-requires
-set-requires c = (search rules, search (rules, c.requires.0.control))
-
-pub returns : goal.returns
-returns c = packed_creates _ _ _ _ _ _ _ _ _ c.held.ensures (ap not c.if-not-held.false) c.copied-table.ensures c.make_packed-made.ensures c.if-not-made.false c.can_issue.ensures (ap not c.if-not-made-can_issue.false) c.next-n.ensures c.issue_created-end.ensures c.set.ensures
+pub returns-clause-carried : goal.returns-clause-carried
+returns-clause-carried c = packed_creates _ _ _ c.held.ensures (search rules) c.table_of-table.ensures c.in_ok-make_packed.ensures c.next-n.ensures c.in_ok-end.ensures.created c.set.ensures

@@ -1,18 +1,12 @@
--- handle::free_slot meets its contract: its loop seeks the first free slot. Assumes nothing.
+-- handle::free_slot meets its contract: what it looks for, slot by slot. Assumes nothing.
 use borrow.Author.Rules.{rules}
-use Rattle.handle.proofs.Rest.{seek_more, seek_here, seek_end}
+use Rattle.handle.proofs.Rest.{first_index}
 use Rattle.handle.proofs.Slots.{first_free}
 use Rattle.handle.proofs.Words.{records_long}
+use Rattle.handle.specs.Meaning.{none}
+use Rattle.rules.specs.State.{handle_slots}
+use Rattle.handle.specs.Words.{records_in}
 use Rattle.handle.proofs.free_slot.Goals as goal
 
-pub loop-i-init : goal.loop-i-init
-loop-i-init c = search (rules, first_free, records_long)
-
-pub returns-then-is_free : goal.returns-then-is_free
-returns-then-is_free c = search (rules, seek_here)
-
-pub loop-i-preserved : goal.loop-i-preserved
-loop-i-preserved c = search (rules, seek_more)
-
-pub returns : goal.returns
-returns c = search (rules, seek_end)
+pub returns-clause-index : goal.returns-clause-index
+returns-clause-index c = first_index first_free none (records_in c.args.words.now) (records_long handle_slots c.args.words.now) (λ k b l h. search rules) c.position.ensures

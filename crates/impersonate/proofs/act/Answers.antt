@@ -3,5 +3,5 @@ use borrow.Author.Rules.{rules}
 use Rattle.impersonate.proofs.ImpersonateLaws.{acted}
 use Rattle.impersonate.proofs.act.Goals as goal
 
-pub returns : goal.returns
-returns c = search (rules, acted)
+pub returns-clause-acted : goal.returns-clause-acted
+returns-clause-acted c = search (rules, acted)

@@ -2,5 +2,5 @@
 use Rattle.impersonate.proofs.ImpersonateLaws.{reverted}
 use Rattle.impersonate.proofs.revert.Goals as goal
 
-pub returns : goal.returns
-returns c = reverted c.client_of-before.ensures c.act_for.ensures _ c.ends.ensures
+pub returns-clause-carried : goal.returns-clause-carried
+returns-clause-carried c = rw c.ends.ensures (reverted c.client_of-before.ensures c.act_for.ensures.acts)

@@ -1,16 +1,20 @@
 -- By the handle, the checks and the effect. Assumes nothing.
-use borrow.Author.Rules.{rules}
-use Rattle.decide.proofs.LookupLaws.{looks_up}
+use native.Mathlib.Omega.{arith}
+use mathlib.Core.Path.{◌≡◌}
+use Rattle.std.specs.Prelude.{Err}
+use Rattle.std.proofs.lemmas.Grind.{common_steps}
 use Rattle.install.proofs.InstallLaws.{no_handle_lem, not_allowed, installed}
 use Rattle.install.proofs.install.Goals as goal
 
-pub returns-then-refused-ne0 : goal.returns-then-refused-ne0
-returns-then-refused-ne0 c = no_handle_lem (looks_up _ c.find_handle-found.ensures c.mask_of.ensures c.may_assign_primary.ensures c.handle_refusal-refused.ensures) (search rules) _ (search rules)
+pub returns-in_err-token-clause-carried : goal.returns-in_err-token-clause-carried
+returns-in_err-token-clause-carried c =
+    let e : c.from_residual.result ≡ Err c.in_err-token.field-0.0 = grind (arith, common_steps) in
+    rw e (no_handle_lem c.in_err-token.ensures)
 
-pub returns-then-refusal-ne0 : goal.returns-then-refusal-ne0
-returns-then-refusal-ne0 c = search (rules, not_allowed, looks_up _ c.find_handle-found.ensures c.mask_of.ensures c.may_assign_primary.ensures c.handle_refusal-refused.ensures)
+pub returns-in_err-check-clause-carried : goal.returns-in_err-check-clause-carried
+returns-in_err-check-clause-carried c =
+    let e : c.from_residual-in_err-check.result ≡ Err c.in_err-check.field-0.0 = grind (arith, common_steps) in
+    rw e (not_allowed c.in_ok-token.ensures c.matching-same.ensures c.in_err-check.ensures)
 
-pub returns : goal.returns
-returns c =
-    installed (looks_up _ c.find_handle-found.ensures c.mask_of.ensures c.may_assign_primary.ensures c.handle_refusal-refused.ensures) c.if-refused-ne0.false c.matching-same.ensures c.refusal_of-refusal.ensures
-    c.if-refusal-ne0.false c.place.ensures _ c.ends.ensures
+pub returns-clause-carried : goal.returns-clause-carried
+returns-clause-carried c = rw c.ends.ensures (installed c.in_ok-token.ensures c.matching-same.ensures c.in_ok-check.ensures c.place.ensures.placed)

@@ -3,8 +3,8 @@ use borrow.Author.Rules.{rules}
 use Rattle.install.proofs.InstallLaws.{marks_one, marks_both}
 use Rattle.install.proofs.mark.Goals as goal
 
-pub returns-then-not-same : goal.returns-then-not-same
-returns-then-not-same c = search (rules, marks_both)
+pub returns-then-not-same-clause-marked : goal.returns-then-not-same-clause-marked
+returns-then-not-same-clause-marked c = search (rules, marks_both)
 
-pub returns-else-not-same : goal.returns-else-not-same
-returns-else-not-same c = search (rules, marks_one)
+pub returns-else-not-same-clause-marked : goal.returns-else-not-same-clause-marked
+returns-else-not-same-clause-marked c = search (rules, marks_one)

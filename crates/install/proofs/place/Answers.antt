@@ -3,5 +3,5 @@ use borrow.Author.Rules.{rules}
 use Rattle.install.proofs.InstallLaws.{placed}
 use Rattle.install.proofs.place.Goals as goal
 
-pub returns : goal.returns
-returns c = search (rules, placed)
+pub returns-clause-placed : goal.returns-clause-placed
+returns-clause-placed c = search (rules, placed)

@@ -1,10 +1,7 @@
--- listed::last_of meets its contract: by the branch. Assumes nothing.
+-- listed::last_of meets its contract: the lesser of both. Assumes nothing.
 use borrow.Author.Rules.{rules}
-use Rattle.listed.proofs.Listed.{last_low, last_high}
+use Rattle.listed.proofs.Listed.{last_least}
 use Rattle.listed.proofs.last_of.Goals as goal
 
-pub returns-then-count-le-WORD_32 : goal.returns-then-count-le-WORD_32
-returns-then-count-le-WORD_32 c = search (rules, last_low)
-
-pub returns-else-count-le-WORD_32 : goal.returns-else-count-le-WORD_32
-returns-else-count-le-WORD_32 c = search (rules, last_high)
+pub returns : goal.returns
+returns c = search (rules, last_least)

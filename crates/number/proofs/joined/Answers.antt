@@ -6,7 +6,7 @@ use lib.Dec.{eqb, ltb}
 use borrow.Author.Rules.{rules}
 use borrow.Author.Tests.{ltb-false}
 use Rattle.rules.specs.Number.{longer}
-use Rattle.number.specs.declared.Number.TheVariants as number
+use Rattle.std.specs.Prelude.{Some, None}
 use Rattle.number.specs.Meaning.{Joined}
 use Rattle.number.proofs.joined.Goals as goal
 
@@ -15,11 +15,11 @@ neither true y h = cc
 neither false y h = h
 
 module _ (b n next limit : ℕ) where
-  refused : (eqb n 0 || ltb limit (b - 128 + 128 * n)) ≡ true → Joined b n next limit number.Bad
+  refused : (eqb n 0 || ltb limit (b - 128 + 128 * n)) ≡ true → Joined b n next limit None
   unfolding longer
   refused t = record { means = λ s. rw t; bounds = λ h k. tt }
 
-  taken : (eqb n 0 || ltb limit (b - 128 + 128 * n)) ≡ false → Joined b n next limit (number.Value (b - 128 + 128 * n) next)
+  taken : (eqb n 0 || ltb limit (b - 128 + 128 * n)) ≡ false → Joined b n next limit (Some (record { value = b - 128 + 128 * n; next = next }))
   unfolding longer
   taken t = record {
     means = λ s. rw t;

@@ -1,17 +1,16 @@
 -- `read` meets its contract. Assumes nothing.
-use native.Mathlib.Omega.{arith}
 use borrow.Author.Rules.{rules}
 use Rattle.number.proofs.Reading.{read_none, read_large, read_one, read_longer}
 use Rattle.number.proofs.read.Goals as goal
 
-pub returns-then-s-at : goal.returns-then-s-at
-returns-then-s-at c = read_none _ _ _ (omega arith)
+pub returns-in_err-get : goal.returns-in_err-get
+returns-in_err-get c = search (rules, read_none)
 
-pub returns-then-limit-b : goal.returns-then-limit-b
-returns-then-limit-b c = read_large _ _ _ _ (omega arith) c.wide-b.ensures.0 (omega arith) (omega arith)
+pub returns-then-limit-value : goal.returns-then-limit-value
+returns-then-limit-value c = search (rules, read_large)
 
-pub returns-then-b-lt128 : goal.returns-then-b-lt128
-returns-then-b-lt128 c = read_one _ _ _ _ (omega arith) (search rules) (omega arith) (omega arith)
+pub returns-then-value-lt128 : goal.returns-then-value-lt128
+returns-then-value-lt128 c = search (rules, read_one)
 
 pub returns : goal.returns
 returns c = search (rules, read_longer)

@@ -1,43 +1,38 @@
 -- `skip` meets its contract. Assumes nothing.
-use Prim.Native.Nat.{ℕ, ◌-◌, ◌≤◌, ◌<◌, max}
+use Prim.Native.Nat.{ℕ, ◌+◌, ◌-◌, ◌≤◌, ◌<◌}
 use native.Mathlib.Omega.{arith}
-use mathlib.Core.Path.{◌≡◌, ◌∙◌}
+use mathlib.Core.Path.{◌≡◌, ap, ◌∙◌}
 use mathlib.Core.List.{List}
-use lib.ListN.{length, drop}
+use lib.ListN.{drop}
 use borrow.Author.Rules.{rules}
+use Rattle.std.specs.Prelude.{Option, Some, None}
 use Rattle.rules.specs.Number.{read_number}
 use Rattle.rules.specs.Request.{times}
 use Rattle.number.specs.declared.Number.{Number}
-use Rattle.number.specs.declared.Number.TheVariants as number
-use Rattle.number.specs.Rest.{Rest, rest, lost, after}
+use Rattle.number.specs.Rest.{after}
 use Rattle.number.specs.Meaning.{NumberAt}
-use Rattle.number.proofs.Reading.{is_bad, is_value, bounds, times_none, times_bad, times_more}
+use Rattle.number.proofs.Reading.{times_none, times_bad, times_more}
 use Rattle.number.proofs.skip.Goals as goal
 
--- the three ways on: z is what is left after all numbers, r what was read at the place
-module _ (s : List ℕ) (at left limit : ℕ) (z : Rest) (inv : after (times left (read_number limit) (drop at s)) ≡ z) where
-  ends : left ≤ 0 → rest (drop at s) ≡ z
-  ends h = times_none (read_number limit) left (drop at s) h ∙ inv
+-- the three ways on: i numbers are passed, up to the place, and z is what is left after all
+module _ (s : List ℕ) (at count i limit : ℕ) (z : Option (List ℕ)) (inv : after (times (count - i) (read_number limit) (drop at s)) ≡ z) where
+  ends : count ≤ i → Some (drop at s) ≡ z
+  ends h = times_none (read_number limit) (count - i) (drop at s) (omega arith) ∙ inv
 
-  module _ (r : Number) (f : NumberAt s at limit r) (h : 0 < left) where
-    ends_bad : r ≡ number.Bad → lost ≡ z
-    ends_bad g = times_bad (read_number limit) left (drop at s) h (is_bad s at limit r f g) ∙ inv
+  ends_bad : i < count → NumberAt s at limit None → None ≡ z
+  ends_bad h f = times_bad (read_number limit) (count - i) (drop at s) (omega arith) f.means ∙ inv
 
-    goes_on : (v q : ℕ) → r ≡ number.Value v q → after (times (left - 1) (read_number limit) (drop q s)) ≡ z
-    goes_on v q g = times_more (read_number limit) left (drop at s) (drop q s) v h (is_value s at limit r f v q g) ∙ inv
+  goes_on : i < count → (n : Number) → NumberAt s at limit (Some n) → after (times (count - (i + 1)) (read_number limit) (drop n.next s)) ≡ z
+  goes_on h n f =
+      ap (λ (k : ℕ). after (times k (read_number limit) (drop n.next s))) {x = count - (i + 1)} {y = count - i - 1} (omega arith)
+      ∙ times_more (read_number limit) (count - i) (drop at s) (drop n.next s) n.value (omega arith) f.means
+      ∙ inv
 
-module _ (s : List ℕ) (from at limit : ℕ) (r : Number) (f : NumberAt s at limit r) (v q : ℕ) (g : r ≡ number.Value v q) (h : from ≤ at) where
-  onward : from ≤ q
-  onward = omega (arith, bounds s at limit r f v q g)
+pub returns-in_err-at : goal.returns-in_err-at
+returns-in_err-at c = search (rules, ends_bad)
 
-  inside : q ≤ max from (length s)
-  inside = omega (arith, bounds s at limit r f v q g)
-
-pub returns-in-Bad : goal.returns-in-Bad
-returns-in-Bad c = search (rules, ends_bad)
-
-pub loop-left-preserved : goal.loop-left-preserved
-loop-left-preserved c = search (rules, goes_on, onward, inside)
+pub loop-preserved : goal.loop-preserved
+loop-preserved c = (goes_on _ _ _ _ _ _ c.loop.invariant.0 (omega arith) c.in_ok-at.field-0 c.in_ok-at.ensures, omega (arith, c.in_ok-at.ensures.bounds), omega (arith, c.in_ok-at.ensures.bounds))
 
 pub returns : goal.returns
 returns c = search (rules, ends)

@@ -1,10 +1,12 @@
 -- By whether the handle is there. Assumes nothing.
-use borrow.Author.Rules.{rules}
+use native.Mathlib.Omega.{arith}
+use Rattle.std.proofs.lemmas.Grind.{common_steps}
+use Rattle.std.specs.Prelude.{Some, ◌≡◌}
 use Rattle.open.proofs.OpenCloseEnding.{not_live, closed}
 use Rattle.open.proofs.close.Goals as goal
 
-pub returns-then-found-eq0 : goal.returns-then-found-eq0
-returns-then-found-eq0 c = search (rules, not_live, c.find_handle-found.ensures)
+pub returns-in_err-change-clause-carried : goal.returns-in_err-change-clause-carried
+returns-in_err-change-clause-carried c = rw c.close.ensures.control (not_live c.close.ensures.closed (grind (arith, common_steps)) (grind (arith, common_steps)))
 
-pub returns : goal.returns
-returns c = search (rules, closed, c.find_handle-found.ensures)
+pub returns-clause-carried : goal.returns-clause-carried
+returns-clause-carried c = let e : c.close.result ≡ Some c.in_ok-change.change = grind (arith, common_steps) in rw c.close.ensures.control (closed (rw e at c.close.ensures.closed))

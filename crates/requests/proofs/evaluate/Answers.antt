@@ -1,10 +1,9 @@
 -- Request 18. Assumes nothing.
-use borrow.Author.Rules.{rules}
 use Rattle.requests.proofs.LayoutLaws.{handle_not_read, evaluate_served}
 use Rattle.requests.proofs.evaluate.Goals as goal
 
-pub returns-then-not-next : goal.returns-then-not-next
-returns-then-not-next c = search (rules, handle_not_read)
+pub returns-in_default-clause-carried : goal.returns-in_default-clause-carried
+returns-in_default-clause-carried c = handle_not_read c.in_default.ensures
 
-pub returns : goal.returns
-returns c = search (rules, evaluate_served)
+pub returns-clause-carried : goal.returns-clause-carried
+returns-clause-carried c = evaluate_served c.in-Some.ensures c.evaluate.ensures

@@ -1,26 +1,13 @@
 -- Request 6. Assumes nothing.
-use borrow.Author.Rules.{rules}
-use Rattle.rules.specs.Request as requests
+use Rattle.std.specs.Prelude.{[]}
+use Rattle.rules.specs.Request as rules
 use Rattle.rules.specs.Serve.{rule}
-use Rattle.requests.proofs.LayoutLaws.{entries_not_read, entries_served}
+use Rattle.requests.proofs.LayoutLaws.{malformed, served}
 use Rattle.requests.proofs.groups.Goals as goal
 
-pub entries-f-requires : goal.entries-f-requires
-unfolding rule
-entries-f-requires c = search rules
+pub returns-in_default-clause-carried : goal.returns-in_default-clause-carried
+returns-in_default-clause-carried c = malformed (c.in_default.ensures.parsed rules.groups)
 
-pub refused-requires : goal.refused-requires
+pub returns-clause-carried : goal.returns-clause-carried
 unfolding rule
-refused-requires c = search rules
-
-pub returns-then-not-f : goal.returns-then-not-f
-unfolding rule
-returns-then-not-f c = search (rules, entries_not_read requests.groups)
-
-pub adjust_groups-requires : goal.adjust_groups-requires
-unfolding rule
-adjust_groups-requires c = search rules
-
-pub returns : goal.returns
-unfolding rule
-returns c = entries_served requests.groups _ _ _ _ _ c.entries-f.ensures _ c.if-not-f.false c.adjust_groups.ensures
+returns-clause-carried c = served (rules.groups _ _) (c.in-Some.ensures.parsed rules.groups) (c.adjust_groups.ensures.carried.carried _ [] c.in-Some.ensures.there.there)

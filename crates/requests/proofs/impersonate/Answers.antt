@@ -1,26 +1,12 @@
 -- Request 12. Assumes nothing.
-use borrow.Author.Rules.{rules}
-use Rattle.rules.specs.Request as requests
+use Rattle.rules.specs.Request as rules
 use Rattle.rules.specs.Serve.{rule}
-use Rattle.requests.proofs.LayoutLaws.{number_not_read, number_served}
+use Rattle.requests.proofs.LayoutLaws.{malformed, served}
 use Rattle.requests.proofs.impersonate.Goals as goal
 
-pub number-f-requires : goal.number-f-requires
-unfolding rule
-number-f-requires c = search rules
+pub returns-in_default-clause-carried : goal.returns-in_default-clause-carried
+returns-in_default-clause-carried c = malformed (c.in_default.ensures.parsed rules.impersonate)
 
-pub refused-requires : goal.refused-requires
+pub returns-clause-carried : goal.returns-clause-carried
 unfolding rule
-refused-requires c = search rules
-
-pub returns-then-not-f : goal.returns-then-not-f
-unfolding rule
-returns-then-not-f c = search (rules, number_not_read requests.impersonate)
-
-pub impersonate-requires : goal.impersonate-requires
-unfolding rule
-impersonate-requires c = search rules
-
-pub returns : goal.returns
-unfolding rule
-returns c = search (rules, number_served requests.impersonate)
+returns-clause-carried c = served (rules.impersonate _) (c.in-Some.ensures.parsed rules.impersonate) c.impersonate.ensures.carried

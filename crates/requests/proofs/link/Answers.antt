@@ -1,25 +1,11 @@
 -- Request 16. Assumes nothing.
-use borrow.Author.Rules.{rules}
 use Rattle.rules.specs.Serve.{rule}
-use Rattle.requests.proofs.LayoutLaws.{not_read, served}
+use Rattle.requests.proofs.LayoutLaws.{malformed, served}
 use Rattle.requests.proofs.link.Goals as goal
 
-pub link-f-requires : goal.link-f-requires
-unfolding rule
-link-f-requires c = search rules
+pub returns-in_default-clause-carried : goal.returns-in_default-clause-carried
+returns-in_default-clause-carried c = malformed c.in_default.ensures
 
-pub refused-requires : goal.refused-requires
+pub returns-clause-carried : goal.returns-clause-carried
 unfolding rule
-refused-requires c = search rules
-
-pub returns-then-not-f : goal.returns-then-not-f
-unfolding rule
-returns-then-not-f c = search (rules, not_read)
-
-pub link-requires : goal.link-requires
-unfolding rule
-link-requires c = search rules
-
-pub returns : goal.returns
-unfolding rule
-returns c = search (rules, served)
+returns-clause-carried c = served _ c.in-Some.ensures c.link-2.ensures.carried

@@ -1,26 +1,12 @@
 -- Request 17. Assumes nothing.
-use borrow.Author.Rules.{rules}
-use Rattle.rules.specs.Request as requests
+use Rattle.rules.specs.Request as rules
 use Rattle.rules.specs.Serve.{rule}
-use Rattle.requests.proofs.LayoutLaws.{number_not_read, number_served}
+use Rattle.requests.proofs.LayoutLaws.{malformed, served}
 use Rattle.requests.proofs.linked.Goals as goal
 
-pub number-f-requires : goal.number-f-requires
-unfolding rule
-number-f-requires c = search rules
+pub returns-in_default-clause-carried : goal.returns-in_default-clause-carried
+returns-in_default-clause-carried c = malformed (c.in_default.ensures.parsed rules.linked)
 
-pub refused-requires : goal.refused-requires
+pub returns-clause-carried : goal.returns-clause-carried
 unfolding rule
-refused-requires c = search rules
-
-pub returns-then-not-f : goal.returns-then-not-f
-unfolding rule
-returns-then-not-f c = search (rules, number_not_read requests.linked)
-
-pub linked-requires : goal.linked-requires
-unfolding rule
-linked-requires c = search rules
-
-pub returns : goal.returns
-unfolding rule
-returns c = search (rules, number_served requests.linked)
+returns-clause-carried c = served (rules.linked _) (c.in-Some.ensures.parsed rules.linked) c.linked.ensures.carried

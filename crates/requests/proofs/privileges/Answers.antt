@@ -1,26 +1,13 @@
 -- Request 5. Assumes nothing.
-use borrow.Author.Rules.{rules}
-use Rattle.rules.specs.Request as requests
+use Rattle.std.specs.Prelude.{[]}
+use Rattle.rules.specs.Request as rules
 use Rattle.rules.specs.Serve.{rule}
-use Rattle.requests.proofs.LayoutLaws.{entries_not_read, entries_served}
+use Rattle.requests.proofs.LayoutLaws.{malformed, served}
 use Rattle.requests.proofs.privileges.Goals as goal
 
-pub entries-f-requires : goal.entries-f-requires
-unfolding rule
-entries-f-requires c = search rules
+pub returns-in_default-clause-carried : goal.returns-in_default-clause-carried
+returns-in_default-clause-carried c = malformed (c.in_default.ensures.parsed rules.privileges)
 
-pub refused-requires : goal.refused-requires
+pub returns-clause-carried : goal.returns-clause-carried
 unfolding rule
-refused-requires c = search rules
-
-pub returns-then-not-f : goal.returns-then-not-f
-unfolding rule
-returns-then-not-f c = search (rules, entries_not_read requests.privileges)
-
-pub adjust_privileges-requires : goal.adjust_privileges-requires
-unfolding rule
-adjust_privileges-requires c = search rules
-
-pub returns : goal.returns
-unfolding rule
-returns c = search (rules, entries_served requests.privileges)
+returns-clause-carried c = served (rules.privileges _ _) (c.in-Some.ensures.parsed rules.privileges) (c.adjust_privileges.ensures.carried.carried _ [] c.in-Some.ensures.there.there)

@@ -1,25 +1,11 @@
 -- Request 4. Assumes nothing.
-use borrow.Author.Rules.{rules}
 use Rattle.rules.specs.Serve.{rule}
-use Rattle.requests.proofs.LayoutLaws.{not_read, served}
+use Rattle.requests.proofs.LayoutLaws.{malformed, served}
 use Rattle.requests.proofs.query.Goals as goal
 
-pub query-f-requires : goal.query-f-requires
-unfolding rule
-query-f-requires c = search rules
+pub returns-in_default-clause-carried : goal.returns-in_default-clause-carried
+returns-in_default-clause-carried c = malformed c.in_default.ensures
 
-pub refused-requires : goal.refused-requires
+pub returns-clause-carried : goal.returns-clause-carried
 unfolding rule
-refused-requires c = search rules
-
-pub returns-then-not-f : goal.returns-then-not-f
-unfolding rule
-returns-then-not-f c = search (rules, not_read)
-
-pub query-requires : goal.query-requires
-unfolding rule
-query-requires c = search rules
-
-pub returns : goal.returns
-unfolding rule
-returns c = search (rules, served)
+returns-clause-carried c = served _ c.in-Some.ensures c.query-2.ensures

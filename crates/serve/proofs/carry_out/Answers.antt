@@ -1,161 +1,83 @@
 -- Each number in turn. Assumes nothing.
 use borrow.Author.Rules.{rules}
 use Rattle.rules.specs.Request.{layouts}
-use Rattle.serve.proofs.BodyLaws.{by_number_lem, by_none}
+use Rattle.serve.proofs.BodyLaws.{malformed, by_number_lem, by_none}
 use Rattle.serve.proofs.carry_out.Goals as goal
 
-pub request_number-first-requires : goal.request_number-first-requires
-unfolding layouts
-request_number-first-requires c = search rules
+pub returns-in_default-clause-carried : goal.returns-in_default-clause-carried
+returns-in_default-clause-carried c = malformed c.in_default.ensures
 
-pub open_own-requires : goal.open_own-requires
+pub returns-in-1-clause-carried : goal.returns-in-1-clause-carried
 unfolding layouts
-open_own-requires c = search rules
+returns-in-1-clause-carried c = by_number_lem c.in-Some.ensures 1 c.in-1.is c.open_own.ensures.carried
 
-pub close-requires : goal.close-requires
+pub returns-in-2-clause-carried : goal.returns-in-2-clause-carried
 unfolding layouts
-close-requires c = search rules
+returns-in-2-clause-carried c = by_number_lem c.in-Some.ensures 2 c.in-2.is c.close.ensures.carried
 
-pub create-requires : goal.create-requires
+pub returns-in-3-clause-carried : goal.returns-in-3-clause-carried
 unfolding layouts
-create-requires c = search rules
+returns-in-3-clause-carried c = by_number_lem c.in-Some.ensures 3 c.in-3.is c.create.ensures.carried
 
-pub query-requires : goal.query-requires
+pub returns-in-4-clause-carried : goal.returns-in-4-clause-carried
 unfolding layouts
-query-requires c = search rules
+returns-in-4-clause-carried c = by_number_lem c.in-Some.ensures 4 c.in-4.is c.query.ensures.carried
 
-pub privileges-requires : goal.privileges-requires
+pub returns-in-5-clause-carried : goal.returns-in-5-clause-carried
 unfolding layouts
-privileges-requires c = search rules
+returns-in-5-clause-carried c = by_number_lem c.in-Some.ensures 5 c.in-5.is c.privileges.ensures.carried
 
-pub groups-requires : goal.groups-requires
+pub returns-in-6-clause-carried : goal.returns-in-6-clause-carried
 unfolding layouts
-groups-requires c = search rules
+returns-in-6-clause-carried c = by_number_lem c.in-Some.ensures 6 c.in-6.is c.groups.ensures.carried
 
-pub scope-requires : goal.scope-requires
+pub returns-in-7-clause-carried : goal.returns-in-7-clause-carried
 unfolding layouts
-scope-requires c = search rules
+returns-in-7-clause-carried c = by_number_lem c.in-Some.ensures 7 c.in-7.is c.scope.ensures.carried
 
-pub defaults-requires : goal.defaults-requires
+pub returns-in-8-clause-carried : goal.returns-in-8-clause-carried
 unfolding layouts
-defaults-requires c = search rules
+returns-in-8-clause-carried c = by_number_lem c.in-Some.ensures 8 c.in-8.is c.defaults.ensures.carried
 
-pub duplicate-requires : goal.duplicate-requires
+pub returns-in-9-clause-carried : goal.returns-in-9-clause-carried
 unfolding layouts
-duplicate-requires c = search rules
+returns-in-9-clause-carried c = by_number_lem c.in-Some.ensures 9 c.in-9.is c.duplicate.ensures.carried
 
-pub restrict-requires : goal.restrict-requires
+pub returns-in-10-clause-carried : goal.returns-in-10-clause-carried
 unfolding layouts
-restrict-requires c = search rules
+returns-in-10-clause-carried c = by_number_lem c.in-Some.ensures 10 c.in-10.is c.restrict.ensures.carried
 
-pub install-requires : goal.install-requires
+pub returns-in-11-clause-carried : goal.returns-in-11-clause-carried
 unfolding layouts
-install-requires c = search rules
+returns-in-11-clause-carried c = by_number_lem c.in-Some.ensures 11 c.in-11.is c.install.ensures.carried
 
-pub impersonate-requires : goal.impersonate-requires
+pub returns-in-12-clause-carried : goal.returns-in-12-clause-carried
 unfolding layouts
-impersonate-requires c = search rules
+returns-in-12-clause-carried c = by_number_lem c.in-Some.ensures 12 c.in-12.is c.impersonate.ensures.carried
 
-pub revert-requires : goal.revert-requires
+pub returns-in-13-clause-carried : goal.returns-in-13-clause-carried
 unfolding layouts
-revert-requires c = search rules
+returns-in-13-clause-carried c = by_number_lem c.in-Some.ensures 13 c.in-13.is c.revert.ensures.carried
 
-pub create_packed-requires : goal.create_packed-requires
+pub returns-in-14-clause-carried : goal.returns-in-14-clause-carried
 unfolding layouts
-create_packed-requires c = search rules
+returns-in-14-clause-carried c = by_number_lem c.in-Some.ensures 14 c.in-14.is c.create_packed.ensures.carried
 
-pub restrict_packed-requires : goal.restrict_packed-requires
+pub returns-in-15-clause-carried : goal.returns-in-15-clause-carried
 unfolding layouts
-restrict_packed-requires c = search rules
+returns-in-15-clause-carried c = by_number_lem c.in-Some.ensures 15 c.in-15.is c.restrict_packed.ensures.carried
 
-pub link-requires : goal.link-requires
+pub returns-in-16-clause-carried : goal.returns-in-16-clause-carried
 unfolding layouts
-link-requires c = search rules
+returns-in-16-clause-carried c = by_number_lem c.in-Some.ensures 16 c.in-16.is c.link.ensures.carried
 
-pub linked-requires : goal.linked-requires
+pub returns-in-17-clause-carried : goal.returns-in-17-clause-carried
 unfolding layouts
-linked-requires c = search rules
+returns-in-17-clause-carried c = by_number_lem c.in-Some.ensures 17 c.in-17.is c.linked.ensures.carried
 
-pub evaluate-requires : goal.evaluate-requires
+pub returns-in-18-clause-carried : goal.returns-in-18-clause-carried
 unfolding layouts
-evaluate-requires c = search rules
+returns-in-18-clause-carried c = by_number_lem c.in-Some.ensures 18 c.in-18.is c.evaluate.ensures.carried
 
-pub refused-requires : goal.refused-requires
-unfolding layouts
-refused-requires c = search rules
-
-pub returns-in-1 : goal.returns-in-1
-unfolding layouts
-returns-in-1 c = search by_number_lem
-
-pub returns-in-2 : goal.returns-in-2
-unfolding layouts
-returns-in-2 c = by_number_lem c.request_number-first.ensures _ _ 2 c.in-2.is c.close.ensures
-
-pub returns-in-3 : goal.returns-in-3
-unfolding layouts
-returns-in-3 c = search by_number_lem
-
-pub returns-in-4 : goal.returns-in-4
-unfolding layouts
-returns-in-4 c = search by_number_lem
-
-pub returns-in-5 : goal.returns-in-5
-unfolding layouts
-returns-in-5 c = search by_number_lem
-
-pub returns-in-6 : goal.returns-in-6
-unfolding layouts
-returns-in-6 c = search by_number_lem
-
-pub returns-in-7 : goal.returns-in-7
-unfolding layouts
-returns-in-7 c = search by_number_lem
-
-pub returns-in-8 : goal.returns-in-8
-unfolding layouts
-returns-in-8 c = search by_number_lem
-
-pub returns-in-9 : goal.returns-in-9
-unfolding layouts
-returns-in-9 c = search by_number_lem
-
-pub returns-in-10 : goal.returns-in-10
-unfolding layouts
-returns-in-10 c = search by_number_lem
-
-pub returns-in-11 : goal.returns-in-11
-unfolding layouts
-returns-in-11 c = search by_number_lem
-
-pub returns-in-12 : goal.returns-in-12
-unfolding layouts
-returns-in-12 c = search by_number_lem
-
-pub returns-in-13 : goal.returns-in-13
-unfolding layouts
-returns-in-13 c = search by_number_lem
-
-pub returns-in-14 : goal.returns-in-14
-unfolding layouts
-returns-in-14 c = search by_number_lem
-
-pub returns-in-15 : goal.returns-in-15
-unfolding layouts
-returns-in-15 c = search by_number_lem
-
-pub returns-in-16 : goal.returns-in-16
-unfolding layouts
-returns-in-16 c = search by_number_lem
-
-pub returns-in-17 : goal.returns-in-17
-unfolding layouts
-returns-in-17 c = search by_number_lem
-
-pub returns-in-18 : goal.returns-in-18
-unfolding layouts
-returns-in-18 c = search by_number_lem
-
-pub returns-in_default : goal.returns-in_default
-unfolding layouts
-returns-in_default c = by_none c.request_number-first.ensures _ _ (search rules) c.refused.ensures
+pub returns-in_default-number-clause-carried : goal.returns-in_default-number-clause-carried
+returns-in_default-number-clause-carried c = by_none c.in-Some.ensures (search rules)

@@ -1,10 +1,6 @@
 -- The answer is written. Assumes nothing.
-use borrow.Author.Rules.{rules}
-use Rattle.serve.proofs.BodyLaws.{answer_fits, answered}
+use Rattle.serve.proofs.BodyLaws.{answered}
 use Rattle.serve.proofs.serve.Goals as goal
 
-pub write-written-requires : goal.write-written-requires
-write-written-requires c = search (rules, answer_fits)
-
-pub returns : goal.returns
-returns c = search answered
+pub returns-clause-served : goal.returns-clause-served
+returns-clause-served c = answered c.carry_out.ensures.carried c.ended-answer.ensures c.write-written.ensures

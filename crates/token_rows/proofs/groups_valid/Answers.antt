@@ -5,11 +5,11 @@ use Rattle.lists.proofs.Loops.{gathered_none, gathered_more, gathered_given, gat
 use Rattle.token_rows.proofs.Groups.{lacks, attributes_test, or_attributes, or_lacks, half_test, both_test, groups_tested}
 use Rattle.token_rows.proofs.groups_valid.Goals as goal
 
-pub loop-i-init : goal.loop-i-init
-loop-i-init c = (gathered_none _ _ _ refl, gathered_none _ _ _ refl, gathered_none _ _ _ refl)
+pub loop-w-init : goal.loop-w-init
+loop-w-init c = (gathered_none _ _ _ refl, gathered_none _ _ _ refl, gathered_none _ _ _ refl)
 
-pub loop-i-preserved : goal.loop-i-preserved
-loop-i-preserved c = search (rules, gathered_more attributes_test attributes_test or_attributes (λ w. w) (λ w. refl), gathered_given (lacks 63) half_test (or_lacks 63) carried_to (λ w. refl), gathered_given (lacks 37) both_test (or_lacks 37) carried_to (λ w. refl))
+pub loop-w-preserved : goal.loop-w-preserved
+loop-w-preserved c = search (rules, gathered_more attributes_test attributes_test or_attributes (λ w. w) (λ w. refl), gathered_given (lacks 63) half_test (or_lacks 63) carried_to (λ w. refl), gathered_given (lacks 37) both_test (or_lacks 37) carried_to (λ w. refl))
 
 pub returns : goal.returns
 returns c = search (rules, groups_tested, gathered_done attributes_test attributes_test, gathered_done (lacks 63) half_test, gathered_done (lacks 37) both_test)

@@ -3,9 +3,6 @@ use borrow.Author.Rules.{rules}
 use Rattle.adjust_defaults.proofs.DefaultFields.{dacl_kept, dacl_set}
 use Rattle.adjust_defaults.proofs.default_fields.set.Goals as goal
 
-pub write-requires : goal.write-requires
-write-requires c = (search rules, search rules, search rules, search rules, search rules)
-
 pub returns-then-f-eq1 : goal.returns-then-f-eq1
 returns-then-f-eq1 c = search (rules, dacl_set)
 

@@ -1,14 +1,16 @@
 -- A law for each end. Assumes nothing.
 use borrow.Author.Rules.{rules}
-use Rattle.decide.proofs.LookupLaws.{looks_up}
+use Rattle.std.proofs.lemmas.Result.{err_from_is_err_and}
 use Rattle.adjust_defaults.proofs.ScopeEnding.{scope_handle_refused, scope_not_held, scope_changes}
 use Rattle.adjust_defaults.proofs.scope.scope.Goals as goal
 
-pub returns-then-refused-ne0 : goal.returns-then-refused-ne0
-returns-then-refused-ne0 c = scope_handle_refused _ (looks_up _ c.find_handle-found.ensures c.mask_of.ensures c.may_adjust_scope.ensures c.handle_refusal-refused.ensures) (search rules) (search rules)
+pub returns-in_err-handle-clause-carried : goal.returns-in_err-handle-clause-carried
+returns-in_err-handle-clause-carried c = let p = err_from_is_err_and c.from_residual.result c.from_residual.ensures.1 in rw (p.1, p.2) (scope_handle_refused _ c.in_err-handle.ensures)
 
-pub returns-then-not-held : goal.returns-then-not-held
-returns-then-not-held c = scope_not_held _ (looks_up _ c.find_handle-found.ensures c.mask_of.ensures c.may_adjust_scope.ensures c.handle_refusal-refused.ensures) (search rules) c.held.ensures (search rules) (search rules)
+pub returns-then-not-held-clause-carried : goal.returns-then-not-held-clause-carried
+returns-then-not-held-clause-carried c = scope_not_held _ c.in_ok-handle.ensures c.held.ensures (search rules)
 
-pub returns : goal.returns
-returns c = scope_changes _ (looks_up _ c.find_handle-found.ensures c.mask_of.ensures c.may_adjust_scope.ensures c.handle_refusal-refused.ensures) (search rules) c.held.ensures (search rules) (search rules) (search rules)
+pub returns-clause-carried : goal.returns-clause-carried
+returns-clause-carried c =
+    let same = c.apply.ensures.alone in
+    rw (c.ends.ensures, same.1, same.2) (scope_changes _ c.in_ok-handle.ensures c.held.ensures (search rules) c.apply.ensures.applied)

@@ -1,10 +1,10 @@
 -- In the row of the token's slot, if there is one. Assumes nothing.
-use borrow.Author.Rules.{rules}
+use native.Mathlib.Omega.{arith}
 use Rattle.adjust_defaults.proofs.ScopeEnding.{scope_set, scope_nowhere}
 use Rattle.adjust_defaults.proofs.scope.set_scope.Goals as goal
 
-pub returns-then-slot-lt-TOKEN_SLOTS : goal.returns-then-slot-lt-TOKEN_SLOTS
-returns-then-slot-lt-TOKEN_SLOTS c = search (rules, scope_set)
+pub returns-in-Some-clause-changed : goal.returns-in-Some-clause-changed
+returns-in-Some-clause-changed c = scope_set _ c.in-Some.ensures.0 c.in-Some.ensures.1 c.rescope.ensures
 
-pub returns-else-slot-lt-TOKEN_SLOTS : goal.returns-else-slot-lt-TOKEN_SLOTS
-returns-else-slot-lt-TOKEN_SLOTS c = search (rules, scope_nowhere)
+pub returns-in_default-clause-changed : goal.returns-in_default-clause-changed
+returns-in_default-clause-changed c = scope_nowhere _ c.in_default.ensures.0 (omega arith)

@@ -1,14 +1,16 @@
 -- One entry is judged. Assumes nothing.
-use borrow.Author.Rules.{rules}
-use Rattle.body.proofs.Passes.{turn_bad}
-use Rattle.adjust_groups.proofs.GroupEntries.{entry_valid, index_in, turn_judges}
+use native.Mathlib.Omega.{arith}
+use mathlib.Core.Path.{refl, ap}
+use mathlib.Core.Bool.{Bool, ◌&&◌}
+use Rattle.body.proofs.Passes.{goes_on, stops}
+use Rattle.adjust_groups.proofs.GroupEntries.{entry_valid, index_in}
 use Rattle.adjust_groups.proofs.group_entries.turn.Goals as goal
 
-pub is_unprotected-requires : goal.is_unprotected-requires
-is_unprotected-requires c = search (rules, index_in)
-
-pub returns-then-g-valid : goal.returns-then-g-valid
-returns-then-g-valid c = search (rules, turn_judges)
+pub returns-then-valid-has : goal.returns-then-valid-has
+returns-then-valid-has c = stops _ _ _ _ _ _ _ _ (entry_valid c.args.groups.now c.args.e.key c.args.e.value) c.has.ensures c.if-valid-has.true
 
 pub returns : goal.returns
-returns c = search (rules, turn_bad, entry_valid)
+returns c =
+    let i = index_in c.args.groups.now _ c.has.result c.args.e.key c.args.e.value refl c.if-valid-has.false in
+    goes_on _ _ _ _ _ _ _ _ (entry_valid c.args.groups.now c.args.e.key c.args.e.value) c.has.ensures c.if-valid-has.false (omega (arith, i, c.requires)) _
+    (ap (λ (x : Bool). c.args.g.free && x) c.is_unprotected.ensures) _ _ c.bit.ensures c.with.ensures

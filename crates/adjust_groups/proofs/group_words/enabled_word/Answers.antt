@@ -1,19 +1,12 @@
--- Its loop counts from the last group down. Assumes nothing.
+-- From the last group down. Assumes nothing.
+use mathlib.Core.Path.{◌≡◌, ◌∙◌}
 use borrow.Author.Rules.{rules}
-use Rattle.adjust_groups.proofs.GroupReport.{count_none, count_more, count_all, sum_fits, twice_fits}
+use Rattle.std.specs.Prelude.{reverse}
+use Rattle.std.specs.List.{fold}
+use Rattle.adjust_groups.proofs.GroupReport.{one_more, all_bits}
 use Rattle.adjust_groups.proofs.group_words.enabled_word.Goals as goal
 
-pub loop-i-init : goal.loop-i-init
-loop-i-init c = search (rules, count_none)
-
-pub overflow_mul-w : goal.overflow_mul-w
-overflow_mul-w c = search (rules, twice_fits)
-
-pub overflow_add-w : goal.overflow_add-w
-overflow_add-w c = search (rules, sum_fits)
-
-pub loop-i-preserved : goal.loop-i-preserved
-loop-i-preserved c = search (rules, count_more)
-
 pub returns : goal.returns
-returns c = search (rules, count_all)
+returns c =
+    let e : c.fold.result ≡ fold one_more 0 (reverse c.args.groups.now) = search rules in
+    e ∙ all_bits c.args.groups.now c.requires

@@ -1,14 +1,7 @@
--- After i turns the first i words are reset. Assumes nothing.
-use borrow.Author.Rules.{rules}
-use Rattle.table.specs.Updating.{updating_none}
-use Rattle.adjust_groups.proofs.GroupEntries.{one_reset, all_reset}
+-- The words before the index are reset. Assumes nothing.
+use native.Mathlib.Omega.{arith}
+use Rattle.table.specs.Updating.{updating_more}
 use Rattle.adjust_groups.proofs.group_words.reset_all.Goals as goal
 
-pub loop-i-init : goal.loop-i-init
-loop-i-init c = search (rules, updating_none)
-
-pub loop-i-preserved : goal.loop-i-preserved
-loop-i-preserved c = search (rules, one_reset)
-
-pub returns : goal.returns
-returns c = search (rules, all_reset)
+pub loop-word-preserved : goal.loop-word-preserved
+loop-word-preserved c = updating_more 0 _ c.loop-word.invariant (omega (arith, c.loop-word-test.true, c.loop-word.invariant.long)) c.reset_word.ensures

@@ -2,45 +2,37 @@
 use borrow.Author.Rules.{rules}
 use Rattle.rules.specs.Query.{classes, class_bytes}
 use Rattle.rules.specs.Memory.{identity_at, defaults_at, token_at}
-use Rattle.answer.proofs.Classes.{one, one_sid, one_last}
+use Rattle.answer.proofs.Classes.{one, one_sid}
 use Rattle.answer.proofs.class.one.Goals as goal
 
-pub sid_at-requires : goal.sid_at-requires
+pub returns-in-User : goal.returns-in-User
 unfolding class_bytes classes token_at identity_at defaults_at
-sid_at-requires c = search rules
+returns-in-User c = search (rules, one)
 
-pub sid_at-requires-in-5 : goal.sid_at-requires-in-5
+pub returns-in-Type : goal.returns-in-Type
 unfolding class_bytes classes token_at identity_at defaults_at
-sid_at-requires-in-5 c = search rules
+returns-in-Type c = search (rules, one)
 
-pub returns-in-1 : goal.returns-in-1
+pub returns-in-Level : goal.returns-in-Level
 unfolding class_bytes classes token_at identity_at defaults_at
-returns-in-1 c = search (rules, one)
+returns-in-Level c = search (rules, one)
 
-pub returns-in-4 : goal.returns-in-4
+pub returns-in-Scope : goal.returns-in-Scope
 unfolding class_bytes classes token_at identity_at defaults_at
-returns-in-4 c = search (rules, one_sid)
+returns-in-Scope c = search (rules, one)
 
-pub returns-in-5 : goal.returns-in-5
+pub returns-in-Elevation : goal.returns-in-Elevation
 unfolding class_bytes classes token_at identity_at defaults_at
-returns-in-5 c = search (rules, one_sid)
+returns-in-Elevation c = search (rules, one)
 
-pub returns-in-7 : goal.returns-in-7
+pub returns-in-Integrity : goal.returns-in-Integrity
 unfolding class_bytes classes token_at identity_at defaults_at
-returns-in-7 c = search (rules, one)
+returns-in-Integrity c = search (rules, one)
 
-pub returns-in-8 : goal.returns-in-8
+pub returns-in-Owner : goal.returns-in-Owner
 unfolding class_bytes classes token_at identity_at defaults_at
-returns-in-8 c = search (rules, one)
+returns-in-Owner c = search (rules, one_sid)
 
-pub returns-in-11 : goal.returns-in-11
+pub returns-in-PrimaryGroup : goal.returns-in-PrimaryGroup
 unfolding class_bytes classes token_at identity_at defaults_at
-returns-in-11 c = search (rules, one)
-
-pub returns-in-12 : goal.returns-in-12
-unfolding class_bytes classes token_at identity_at defaults_at
-returns-in-12 c = search (rules, one)
-
-pub returns-in_default : goal.returns-in_default
-unfolding class_bytes classes token_at identity_at defaults_at
-returns-in_default c = search (rules, one_last)
+returns-in-PrimaryGroup c = search (rules, one_sid)

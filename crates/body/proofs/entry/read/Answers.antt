@@ -3,11 +3,11 @@ use borrow.Author.Rules.{rules}
 use Rattle.body.proofs.Pairs.{no_key, no_value, key_value}
 use Rattle.body.proofs.entry.read.Goals as goal
 
-pub returns-in_default : goal.returns-in_default
-returns-in_default c = search (rules, no_key)
+pub returns-in_err-key : goal.returns-in_err-key
+returns-in_err-key c = search (rules, no_key)
 
-pub returns-in_default-number_at : goal.returns-in_default-number_at
-returns-in_default-number_at c = search (rules, no_value)
+pub returns-in_err-value : goal.returns-in_err-value
+returns-in_err-value c = search (rules, no_value)
 
 pub returns : goal.returns
 returns c = search (rules, key_value)

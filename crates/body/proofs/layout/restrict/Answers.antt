@@ -1,8 +1,46 @@
 -- Five numbers and two lists. Assumes nothing.
-use borrow.Author.Rules.{rules}
-use Rattle.body.proofs.Sids.{numbers_onward}
-use Rattle.body.proofs.Bodies.{restrict_read}
+use Rattle.std.proofs.Common.{◌∙◌}
+use Rattle.body.proofs.Lists.{further}
+use Rattle.body.proofs.Bodies.{on_some, on_none, list_before, list_ends, step, list_step, list_lost, finish, refuse}
+use Rattle.rules.specs.Request.{restrict_layout, u32, u64}
 use Rattle.body.proofs.layout.restrict.Goals as goal
 
+pub returns-in_err-numbers : goal.returns-in_err-numbers
+unfolding restrict_layout u32 u64
+returns-in_err-numbers g c =
+    let e = c.from_residual-in_err-numbers.ensures in
+    record {
+      parsed = refuse _ e (step _ c.in_ok-handle.ensures ∙ step _ c.in_ok-mark.ensures ∙ step _ c.in_ok-removed.ensures ∙ step _ c.in_ok-deny_count.ensures ∙ step _ c.in_ok-sid_count.ensures ∙ list_lost u32 _ _ c.in_err-numbers.ensures);
+      deny = on_none _ e;
+      sids = on_none _ e;
+    }
+
+pub returns-in_err-skip_sids : goal.returns-in_err-skip_sids
+unfolding restrict_layout u32 u64
+returns-in_err-skip_sids g c =
+    let e = c.from_residual-in_err-skip_sids.ensures in
+    let o = further c.number.ensures.onward (further c.number-2.ensures.onward (further c.number-3.ensures.onward (further c.number-4.ensures.onward c.number-5.ensures.onward))) in
+    record {
+      parsed =
+          refuse _ e
+          (step _ c.in_ok-handle.ensures ∙ step _ c.in_ok-mark.ensures ∙ step _ c.in_ok-removed.ensures ∙ step _ c.in_ok-deny_count.ensures ∙ step _ c.in_ok-sid_count.ensures
+          ∙ list_step u32 _ _ o c.in_ok-numbers.ensures
+          ∙ list_lost g.S.SidForm.reader _ _ c.in_err-skip_sids.ensures);
+      deny = on_none _ e;
+      sids = on_none _ e;
+    }
+
 pub returns : goal.returns
-returns c = search (rules, restrict_read, numbers_onward)
+unfolding restrict_layout u32 u64
+returns g c =
+    let o = further c.number.ensures.onward (further c.number-2.ensures.onward (further c.number-3.ensures.onward (further c.number-4.ensures.onward c.number-5.ensures.onward))) in
+    let q = further o c.in_ok-numbers.ensures.onward in
+    record {
+      parsed =
+          finish _ _ _ c.then_some.ensures c.is_ended.ensures
+          (step _ c.in_ok-handle.ensures ∙ step _ c.in_ok-mark.ensures ∙ step _ c.in_ok-removed.ensures ∙ step _ c.in_ok-deny_count.ensures ∙ step _ c.in_ok-sid_count.ensures
+          ∙ list_step u32 _ _ o c.in_ok-numbers.ensures
+          ∙ list_step g.S.SidForm.reader _ _ q c.in_ok-skip_sids.ensures);
+      deny = on_some _ _ c.then_some.ensures (λ h. list_before u32 _ o c.in_ok-numbers.ensures);
+      sids = on_some _ _ c.then_some.ensures (list_ends g.S.SidForm.reader _ q c.in_ok-skip_sids.ensures c.is_ended.ensures);
+    }

@@ -2,5 +2,5 @@
 use Rattle.calls.proofs.Accepting.{broken_off_lem}
 use Rattle.calls.proofs.accept.break_off.Goals as goal
 
-pub returns : goal.returns
-returns c = broken_off_lem _ _ _ _ c.clear.ensures c.set_stream.ensures c.write-written.ensures
+pub returns-clause-broken : goal.returns-clause-broken
+returns-clause-broken c = broken_off_lem c.clear.ensures c.set_stream.ensures c.answer_break.ensures

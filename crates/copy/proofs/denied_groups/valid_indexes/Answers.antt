@@ -1,17 +1,21 @@
--- What is left to judge gives what all give. Assumes nothing.
-use mathlib.Core.Path.{refl}
-use borrow.Author.Rules.{rules}
-use Rattle.copy.proofs.DeniedGroups.{marks_end, marks_lost, marks_next}
+-- One index after the other. Assumes nothing.
+use Rattle.std.proofs.Common.{ap}
+use Rattle.copy.specs.Numbers.{numbers_left}
+use Rattle.copy.proofs.NumbersRead.{yielded_first, yielded_here, yielded_all}
+use Rattle.copy.proofs.DeniedGroups.{none_named, named_next, indexes_good, indexes_bad}
 use Rattle.copy.proofs.denied_groups.valid_indexes.Goals as goal
 
-pub loop-left-init : goal.loop-left-init
-loop-left-init c = refl
+pub loop-index-init : goal.loop-index-init
+loop-index-init c = none_named _
 
-pub returns-in_default : goal.returns-in_default
-returns-in_default c = search (rules, marks_lost)
+pub loop-index-preserved : goal.loop-index-preserved
+loop-index-preserved c = named_next _ _ _ c.loop-index.invariant c.requires _ (cc) _ (cc)
 
-pub loop-left-preserved : goal.loop-left-preserved
-loop-left-preserved c = search (rules, marks_next)
+pub returns-then-size-index : goal.returns-then-size-index
+returns-then-size-index c =
+    let from = ap numbers_left c.into_iter-index-iterator.ensures.into_iter_gives in
+    indexes_bad _ c.loop-index.invariant c.requires _ (yielded_first _ _ from _ _ c.loop-index.yielded_by)
+    (yielded_here _ _ from _ _ c.loop-index.yielded_by _ _ c.next.ensures.steps _ c.in-Some.is) (cc)
 
 pub returns : goal.returns
-returns c = search (rules, marks_end)
+returns c = indexes_good _ c.loop-index.invariant (yielded_all _ _ (ap numbers_left c.into_iter-index-iterator.ensures.into_iter_gives) _ _ c.loop-index.yielded_by _ _ c.next.ensures.steps c.in-None.is)

@@ -1,22 +1,21 @@
 -- One by one. Assumes nothing.
-use mathlib.Core.Path.{refl}
-use borrow.Author.Rules.{rules}
-use Rattle.copy.proofs.RestrictingSids.{keep_begin, keep_end, keep_one, keep_none, judged_by}
+use Rattle.std.proofs.Common.{◌≡◌, ◌+◌, ◌*◌, ◌-◌, take, drop, arith, refl}
+use Rattle.copy.proofs.RestrictingSids.{keep_begin, keep_one, keep_none, keep_end}
 use Rattle.copy.proofs.restricting.kept.Goals as goal
 use Rattle.copy.proofs.restricting.kept.Goals.{then-stays, else-stays}
 
-pub loop-i-init : goal.loop-i-init
-loop-i-init c = search (rules, keep_begin)
+pub loop-sid-init : goal.loop-sid-init
+loop-sid-init g c = keep_begin _
 
-pub loop-i-preserved : goal.loop-i-preserved
-loop-i-preserved c =
-    let few = c.requires.1 in
-    let more = c.loop-i-test.true in
-    let stays = judged_by c.stays.ensures in
+pub loop-sid-preserved : goal.loop-sid-preserved
+loop-sid-preserved g c =
     elim c.if-stays.branch [
-      | then-stays w ↦ keep_one _ c.loop-i.invariant few more _ refl stays w.if-stays.true w.with_sid-list.ensures w.list-is
-      | else-stays w ↦ keep_none _ c.loop-i.invariant few more _ refl stays w.if-stays.false w.list-is
+      | then-stays w ↦ keep_one _ c.loop-sid.invariant (omega arith) _ refl (λ f y. y _ _ c.stays.ensures) w.if-stays.true w.push.ensures w.list-is
+      | else-stays w ↦ keep_none _ c.loop-sid.invariant (omega arith) _ refl (λ f y. y _ _ c.stays.ensures) w.if-stays.false w.list-is
     ]
 
 pub returns : goal.returns
-returns c = search (rules, keep_end)
+returns g c = keep_end _ c.requires.within.1 (λ i. take (size i) (drop (c.args.slot * 101 + 85) c.args.parts.now.tokens.now)) c.loop-sid.invariant (omega arith)
+  where
+    size : c.args.slot * 101 + 85 + c.args.own - (c.args.slot * 101 + 85) ≡ c.args.own
+    size = omega arith

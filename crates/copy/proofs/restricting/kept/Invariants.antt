@@ -1,10 +1,7 @@
 -- One by one. Assumes nothing.
-use Prim.Native.Nat.{◌-◌}
-use Rattle.copy.proofs.RestrictingSids.{Keeping, ByNumbers}
+use Rattle.copy.specs.Restricting.{Answers}
+use Rattle.copy.proofs.RestrictingSids.{Keeping}
 use Rattle.copy.proofs.restricting.kept.Given as goal
 
-abbrev pub invariant-loop-i : goal.invariant-loop-i
-invariant-loop-i l = Keeping (ByNumbers l.s l.at l.count) l.own l.words l.list l.i
-
-abbrev pub decreases-loop-i : goal.decreases-loop-i
-decreases-loop-i l = l.own - l.i
+abbrev pub invariant-loop-sid : goal.invariant-loop-sid
+invariant-loop-sid g l = Keeping (Answers (goal.F-post g l.stays)) l.sids l.list l.sid-index

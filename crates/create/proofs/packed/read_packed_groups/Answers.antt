@@ -1,37 +1,37 @@
--- The groups read so far are entered, and what is left gives what all give. Assumes nothing.
+-- The groups read so far are entered. Assumes nothing.
 use borrow.Author.Rules.{rules}
-use mathlib.Core.Path.{ap}
-use lib.ListN.{length}
-use Rattle.rules.proofs.SidWords.{words_size}
-use Rattle.create.proofs.PackedGroups.{rowed_at, spot_packed, spot_narrow, none_loaded, all_loaded, one_lost, one_judged, place_loaded, one_loaded}
+use Rattle.create.proofs.PackedGroups.{rowed_at, none_loaded, too_many_packed, all_loaded, no_room_left, one_lost, one_judged, one_loaded, one_without_room}
 use Rattle.create.proofs.packed.read_packed_groups.Goals as goal
+use Rattle.create.proofs.packed.read_packed_groups.Goals.{in-Some-enter, in-None}
 
-pub loop-left-init : goal.loop-left-init
-loop-left-init c = (search (rules, none_loaded), ap length c.requires.0, words_size _ c.requires.1, c.requires.2)
+pub returns-then-count-gt-MAX_GROUPS : goal.returns-then-count-gt-MAX_GROUPS
+returns-then-count-gt-MAX_GROUPS c = search (rules, too_many_packed)
+
+pub loop-n-init : goal.loop-n-init
+loop-n-init c = search (rules, none_loaded)
 
 pub returns-in_default : goal.returns-in_default
-returns-in_default c = search (rules, one_lost)
+returns-in_default c = one_lost _ _ _ _ _ (search rules) c.loop-n.invariant (search rules) c.in_default.ensures
 
-pub row_at-x-requires : goal.row_at-x-requires
-row_at-x-requires c = search (rules, spot_packed)
+pub returns-then-not-judged : goal.returns-then-not-judged
+returns-then-not-judged c = one_judged _ _ _ _ _ (search rules) c.loop-n.invariant (search rules) c.in-Some.field-0 c.in-Some.ensures c.row_at-x.ensures c.judged.ensures (search rules)
 
-pub overflow_cast-attributes : goal.overflow_cast-attributes
-overflow_cast-attributes c = search (rules, spot_narrow)
+pub enter-requires : goal.enter-requires
+enter-requires c = (c.loop-n.invariant.sound, rowed_at c.row_at-x.ensures)
 
-pub returns-then-not-n-valid : goal.returns-then-not-n-valid
-returns-then-not-n-valid c = search (rules, one_judged)
+pub loop-n-preserved : goal.loop-n-preserved
+loop-n-preserved c =
+    elim c.match-enter.branch [
+      | in-Some-enter w ↦
+          rw (w.words-is, w.room-is)
+          (one_loaded _ _ _ _ _ (search rules) c.loop-n.invariant (search rules) c.in-Some.field-0 c.in-Some.ensures c.row_at-x.ensures c.judged.ensures (search rules) w.in-Some-enter.ensures w.entered_word.ensures)
+      | in-None w ↦
+          rw (w.words-is, w.room-is)
+          (one_without_room _ _ _ _ _ (search rules) c.loop-n.invariant (search rules) c.in-Some.field-0 c.in-Some.ensures c.row_at-x.ensures c.judged.ensures (search rules) w.in-None.ensures)
+    ]
 
-pub enter-e-requires : goal.enter-e-requires
-enter-e-requires c = search (rules, rowed_at)
+pub returns-then-room : goal.returns-then-room
+returns-then-room c = search (rules, all_loaded)
 
-pub overflow_cast-attributes-in-loop-left : goal.overflow_cast-attributes-in-loop-left
-overflow_cast-attributes-in-loop-left c = search (rules, spot_narrow)
-
-pub bounds-words-n : goal.bounds-words-n
-bounds-words-n c = search (rules, place_loaded)
-
-pub loop-left-preserved : goal.loop-left-preserved
-loop-left-preserved c = search (rules, one_loaded)
-
-pub returns : goal.returns
-returns c = search (rules, all_loaded)
+pub returns-else-room : goal.returns-else-room
+returns-else-room c = search (rules, no_room_left)

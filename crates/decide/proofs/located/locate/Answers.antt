@@ -1,10 +1,6 @@
 -- The slot is there, or the state is not valid. Assumes nothing.
-use borrow.Author.Rules.{rules}
-use Rattle.decide.proofs.Locating.{token_lost, token_there}
+use Rattle.decide.proofs.Locating.{token_lost}
 use Rattle.decide.proofs.located.locate.Goals as goal
 
-pub returns-then-slot-ge-TOKEN_SLOTS : goal.returns-then-slot-ge-TOKEN_SLOTS
-returns-then-slot-ge-TOKEN_SLOTS c = search (rules, token_lost)
-
-pub returns : goal.returns
-returns c = search (rules, token_there)
+pub returns-in_default : goal.returns-in_default
+returns-in_default c = token_lost c.in_ok-handle.ensures c.in_default.ensures.0

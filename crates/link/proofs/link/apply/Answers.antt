@@ -1,6 +1,7 @@
 -- The mark and both changes leave valid states. Assumes nothing.
+use borrow.Author.Rules.{rules}
 use Rattle.link.proofs.LinkEnding.{applies}
 use Rattle.link.proofs.link.apply.Goals as goal
 
-pub returns : goal.returns
-returns c = applies c.requires.1 c.used.ensures c.elevate.ensures c.elevate-2.ensures c.link.ensures
+pub returns-clause-applied : goal.returns-clause-applied
+returns-clause-applied c = search (rules, applies)

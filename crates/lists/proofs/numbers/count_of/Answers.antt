@@ -1,13 +1,9 @@
 -- lists::numbers::count_of meets its contract: its loop counts the number. Assumes nothing.
-use borrow.Author.Rules.{rules}
-use Rattle.lists.proofs.Loops.{counting_none, counting_more, counting_done}
+use Rattle.lists.proofs.Loops.{counting_more, counting_done}
 use Rattle.lists.proofs.numbers.count_of.Goals as goal
 
-pub loop-i-init : goal.loop-i-init
-loop-i-init c = counting_none _ _
-
-pub loop-i-preserved : goal.loop-i-preserved
-loop-i-preserved c = search (rules, counting_more)
+pub loop-y-preserved : goal.loop-y-preserved
+loop-y-preserved g c = counting_more g.T.Number.in_turn _ _ c.y-item.result c.loop-y.invariant c.loop-y-test.true c.y-item.is c.counted-n.ensures
 
 pub returns : goal.returns
-returns c = search (rules, counting_done)
+returns g c = counting_done g.T.Number.in_turn _ _ c.loop-y.invariant c.loop-y-test.false

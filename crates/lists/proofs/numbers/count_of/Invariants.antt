@@ -1,11 +1,6 @@
 -- lists::numbers::count_of meets its contract: its loop counts the number. Assumes nothing.
-use Prim.Native.Nat.{◌-◌}
-use lib.ListN.{length}
 use Rattle.lists.proofs.Loops.{Counting}
 use Rattle.lists.proofs.numbers.count_of.Given as goal
 
-abbrev pub invariant-loop-i : goal.invariant-loop-i
-invariant-loop-i l = Counting l.x l.s l.n l.i
-
-abbrev pub decreases-loop-i : goal.decreases-loop-i
-decreases-loop-i l = length l.s - l.i
+abbrev pub invariant-loop-y : goal.invariant-loop-y
+invariant-loop-y g l = let t = g.T.Number in Counting t.in_turn (t.number l.x) l.s (t.number l.n) l.y-index

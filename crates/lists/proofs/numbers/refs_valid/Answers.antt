@@ -3,11 +3,11 @@ use borrow.Author.Rules.{rules}
 use Rattle.lists.proofs.Loops.{tallying_none, tallying_more, tallying_done}
 use Rattle.lists.proofs.numbers.refs_valid.Goals as goal
 
-pub loop-i-init : goal.loop-i-init
-loop-i-init c = tallying_none _ _
+pub loop-x-init : goal.loop-x-init
+loop-x-init c = tallying_none _ _
 
-pub loop-i-preserved : goal.loop-i-preserved
-loop-i-preserved c = search (rules, tallying_more)
+pub loop-x-preserved : goal.loop-x-preserved
+loop-x-preserved c = search (rules, tallying_more)
 
 pub returns : goal.returns
 returns c = search (rules, tallying_done)

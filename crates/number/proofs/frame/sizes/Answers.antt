@@ -12,10 +12,10 @@ use Rattle.number.proofs.frame.sizes.Goals as goal
 next_sum : (fs : List ℕ) (i sum r : ℕ) → i < length fs → sum ≡ length (encode_all (take i fs)) → r ≡ length (encode (get_or fs i 0)) → sum + r ≡ length (encode_all (take (i + 1) fs))
 next_sum fs i sum r more e k = omega (arith, length_next fs i more)
 
-pub loop-i-init : goal.loop-i-init
+pub loop-field-init : goal.loop-field-init
 unfolding encode_all
-loop-i-init c = (omega arith, refl, omega arith)
+loop-field-init c = (refl, omega arith)
 
-pub loop-i-preserved : goal.loop-i-preserved
+pub loop-field-preserved : goal.loop-field-preserved
 unfolding encode_all
-loop-i-preserved c = search (rules, next_sum)
+loop-field-preserved c = search (rules, next_sum)

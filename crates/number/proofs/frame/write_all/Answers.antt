@@ -1,5 +1,4 @@
 -- `write_all` meets its contract. Assumes nothing.
-use native.Mathlib.Omega.{arith}
 use mathlib.Core.Path.{refl}
 use borrow.Author.Rules.{rules}
 use Rattle.rules.specs.Number.{encode_all}
@@ -7,9 +6,9 @@ use Rattle.number.specs.Over.{over}
 use Rattle.number.proofs.Fields.{room_start, next_place, filled}
 use Rattle.number.proofs.frame.write_all.Goals as goal
 
-pub loop-i-init : goal.loop-i-init
+pub loop-field-init : goal.loop-field-init
 unfolding encode_all over
-loop-i-init c = (omega arith, refl, refl)
+loop-field-init c = (refl, refl)
 
 pub slice_bounds-write-count : goal.slice_bounds-write-count
 unfolding encode_all over
@@ -19,6 +18,6 @@ pub slice_bounds-write-start : goal.slice_bounds-write-start
 unfolding encode_all over
 slice_bounds-write-start c = search (rules, room_start)
 
-pub loop-i-preserved : goal.loop-i-preserved
+pub loop-field-preserved : goal.loop-field-preserved
 unfolding encode_all over
-loop-i-preserved c = search (rules, next_place, filled)
+loop-field-preserved c = search (rules, next_place, filled)

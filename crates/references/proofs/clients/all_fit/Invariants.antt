@@ -1,14 +1,10 @@
 -- references::clients::all_fit meets its contract: its loop tests each row. Assumes nothing.
-use Prim.Native.Nat.{ℕ, ◌-◌}
-use mathlib.Core.List.{[]}
-use Rattle.table.specs.Rows.{RowsTested}
+use Prim.Native.Nat.{ℕ}
 use Rattle.rules.specs.State.{token_slots}
 use Rattle.rules.specs.Memory.{token_words}
+use Rattle.lists.proofs.Rows.{ChunksLeft}
 use Rattle.references.specs.Tests.{fit_test}
 use Rattle.references.proofs.clients.all_fit.Given as goal
 
-abbrev pub invariant-loop-i : goal.invariant-loop-i
-invariant-loop-i l = RowsTested {B = ℕ} (λ row none. fit_test l.client l.level row) token_words 0 token_slots l.tokens [] l.ok l.i
-
-abbrev pub decreases-loop-i : goal.decreases-loop-i
-decreases-loop-i l = token_slots - l.i
+abbrev pub invariant-loop-row : goal.invariant-loop-row
+invariant-loop-row l = ChunksLeft {B = ℕ} (λ row none. fit_test l.client l.level row) token_words token_slots l.tokens l.ok l.row-iterator

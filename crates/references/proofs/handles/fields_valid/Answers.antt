@@ -1,16 +1,13 @@
 -- references::handles::fields_valid meets its contract: by whether the slot is free. Assumes nothing.
 use borrow.Author.Rules.{rules}
 use Rattle.rules.specs.Valid.{handle_valid}
-use Rattle.lists.proofs.Truth.{if_equal, if_other}
+use Rattle.lists.proofs.Truth.{if_other}
+use Rattle.references.proofs.Loops.{free_fields}
 use Rattle.references.proofs.handles.fields_valid.Goals as goal
 
 pub returns-then-h-eq0 : goal.returns-then-h-eq0
 unfolding handle_valid
-returns-then-h-eq0 c = search (rules, if_equal)
-
-pub valid-requires : goal.valid-requires
-unfolding handle_valid
-valid-requires c = search rules
+returns-then-h-eq0 c = free_fields c.args.h c.if-h-eq0.true c.eq.ensures
 
 pub returns : goal.returns
 unfolding handle_valid

@@ -1,13 +1,14 @@
 -- references::pairs::places_valid meets its contract: its loop tests each row. Assumes nothing.
+use native.Mathlib.Omega.{arith}
 use borrow.Author.Rules.{rules}
-use Rattle.table.specs.Rows.{rows_none, rows_more, rows_done}
+use Rattle.lists.proofs.Rows.{chunks_begin, chunks_step, chunks_end}
 use Rattle.references.proofs.pairs.places_valid.Goals as goal
 
-pub loop-i-init : goal.loop-i-init
-loop-i-init c = rows_none _ _ _ _ _ _
+pub loop-row-init : goal.loop-row-init
+loop-row-init c = search (rules, chunks_begin)
 
-pub loop-i-preserved : goal.loop-i-preserved
-loop-i-preserved c = search (rules, rows_more)
+pub loop-row-preserved : goal.loop-row-preserved
+loop-row-preserved c = chunks_step _ _ _ _ c.in-Some.row c.loop-row.invariant (omega arith) c.in-Some.ensures.steps c.place_valid-ok.ensures
 
 pub returns : goal.returns
-returns c = search (rules, rows_done)
+returns c = chunks_end _ _ _ _ c.loop-row.invariant c.in-None.ensures.steps

@@ -1,13 +1,12 @@
 -- references::pairs::tokens_fit meets its contract: by whether both are found. Assumes nothing.
-use borrow.Author.Rules.{rules}
 use Rattle.references.proofs.PairRows.{no_elevated, no_filtered, at_tokens}
 use Rattle.references.proofs.pairs.tokens_fit.Goals as goal
 
-pub returns-then-e-ge-TOKEN_SLOTS : goal.returns-then-e-ge-TOKEN_SLOTS
-returns-then-e-ge-TOKEN_SLOTS c = search (rules, no_elevated)
+pub returns-in_default : goal.returns-in_default
+returns-in_default c = no_elevated _ _ _ _ c.in_default.ensures.slot
 
-pub returns-then-f-ge-TOKEN_SLOTS : goal.returns-then-f-ge-TOKEN_SLOTS
-returns-then-f-ge-TOKEN_SLOTS c = search (rules, no_filtered)
+pub returns-in_default-find : goal.returns-in_default-find
+returns-in_default-find c = no_filtered _ _ _ _ c.in_default-find.ensures.slot
 
 pub returns : goal.returns
-returns c = search (rules, at_tokens)
+returns c = at_tokens _ _ _ _ c.in-Some.ensures.slot c.in-Some-find.ensures.slot c.in-Some.ensures.within c.in-Some-find.ensures.within c.rows_fit.ensures

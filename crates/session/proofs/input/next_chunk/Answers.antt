@@ -6,8 +6,8 @@ use Rattle.session.proofs.input.next_chunk.Goals as goal
 pub overflow_cast-station : goal.overflow_cast-station
 overflow_cast-station c = search (rules, fits)
 
-pub returns-in-Bad : goal.returns-in-Bad
-returns-in-Bad c = search (rules, unread_next)
+pub returns-in-None : goal.returns-in-None
+returns-in-None c = search (rules, unread_next)
 
-pub returns-in-Value : goal.returns-in-Value
-returns-in-Value c = search (rules, sized_next)
+pub returns-in-Some : goal.returns-in-Some
+returns-in-Some c = search (rules, sized_next)

@@ -9,8 +9,8 @@ returns-then-size-gt-MAX_CHUNK c = search (rules, too_large)
 pub returns-then-left-n : goal.returns-then-left-n
 returns-then-left-n c = search (rules, too_few)
 
-pub returns-in-Bad : goal.returns-in-Bad
-returns-in-Bad c = search (rules, without)
+pub returns-in_default : goal.returns-in_default
+returns-in_default c = search (rules, without)
 
-pub returns-else-left-n : goal.returns-else-left-n
-returns-else-left-n c = search (rules, there)
+pub returns : goal.returns
+returns c = search (rules, there)

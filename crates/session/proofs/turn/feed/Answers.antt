@@ -1,7 +1,7 @@
--- `feed` meets its contract; k is where the chunk's bytes are known to be bytes. Assumes nothing.
+-- `feed` meets its contract. Assumes nothing.
 use borrow.Author.Rules.{rules}
 use Rattle.session.proofs.Turning.{turned}
 use Rattle.session.proofs.turn.feed.Goals as goal
 
-pub returns : goal.returns
-returns c = search (rules, turned c.args.chunk.now (λ i. (c.shared_slice_known-1.given i).fits))
+pub returns-clause-turns : goal.returns-clause-turns
+returns-clause-turns c = search (rules, turned c.args.chunk.now (λ i. (c.type_inv.chunk i).fits) c.args.station c.args.memory.now)

@@ -15,17 +15,14 @@ slice_bounds-find-end c = search (rules, end_in)
 pub slice_bounds-find-end-2 : goal.slice_bounds-find-end-2
 slice_bounds-find-end-2 c = search (rules, all_in)
 
-pub find-i-requires : goal.find-i-requires
-find-i-requires c = search (rules, lent_sought)
+pub find-requires : goal.find-requires
+find-requires c = search (rules, lent_sought)
 
-pub returns-then-i-n : goal.returns-then-i-n
-returns-then-i-n c = search (rules, entered_old)
+pub returns-in-Some : goal.returns-in-Some
+returns-in-Some c = search (rules, entered_old, c.in-Some.ensures)
 
 pub returns-then-n-ge-MAX_SIDS : goal.returns-then-n-ge-MAX_SIDS
-returns-then-n-ge-MAX_SIDS c = search (rules, entered_full)
-
-pub slice_bounds-rank-end : goal.slice_bounds-rank-end
-slice_bounds-rank-end c = search (rules, end_in)
+returns-then-n-ge-MAX_SIDS c = search (rules, entered_full, c.in_default.ensures)
 
 pub slice_bounds-rank-end-2 : goal.slice_bounds-rank-end-2
 slice_bounds-rank-end-2 c = search (rules, all_in)
@@ -37,4 +34,4 @@ pub add-requires : goal.add-requires
 add-requires c = (size c.args.sids.now c.args.x.now c.requires.0 c.requires.1, row_wide c.args.sids.now c.args.x.now c.requires.0 c.requires.1, search (rules, rank_in), search rules)
 
 pub returns : goal.returns
-returns c = search (rules, entered_here)
+returns c = search (rules, entered_here, c.in_default.ensures)

@@ -9,8 +9,8 @@ returns-then-n-eq-ANONYMOUS c = search (rules, stands_first)
 pub returns-then-n-eq-SYSTEM : goal.returns-then-n-eq-SYSTEM
 returns-then-n-eq-SYSTEM c = search (rules, stands_second)
 
-pub returns-then-n-lt-OVER : goal.returns-then-n-lt-OVER
-returns-then-n-lt-OVER c = search (rules, stands_none)
+pub returns-then-n-lt-FIRST : goal.returns-then-n-lt-FIRST
+returns-then-n-lt-FIRST c = search (rules, stands_none)
 
 pub returns : goal.returns
 returns c = search (rules, stands_over)

@@ -9,11 +9,11 @@ returns-then-sids-ne-SIDS c = search (rules, number_size)
 pub returns-then-count : goal.returns-then-count
 returns-then-count c = search (rules, number_many)
 
-pub returns-then-not-is_number : goal.returns-then-not-is_number
-returns-then-not-is_number c = search (rules, number_none)
+pub returns-in_err-place : goal.returns-in_err-place
+returns-in_err-place c = rw c.from_residual.ensures (search (rules, number_none, c.in_err-place.ensures))
 
 pub returns-then-count-place : goal.returns-then-count-place
-returns-then-count-place c = search (rules, number_behind)
+returns-then-count-place c = search (rules, number_behind, c.in_ok-place.ensures)
 
 pub returns : goal.returns
-returns c = search (rules, number_wrote)
+returns c = search (rules, number_wrote, c.in_ok-place.ensures)

@@ -1,7 +1,7 @@
 -- sid::packed::four meets its contract. Assumes nothing.
 use borrow.Author.Rules.{rules}
-use Rattle.sid.proofs.Reading.{four_value, four_below}
+use Rattle.sid.proofs.Reading.{four_value}
 use Rattle.sid.proofs.packed.four.Goals as goal
 
 pub returns : goal.returns
-returns c = (search (rules, four_value), search (rules, four_below))
+returns c = search (rules, four_value)

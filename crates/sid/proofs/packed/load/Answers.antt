@@ -12,8 +12,8 @@ overflow_add-at c = search (rules, load_place)
 pub four-requires-2 : goal.four-requires-2
 four-requires-2 c = search (rules, load_high)
 
-pub overflow_add-at-2 : goal.overflow_add-at-2
-overflow_add-at-2 c = search (rules, load_next)
+pub overflow_add-n : goal.overflow_add-n
+overflow_add-n c = search (rules, load_next)
 
 pub bounds-s-at : goal.bounds-s-at
 bounds-s-at c = search (rules, load_one)

@@ -1,19 +1,13 @@
 -- sid::packed::sub_at meets its contract. Assumes nothing.
 use borrow.Author.Rules.{rules}
-use Rattle.sid.proofs.Reading.{sub_start, sub_fits, sub_room, sub_there, sub_none}
+use Rattle.sid.proofs.Reading.{sub_room, sub_there, sub_none}
 use Rattle.sid.proofs.packed.sub_at.Goals as goal
-
-pub overflow_add-at : goal.overflow_add-at
-overflow_add-at c = search (rules, sub_start)
-
-pub overflow_add-at-then-i-n : goal.overflow_add-at-then-i-n
-overflow_add-at-then-i-n c = search (rules, sub_fits)
 
 pub four-requires : goal.four-requires
 four-requires c = search (rules, sub_room)
 
 pub returns-then-i-n : goal.returns-then-i-n
-returns-then-i-n c = (search (rules, sub_there), search rules)
+returns-then-i-n c = search (rules, sub_there)
 
 pub returns-else-i-n : goal.returns-else-i-n
-returns-else-i-n c = (search (rules, sub_none), search rules)
+returns-else-i-n c = search (rules, sub_none)

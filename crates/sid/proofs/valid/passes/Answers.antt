@@ -12,14 +12,8 @@ returns-then-count c = search (rules, part_many)
 pub returns-then-not-all_below : goal.returns-then-not-all_below
 returns-then-not-all_below c = search (rules, part_places)
 
-pub rows_valid-requires : goal.rows_valid-requires
-rows_valid-requires c = search (rules, size_rows)
-
 pub rises-requires : goal.rises-requires
 rises-requires c = (search (rules, size_rows), search (rules, some_places), search (rules, places_below))
-
-pub starts-requires : goal.starts-requires
-starts-requires c = search (rules, size_rows)
 
 pub returns : goal.returns
 returns c = search (rules, part_tests)

@@ -1,10 +1,7 @@
 -- `framed` meets its contract: a law for each return. Assumes nothing.
 use borrow.Author.Rules.{rules}
-use Rattle.stream.proofs.Framing.{starts_within, length_unread, length_invalid, body_short, body_full}
+use Rattle.stream.proofs.Framing.{length_unread, length_invalid, body_short, body_full}
 use Rattle.stream.proofs.frame.framed.Goals as goal
-
-pub overflow_sub-count : goal.overflow_sub-count
-overflow_sub-count c = search (rules, starts_within)
 
 pub returns-in-Unread : goal.returns-in-Unread
 returns-in-Unread c = search (rules, length_unread)

@@ -1,7 +1,8 @@
--- The parts that were lent come back as the slot's rows. Assumes nothing.
+-- A free slot's rows are zeros. Assumes nothing.
 use Rattle.std.proofs.Common.{rules}
-use Rattle.table.specs.Table.{put_lent}
+use Rattle.rules.specs.Memory.{slot_row, slot_dacl}
 use Rattle.token.proofs.slots.clear_at.Goals as goal
 
 pub returns : goal.returns
-returns c = search (rules, put_lent)
+unfolding slot_row slot_dacl
+returns c = search rules

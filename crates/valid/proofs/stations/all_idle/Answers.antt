@@ -1,16 +1,14 @@
 -- valid::stations::all_idle meets its contract: its loop tests each row. Assumes nothing.
-use Prim.Native.Nat.{ℕ}
+use native.Mathlib.Omega.{arith}
 use borrow.Author.Rules.{rules}
-use Rattle.table.specs.Rows.{rows_none, rows_more, rows_done}
-use Rattle.rules.specs.Memory.{station_words}
-use Rattle.valid.specs.Tests.{idle_test}
+use Rattle.lists.proofs.Rows.{chunks_begin, chunks_step, chunks_end}
 use Rattle.valid.proofs.stations.all_idle.Goals as goal
 
-pub loop-i-init : goal.loop-i-init
-loop-i-init c = rows_none _ _ _ _ _ _
+pub loop-row-init : goal.loop-row-init
+loop-row-init c = search (rules, chunks_begin)
 
-pub loop-i-preserved : goal.loop-i-preserved
-loop-i-preserved c = search (rules, rows_more {B = ℕ} (λ row none. idle_test row) station_words 0)
+pub loop-row-preserved : goal.loop-row-preserved
+loop-row-preserved c = chunks_step _ _ _ _ c.in-Some.row c.loop-row.invariant (omega arith) c.in-Some.ensures.steps c.is_idle-ok.ensures
 
 pub returns : goal.returns
-returns c = search (rules, rows_done)
+returns c = chunks_end _ _ _ _ c.loop-row.invariant c.in-None.ensures.steps

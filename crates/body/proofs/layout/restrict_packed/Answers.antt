@@ -1,7 +1,0 @@
--- Five numbers and two lists. Assumes nothing.
-use borrow.Author.Rules.{rules}
-use Rattle.body.proofs.Bodies.{restrict_read}
-use Rattle.body.proofs.layout.restrict_packed.Goals as goal
-
-pub returns : goal.returns
-returns c = search (rules, restrict_read)

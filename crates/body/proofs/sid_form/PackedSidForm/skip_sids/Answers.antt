@@ -1,0 +1,16 @@
+-- `skip_sids` of packed SIDs meets its contract: the loop is Skipping's. Assumes nothing.
+use borrow.Author.Rules.{rules}
+use Rattle.body.proofs.Skipping.{skip_starts, skip_next, skip_lost, skip_ends}
+use Rattle.body.proofs.sid_form.PackedSidForm.skip_sids.Goals as goal
+
+pub loop-init : goal.loop-init
+loop-init c = search (rules, skip_starts)
+
+pub returns-in_err-skip_packed : goal.returns-in_err-skip_packed
+returns-in_err-skip_packed c = search (rules, skip_lost)
+
+pub loop-preserved : goal.loop-preserved
+loop-preserved c = search (rules, skip_next)
+
+pub returns : goal.returns
+returns c = search (rules, skip_ends)

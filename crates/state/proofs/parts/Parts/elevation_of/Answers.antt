@@ -1,0 +1,10 @@
+-- By its row, or none. Assumes nothing.
+use borrow.Author.Rules.{rules}
+use Rattle.state.proofs.TokenScalars.{elevation_given, unelevated}
+use Rattle.state.proofs.parts.Parts.elevation_of.Goals as goal
+
+pub returns-in-Some : goal.returns-in-Some
+returns-in-Some c = search (rules, elevation_given)
+
+pub returns-in-None : goal.returns-in-None
+returns-in-None c = search (rules, unelevated)

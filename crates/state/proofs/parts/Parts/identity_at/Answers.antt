@@ -1,0 +1,10 @@
+-- By its row, or none. Assumes nothing.
+use borrow.Author.Rules.{rules}
+use Rattle.state.proofs.TokenScalars.{identity_at_lem, no_identity}
+use Rattle.state.proofs.parts.Parts.identity_at.Goals as goal
+
+pub returns-in-Some : goal.returns-in-Some
+returns-in-Some c = search (rules, identity_at_lem)
+
+pub returns-in-None : goal.returns-in-None
+returns-in-None c = search (rules, no_identity)

@@ -1,7 +1,0 @@
--- What is freed in the state with the new client is what the rules' sweep frees. Assumes nothing.
-use borrow.Author.Rules.{rules}
-use Rattle.state.proofs.ReleaseLaws.{acts_from}
-use Rattle.state.proofs.release.act_for.Goals as goal
-
-pub returns : goal.returns
-returns c = search (rules, acts_from)
