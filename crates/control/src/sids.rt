@@ -7,6 +7,7 @@ ghost use Rattle.control.specs.Sids.{SidCount, SidsCopied, SidsSet, SidWritten};
 use crate::layout::*;
 use sid::layout::SIDS;
 use sid::number::write_number;
+use table::slices::copy;
 
 // How many SIDs stand in the table.
 pub fn count(control: &[u64]) -> u64
@@ -22,7 +23,7 @@ pub fn copied(control: &[u64]) -> [u64; SIDS]
     ensures { SidsCopied control.now result }
 {
     let mut sids = [0u64; SIDS];
-    sids.copy_from_slice(&control[SIDS_AT..SIDS_END]);
+    copy(&control[SIDS_AT..SIDS_END], &mut sids);
     sids
 }
 
@@ -30,7 +31,7 @@ pub fn set(sids: &[u64], control: &mut [u64])
     requires { (length sids.now ≡ sid_words) × (length control.old ≡ control_words) }
     ensures { SidsSet sids.now control.old control.new }
 {
-    control[SIDS_AT..SIDS_END].copy_from_slice(sids);
+    copy(sids, &mut control[SIDS_AT..SIDS_END]);
 }
 
 // The packed form of the SID that has a number, and its size: None, and nothing written, where there is none or no room for it.

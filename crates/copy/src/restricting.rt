@@ -10,6 +10,7 @@ ghost use Rattle.copy.specs.Restricting.{so_many, Listed, SidAdded, is_kept, Ans
 use crate::numbers::Numbers;
 use body::fields::RestrictFields;
 use state::parts::Parts;
+use table::slices::copy;
 use token::layout::{GROUPS_END, MAX_RESTRICTING, RESTRICTING_COUNT, TOKEN_WORDS};
 
 // How many SIDs a list has and, where they fit a token, the SIDs and zeros behind them: a row's words, which are copied as they are.
@@ -102,6 +103,6 @@ pub fn restrict_to(words: &mut [u64], list: Sids)
     requires { length words.old ≡ token_words }
     ensures { RestrictedTo list words.old words.new }
 {
-    words[GROUPS_END..].copy_from_slice(&list.words);
+    copy(&list.words, &mut words[GROUPS_END..]);
     words[RESTRICTING_COUNT] = list.count;
 }

@@ -5,6 +5,7 @@ ghost use Rattle.number.specs.Over.{Wrote};
 ghost use Rattle.number.specs.Answer.{max_fields, max_plain, body, answered};
 
 use crate::{size, write};
+use table::slices::copy;
 
 // How many bytes the fields take.
 pub fn sizes(fields: &[u64]) -> usize
@@ -37,7 +38,7 @@ fn write_body(fields: &[u64], plain: &[u8], out: &mut [u8]) -> usize
 {
     let at = write_all(fields, out);
     let end = at + plain.len();
-    out[at..end].copy_from_slice(plain);
+    copy(plain, &mut out[at..end]);
     end
 }
 

@@ -7,6 +7,7 @@ ghost use Rattle.number.specs.Meaning.{NumberAt};
 ghost use Rattle.number.specs.Reader.{rest_of, ReadOn, PassedOn};
 
 use crate::{Number, read, skip};
+use table::slices::copy;
 
 #[derive(Clone, Copy)]
 pub struct Reader<'a> {
@@ -70,5 +71,5 @@ pub fn bytes_at(body: &[u8], at: usize, out: &mut [u8])
     requires { at + length out.old ≤ length body.now }
     ensures { out.new ≡ take (length out.old) (drop at body.now) }
 {
-    out.copy_from_slice(&body[at..at + out.len()]);
+    copy(&body[at..at + out.len()], out);
 }

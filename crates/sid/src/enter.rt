@@ -6,6 +6,7 @@ ghost use Rattle.sid.specs.Finding.{added, EnteredAs, Rowed};
 
 use crate::find::{find, rank, shift};
 use crate::layout::*;
+use table::slices::copy;
 
 // x behind the last of n rows, where k are before it.
 fn add(sids: &mut [u64], x: &[u64], n: usize, k: usize)
@@ -15,7 +16,7 @@ fn add(sids: &mut [u64], x: &[u64], n: usize, k: usize)
     shift(&mut sids[PLACES..ROWS], n, k, n as u64);
     let at = ROWS + n * ROW_WORDS;
     let end = at + ROW_WORDS;
-    sids[at..end].copy_from_slice(x);
+    copy(x, &mut sids[at..end]);
     sids[0] = n as u64 + 1;
 }
 

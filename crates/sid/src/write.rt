@@ -6,6 +6,7 @@ ghost use Rattle.sid.specs.Reading.{Wrote};
 use crate::layout::ROW_WORDS;
 use crate::row::is_row;
 use table::WORD_32;
+use table::slices::copy;
 
 // Half i of a row's words.
 fn half(row: &[u64], i: usize) -> u32
@@ -38,7 +39,7 @@ pub fn write(row: &[u64], out: &mut [u8]) -> Option<usize>
     for i in 0..fours {
         let at = 4 * i;
         let end = at + 4;
-        out[at..end].copy_from_slice(&half(row, i).to_le_bytes());
+        copy(&half(row, i).to_le_bytes(), &mut out[at..end]);
     }
     Some(size)
 }

@@ -8,6 +8,7 @@ ghost use Rattle.stream.specs.Meaning.{JoinedAtOnce, Joined};
 pub mod frame;
 
 use frame::{MAX_BODY, framed, sure};
+use table::slices::copy;
 
 // A row of pending bytes: a frame's two length bytes and its body.
 pub const PENDING_BYTES: usize = MAX_BODY + 2;
@@ -34,7 +35,7 @@ fn join_at_once(chunk: &[u8], row: &mut [u8], count: usize) -> usize
     ensures { JoinedAtOnce chunk.now row.old count row.new result }
 {
     let k = sure(row, count).min(chunk.len() - 1);
-    row[count..count + k].copy_from_slice(&chunk[..k]);
+    copy(&chunk[..k], &mut row[count..count + k]);
     k
 }
 

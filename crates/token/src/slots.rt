@@ -12,6 +12,7 @@ ghost use Rattle.rules.specs.Memory.{token_words, slot_row, slot_dacl};
 ghost use Rattle.token.specs.Meaning.{slots_of};
 
 use crate::layout::{MAX_DACL, NUMBER, TOKEN_WORDS};
+use table::slices::copy;
 
 // The words of a free slot's row, and its DACL's bytes.
 const FREE_WORDS: [u64; TOKEN_WORDS] = [0; TOKEN_WORDS];
@@ -27,8 +28,8 @@ pub fn put_at(words: &[u64], bytes: &[u8], tokens: &mut [u64], dacls: &mut [u8],
     let end = at + TOKEN_WORDS;
     let from = slot * MAX_DACL;
     let till = from + MAX_DACL;
-    tokens[at..end].copy_from_slice(words);
-    dacls[from..till].copy_from_slice(bytes);
+    copy(words, &mut tokens[at..end]);
+    copy(bytes, &mut dacls[from..till]);
 }
 
 pub fn clear_at(tokens: &mut [u64], dacls: &mut [u8], slot: usize)

@@ -4,8 +4,8 @@ use borrow.Author.Rules.{rules}
 use Rattle.stream.proofs.Joining.{ends_within, joined_at_once}
 use Rattle.stream.proofs.join_at_once.Goals as goal
 
-pub slice_bounds-copy_from_slice-end : goal.slice_bounds-copy_from_slice-end
-slice_bounds-copy_from_slice-end c = search (rules, ends_within)
+pub slice_bounds-copy-end-2 : goal.slice_bounds-copy-end-2
+slice_bounds-copy-end-2 c = search (rules, ends_within)
 
 pub returns : goal.returns
-returns c = joined_at_once _ _ _ _ _ (omega arith) (omega arith) c.sure.ensures (omega arith) _ c.copy_from_slice.ensures.after (omega arith) (omega arith)
+returns c = joined_at_once _ _ _ _ _ (omega arith) (omega arith) c.sure.ensures (omega arith) _ c.copy.ensures (omega arith) (omega arith)

@@ -17,7 +17,7 @@ pub loop-i-init : goal.loop-i-init
 loop-i-init c = search (rules, writing_none)
 
 pub loop-i-preserved : goal.loop-i-preserved
-loop-i-preserved c = writing_more c.loop-i.invariant c.loop-i-test.true c.half.result _ c.half.ensures (c.copy_from_slice.ensures.after ∙ c.to_le_bytes.ensures)
+loop-i-preserved c = writing_more c.loop-i.invariant c.loop-i-test.true c.half.result _ c.half.ensures (c.copy.ensures ∙ c.to_le_bytes.ensures)
 
 pub returns : goal.returns
 returns c = search (rules, writing_done)
