@@ -78,6 +78,8 @@ module _ (ws : List ℕ) (i : ℕ) (h : i ≡ 0 → ⊥) where
           ∙ ap is_owner (sym (group_in_row t v q k (omega arith)))
           ∙ rw (lt-ltb k (length t.groups) (omega arith))
 
+pub ruleset owners = (owner_user, owner_past, owner_group)
+
 -- ---- all fields
 
 module _ (ws : List ℕ) (owner group flag size : ℕ) where

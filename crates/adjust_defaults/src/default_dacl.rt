@@ -11,6 +11,7 @@ use number::bytes_at;
 use token::layout::DACL_COUNT;
 
 // The bytes that stand at a place of a body, and then zeros.
+#[tactic(auto, using(crate::proofs::DefaultDacl::stored))]
 fn store(s: &[u8], at: usize, size: usize, out: &mut [u8])
     requires { (at + size ≤ length s.now) × (size ≤ max_dacl) × (length out.old ≡ max_dacl) }
     ensures { out.new ≡ pad max_dacl (take size (drop at s.now)) }

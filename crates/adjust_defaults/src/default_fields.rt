@@ -18,6 +18,7 @@ use token::{Group, row};
 const NO_CHANGE: u32 = 0xFFFF;
 
 // An owner index names the user or an OWNER group.
+#[tactic(auto, using(crate::proofs::DefaultFields::owners))]
 fn is_owner(words: &[u64], i: u32) -> bool
     requires { length words.now ≡ token_words }
     ensures { OwnerJudged i words.now result }

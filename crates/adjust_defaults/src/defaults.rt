@@ -34,11 +34,8 @@ pub fn adjust_defaults(
     let row_end = row + TOKEN_WORDS;
     let dacl = slot * MAX_DACL;
     let dacl_end = dacl + MAX_DACL;
-    default_fields::adjust(
-        f,
-        s,
-        &mut parts.tokens[row..row_end],
-        &mut parts.dacls[dacl..dacl_end],
-    )?;
+    let tokens = &mut *parts.tokens;
+    let dacls = &mut *parts.dacls;
+    default_fields::adjust(f, s, &mut tokens[row..row_end], &mut dacls[dacl..dacl_end])?;
     Ok(outcome::ends(Answer::Done))
 }

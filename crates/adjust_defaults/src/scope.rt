@@ -30,6 +30,7 @@ fn rescope(value: u32, words: &mut [u64])
 }
 
 // The token of that number gets another scope.
+#[tactic(auto, using(crate::proofs::ScopeEnding::scope_set, crate::proofs::ScopeEnding::scope_nowhere))]
 fn set_scope(parts: &mut Parts, token: u64, value: u32)
     ensures alone { WordsAlone parts.old parts.new }
     ensures changed { WordsChanged token (rules.scoped_token value) parts.old.tokens.now parts.new.tokens.now }
@@ -37,7 +38,8 @@ fn set_scope(parts: &mut Parts, token: u64, value: u32)
     if let Some(slot) = parts.slot_of(token) {
         let at = slot * TOKEN_WORDS;
         let end = at + TOKEN_WORDS;
-        rescope(value, &mut parts.tokens[at..end]);
+        let tokens = &mut *parts.tokens;
+        rescope(value, &mut tokens[at..end]);
     }
 }
 

@@ -8,7 +8,7 @@ use mathlib.Core.List.{List, [], ◌∷◌, map, map-map}
 use lib.Arith.{digits_div, digits_mod}
 use lib.Dec.{eqb, leb, ltb}
 use lib.ListN.{length, drop, get_or, set, length-map, get_or-map}
-use borrow.Author.Tests.{ltb-true}
+use borrow.Author.Tests.{ltb-true, not-true, not-false}
 use Rattle.std.specs.Prelude.{None, Some, Ok, Err, if◌then◌else◌}
 use Rattle.rules.specs.Basic.{all, change_at, word32}
 use Rattle.rules.specs.Number.{got, max32}
@@ -22,9 +22,9 @@ use Rattle.rules.proofs.Logic.{and_l}
 use Rattle.token.specs.Row.{on_word}
 use Rattle.answer.specs.declared.refusal.Refusal.TheVariants.{BadField, ProtectedGroup}
 use Rattle.body.specs.declared.entry.Entry as code
-use Rattle.body.specs.Entries.{entry_of, PairAt, is_just, fold_all, folded, Progress, going, stopped}
+use Rattle.body.specs.Entries.{entry_of, PairAt, is_just, fold_all, folded, Progress, going, stopped, passed}
 use Rattle.body.proofs.Folding.{count_end, count_lost, count_next}
-use Rattle.body.proofs.Passes.{whole}
+use Rattle.body.proofs.Passes.{whole, none_whole, some_whole}
 use Rattle.adjust_groups.specs.GroupEntries.{groups_in, may_entry, judging, judged, EntriesMade, GroupsSwitched}
 
 -- ---- a group's word
@@ -126,6 +126,8 @@ module _ {s : List ℕ} {start count : ℕ} {gw₀ gw : List ℕ} {at i : ℕ} (
     pub making_more : {e : code.Entry} → PairAt s at (Some e) → {gw' : List ℕ} → gw' ≡ change_at e.key (on_word (with_enabled (eqb e.value 1))) gw → Making s start count gw₀ gw' e.next (i + 1)
     making_more {e} f {gw'} d = record { rest = λ stop. count_next entry step stop s at count i gw _ (m.rest stop) h (entry_of e.key e.value) e.next f.means gw' d }
 
+pub ruleset making = (making_none, making_more, making_lost, making_done)
+
 -- ---- all of them
 
 all_judged : (user : ℕ) (gs : List Group) (es : List Entry) (f : Bool) → apply_all (judging user gs) es f ≡ (f && all (may_entry user gs) es)
@@ -166,7 +168,7 @@ module _ (user n : ℕ) (bytes gw : List ℕ) {j : Bool} (h : j ≡ is_just max3
         ∙ sym (verdict_if a b c (valid_entries good es) (all (may_entry user (groups_in gw)) es) (named es))
         ∙ rw (reset_or_not es later q ∙ f)
 
-    pub was_bad : stopped ≡ g → GroupsSwitched user n bytes gw gw (Err BadField)
+    was_bad : stopped ≡ g → GroupsSwitched user n bytes gw gw (Err BadField)
     was_bad s = record {
       answer = λ es later q. ap (verdict (Err BadField) (Err ProtectedGroup) (Ok (enabled_bits (groups_in gw)))) s ∙ told es later q (Err BadField) _ _;
       words = λ es later q. ap (verdict gw gw _) s ∙ told es later q gw gw _;
@@ -177,13 +179,13 @@ module _ (user n : ℕ) (bytes gw : List ℕ) {j : Bool} (h : j ≡ is_just max3
           → {A : Type 0} (a b c : A) → (if x then c else b) ≡ judged user (groups_in gw) es a b c
       free_told ex es later q a b c = ap (λ (y : Bool). if y then c else b) (sym ex) ∙ ap (verdict a b c) s ∙ told es later q a b c
 
-      pub was_protected : free ≡ false → GroupsSwitched user n bytes gw gw (Err ProtectedGroup)
+      was_protected : free ≡ false → GroupsSwitched user n bytes gw gw (Err ProtectedGroup)
       was_protected x = record {
         answer = λ es later q. free_told x es later q (Err BadField) (Err ProtectedGroup) (Ok (enabled_bits (groups_in gw)));
         words = λ es later q. free_told x es later q gw gw _;
       }
 
-      pub was_switched : free ≡ true → {p : ℕ} → p ≡ enabled_bits (groups_in gw) → {gw' : List ℕ} → EntriesMade n bytes gw gw' → GroupsSwitched user n bytes gw gw' (Ok p)
+      was_switched : free ≡ true → {p : ℕ} → p ≡ enabled_bits (groups_in gw) → {gw' : List ℕ} → EntriesMade n bytes gw gw' → GroupsSwitched user n bytes gw gw' (Ok p)
       unfolding adjusted
       was_switched x ep {gw'} m = record {
         answer = λ es later q. ap Ok ep ∙ free_told x es later q (Err BadField) (Err ProtectedGroup) (Ok (enabled_bits (groups_in gw)));
@@ -192,3 +194,19 @@ module _ (user n : ℕ) (bytes gw : List ℕ) {j : Bool} (h : j ≡ is_just max3
             ∙ ap (λ (y : Bool). map pack (if y then map reset_group (groups_in gw) else apply_all applied es (groups_in gw))) (sym (reset_or_not es later q ∙ f))
             ∙ free_told x es later q gw gw _;
       }
+
+  pub none_given : j ≡ false → n ≡ 0 → GroupsSwitched user n bytes gw gw (Err BadField)
+  none_given f z = was_bad f (none_whole _ _ _ _ _ z) refl
+
+  module _ (f : j ≡ false) (z : n ≡ 0 → ⊥) where
+    pub entry_bad : stopped ≡ passed (valid_entry (groups_in gw)) (judging user (groups_in gw)) true (times n entry bytes) → GroupsSwitched user n bytes gw gw (Err BadField)
+    entry_bad e = was_bad f (e ∙ some_whole _ _ _ _ _ z) refl
+
+    module _ {free : Bool} {w : ℕ} (e : going free w ≡ passed (valid_entry (groups_in gw)) (judging user (groups_in gw)) true (times n entry bytes)) where
+      pub one_protected : not free ≡ true → GroupsSwitched user n bytes gw gw (Err ProtectedGroup)
+      one_protected x = was_protected f (e ∙ some_whole _ _ _ _ _ z) refl (not-true free x)
+
+      pub all_switched : {gw' : List ℕ} → EntriesMade n bytes gw gw' → {p : ℕ} → p ≡ enabled_bits (groups_in gw) → not free ≡ false → GroupsSwitched user n bytes gw gw' (Ok p)
+      all_switched m ep x = was_switched f (e ∙ some_whole _ _ _ _ _ z) refl (not-false free x) ep m
+
+pub ruleset switching = (was_reset, none_given, entry_bad, one_protected)

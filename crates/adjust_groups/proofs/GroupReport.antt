@@ -24,22 +24,26 @@ use Rattle.rules.proofs.Answers.{bits_below}
 abbrev bit_of : ℕ → ℕ
 bit_of w = if is_enabled (unpack w) then 1 else 0
 
-abbrev pub one_more : ℕ → ℕ → ℕ
+abbrev one_more : ℕ → ℕ → ℕ
 one_more bits w = bit_or (bits * 2 % 2 ^ 64) (bit_of w)
 
 joined : (a : ℕ) (b : Bool) → bit_or (a * 2) (if b then 1 else 0) ≡ (if b then 1 else 0) + 2 * a
 joined a true = omega (arith, or_add_and (a * 2) 1, and_mask (a * 2) 1)
 joined a false = or_zero_r (a * 2) ∙ omega arith
 
-pub all_bits : (gw : List ℕ) → length gw ≤ max_groups → fold one_more 0 (reverse gw) ≡ enabled_bits (map unpack gw)
+all_bits_folded : (gw : List ℕ) → length gw ≤ max_groups → fold one_more 0 (reverse gw) ≡ enabled_bits (map unpack gw)
 unfolding enabled_bits
-all_bits [] h = refl
-all_bits (w ∷ gw) h =
+all_bits_folded [] h = refl
+all_bits_folded (w ∷ gw) h =
     let gs = map unpack gw in
     let s : length gs ≤ 63 = omega (arith, length-map gw unpack) in
-    ap (fold one_more 0) (reverse_onto gw w []) ∙ fold-append one_more 0 (reverse gw) (w ∷ []) ∙ ap (λ (x : ℕ). one_more x w) (all_bits gw (omega arith))
+    ap (fold one_more 0) (reverse_onto gw w []) ∙ fold-append one_more 0 (reverse gw) (w ∷ []) ∙ ap (λ (x : ℕ). one_more x w) (all_bits_folded gw (omega arith))
     ∙ ap (λ (x : ℕ). bit_or x (bit_of w)) {x = enabled_bits gs * 2 % 2 ^ 64} {y = enabled_bits gs * 2} (omega (arith, bits_below gs, pow_mono s))
     ∙ joined (enabled_bits gs) (is_enabled (unpack w))
+
+pub all_bits : (gw : List ℕ) → length gw ≤ max_groups → {r : ℕ} → r ≡ fold (λ bits w. bit_or (bits * 2 % 2 ^ 64) (if is_enabled (unpack w) then 1 else 0)) 0 (reverse gw)
+    → r ≡ enabled_bits (map unpack gw)
+all_bits gw h e = e ∙ all_bits_folded gw h
 
 -- ---- the words
 

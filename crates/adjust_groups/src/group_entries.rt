@@ -21,6 +21,7 @@ struct Progress {
     named: u64,
 }
 
+#[tactic(auto, using(crate::proofs::GroupEntries::named_group))]
 fn is_unprotected(user: u32, e: Entry, groups: &[u64]) -> bool
     requires { e.key < length groups.now }
     ensures { result ≡ may_entry user (groups_in groups.now) (entry_of e.key e.value) }
@@ -61,6 +62,7 @@ fn judge(user: u32, s: &[u8], start: usize, count: u32, groups: &[u64]) -> Optio
 }
 
 // The entries are good.
+#[tactic(auto, using(crate::proofs::GroupEntries::making))]
 fn make(s: &[u8], start: usize, count: u32, groups: &mut [u64])
     ensures { EntriesMade count (drop start s.now) groups.old groups.new }
 {
@@ -76,6 +78,7 @@ fn make(s: &[u8], start: usize, count: u32, groups: &mut [u64])
 
 // The count entries that stand at a place of a body, and the ENABLED bits from before. A bad entry goes before a protected one, wherever
 // it stands; none is no good request.
+#[tactic(auto, using(crate::proofs::GroupEntries::switching))]
 pub fn adjust(
     user: u32,
     s: &[u8],

@@ -64,6 +64,7 @@ pub fn reset_all(groups: &mut [u64])
 }
 
 // Past the last group there is nothing to set. Not by `get_mut`: std does not say what the slice holds after a write through it.
+#[tactic(auto, using(crate::proofs::GroupEntries::word_set, crate::proofs::GroupEntries::word_past))]
 pub fn set_enabled_at(key: u64, on: bool, groups: &mut [u64])
     ensures { groups.new ≡ change_at key (on_word (with_enabled on)) groups.old }
 {
@@ -74,6 +75,7 @@ pub fn set_enabled_at(key: u64, on: bool, groups: &mut [u64])
 }
 
 // The ENABLED bits, group i at bit i.
+#[tactic(auto, using(crate::proofs::GroupReport::all_bits))]
 pub fn enabled_word(groups: &[u64]) -> u64
     requires { length groups.now ≤ max_groups }
     ensures { result ≡ enabled_bits (groups_in groups.now) }

@@ -23,6 +23,7 @@ mod group_entries;
 mod group_words;
 
 // The count entries that stand at a place of a body, on the token in a row.
+#[tactic(auto, using(crate::proofs::GroupsEnding::row_switched))]
 fn adjust_row(s: &[u8], at: usize, count: u32, words: &mut [u64]) -> Result<Answer, Refusal>
     requires { length words.old ≡ token_words }
     ensures { RowSwitched count (drop at s.now) words.old words.new result }
@@ -46,6 +47,7 @@ pub fn adjust_groups(
     let x = locate(parts, station, f.handle, Mask::ADJUST_GROUPS)?;
     let from = x.slot * TOKEN_WORDS;
     let end = from + TOKEN_WORDS;
-    let answer = adjust_row(s, f.at, f.count, &mut parts.tokens[from..end])?;
+    let tokens = &mut *parts.tokens;
+    let answer = adjust_row(s, f.at, f.count, &mut tokens[from..end])?;
     Ok(outcome::ends(answer))
 }

@@ -60,5 +60,14 @@ module _ (p : Privileges) where
     none_given f z = ap finished (none_whole (valid_entry p) applied p n bytes z) ∙ whole_judged (times n entry bytes) (sym f ∙ h)
 
     -- g is what the pass made
-    pub was_passed : j ≡ false → (n ≡ 0 → ⊥) → (g : Progress Privileges) → g ≡ passed (valid_entry p) applied p (times n entry bytes) → finished g ≡ judged p (times n entry bytes)
+    was_passed : j ≡ false → (n ≡ 0 → ⊥) → (g : Progress Privileges) → g ≡ passed (valid_entry p) applied p (times n entry bytes) → finished g ≡ judged p (times n entry bytes)
     was_passed f z g e = ap finished (e ∙ some_whole (valid_entry p) applied p n bytes z) ∙ whole_judged (times n entry bytes) (sym f ∙ h)
+
+    pub was_stopped : j ≡ false → (n ≡ 0 → ⊥) → stopped ≡ passed (valid_entry p) applied p (times n entry bytes) → refused ≡ judged p (times n entry bytes)
+    was_stopped f z e = was_passed f z stopped e
+
+    pub was_made : j ≡ false → (n ≡ 0 → ⊥) → {q : Privileges} {w : ℕ} → going q w ≡ passed (valid_entry p) applied p (times n entry bytes)
+        → done q (bit_and p.present w) (bit_and p.enabled w) ≡ judged p (times n entry bytes)
+    was_made f z {q} {w} e = was_passed f z (going q w) e
+
+pub ruleset judging = (was_reset, none_given, was_stopped, was_made)

@@ -24,6 +24,7 @@ use token::row;
 mod privilege_entries;
 
 // The count entries that stand at a place of a body, on the token in a row.
+#[tactic(auto, using(crate::proofs::PrivilegesEnding::bad_entry, crate::proofs::PrivilegesEnding::adjusts))]
 fn adjust_row(s: &[u8], at: usize, count: u32, words: &mut [u64]) -> Result<Answer, Refusal>
     requires { length words.old ≡ token_words }
     ensures { RowEnds (privileges_ending (times count entry (drop at s.now))) words.old words.new (told result) }
@@ -49,6 +50,7 @@ pub fn adjust_privileges(
     let x = locate(parts, station, f.handle, Mask::ADJUST_PRIVILEGES)?;
     let from = x.slot * TOKEN_WORDS;
     let end = from + TOKEN_WORDS;
-    let answer = adjust_row(s, f.at, f.count, &mut parts.tokens[from..end])?;
+    let tokens = &mut *parts.tokens;
+    let answer = adjust_row(s, f.at, f.count, &mut tokens[from..end])?;
     Ok(outcome::ends(answer))
 }

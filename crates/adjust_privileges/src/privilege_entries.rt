@@ -55,6 +55,7 @@ fn pass(p: Privileges, s: &[u8], start: usize, count: u32) -> Option<Progress>
 }
 
 // The count entries that stand at a place of a body; none is no good request.
+#[tactic(auto, using(crate::proofs::PrivilegeEntries::judging))]
 pub fn adjust(p: Privileges, s: &[u8], at: usize, count: u32) -> Option<Adjusted>
     ensures { outcome_of result ≡ judged (privileges_of p) (times count entry (drop at s.now)) }
 {

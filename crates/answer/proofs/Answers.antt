@@ -6,11 +6,13 @@ use mathlib.Core.Bool.{true}
 use mathlib.Core.List.{List, [], ◌∷◌, ◌++◌, append-nil}
 use lib.Seq.{get_or-take, get_or-drop}
 use lib.ListN.{length, take, drop, get_or, replicate, length-append}
-use Rattle.table.specs.Table.{nth_record, part_at}
+use Rattle.std.specs.Simd.{first_chunks}
+use Rattle.table.specs.Table.{nth_record}
+use Rattle.table.specs.Chunks.{chunk_at}
 use Rattle.rules.specs.Number.{encode, encode_in, encode_all}
 use Rattle.rules.specs.Frame.{frame, max_answer}
 use Rattle.rules.specs.Refusal.{refusal, capacity_below}
-use Rattle.rules.specs.Token.{max_dacl}
+use Rattle.rules.specs.Token.{Token, max_dacl}
 use Rattle.rules.specs.Head as Head
 use Rattle.rules.specs.Memory.{token_words, token_at}
 use Rattle.rules.specs.Valid.{token_valid}
@@ -132,17 +134,27 @@ module _ (ws bs o : List ℕ) (n : ℕ) (l : length bs ≡ max_dacl) (c : n ≡ 
       → WroteFrame (0 ∷ class_bytes (token_at ws bs) 6) o o' r
   dacl_framed = framed (0 ∷ class_bytes (token_at ws bs) 6) (0 ∷ n ∷ []) (take n bs) o same_dacl fits
 
--- the row in a slot, of words that are below 2^64
-module _ (ts ds o : List ℕ) (slot class : ℕ) (below : (i : ℕ) → get_or ts i 0 < 2 ^ 64) where
-  pub class_room : token_valid (token_in ts ds slot) ≡ true → max_answer ≤ length o
-      → Room (0 ∷ class_bytes (token_at (take (slot * token_words + token_words - slot * token_words) (drop (slot * token_words) ts)) (take (slot * max_dacl + max_dacl - slot * max_dacl) (drop (slot * max_dacl) ds))) class) o
+-- a slot's rows, as chunks of the tables
+module _ (ts ds : List ℕ) (rows dacls : List (List ℕ)) (slot m k : ℕ) (e : rows ≡ first_chunks token_words m ts) (f : dacls ≡ first_chunks max_dacl k ds) (h : slot < m) (l : slot < k) where
+  slot_token : token_at (get_or rows slot []) (get_or dacls slot []) ≡ token_in ts ds slot
+  slot_token =
+      ap₂ token_at (ap (λ (x : List (List ℕ)). get_or x slot []) e ∙ chunk_at token_words [] m slot ts h)
+      (ap (λ (x : List (List ℕ)). get_or x slot []) f ∙ chunk_at max_dacl [] k slot ds l)
+
+  -- of words that are below 2^64
+  pub class_room : (class : ℕ) (o : List ℕ) → ((i : ℕ) → get_or ts i 0 < 2 ^ 64) → token_valid (token_in ts ds slot) ≡ true → max_answer ≤ length o
+      → Room (0 ∷ class_bytes (token_at (get_or rows slot []) (get_or dacls slot [])) class) o
   unfolding token_at nth_record
-  class_room v room =
+  class_room class o below v room =
       let t = token_in ts ds slot in
       let number : t.number < 2 ^ 64 =
       rw (get_or-take token_words (drop (slot * token_words) ts) 0 0 (omega arith) ∙ get_or-drop (slot * token_words) ts 0 0) (below (slot * token_words + 0)) in
-      let l = frame_fits (0 ∷ class_bytes t class) (omega (arith, class_fits t number (token_facts t v) class)) in
-      rw (part_at token_words slot ts, part_at max_dacl slot ds) (omega arith)
+      let w = frame_fits (0 ∷ class_bytes t class) (omega (arith, class_fits t number (token_facts t v) class)) in
+      omega (arith, ap (λ (x : Token). length (frame (0 ∷ class_bytes x class))) slot_token)
+
+  pub slot_wrote : (class : ℕ) {o o' : List ℕ} {r : ℕ} → WroteFrame (0 ∷ class_bytes (token_at (get_or rows slot []) (get_or dacls slot [])) class) o o' r
+      → WroteFrame (0 ∷ class_bytes (token_in ts ds slot) class) o o' r
+  slot_wrote class w = wrote_same (ap (λ (x : Token). 0 ∷ class_bytes x class) slot_token) w
 
 -- ---- a refusal
 

@@ -166,3 +166,11 @@ counted_dacl {ws} {n} c e = record {
       ∙ sym (length-append (encode n) (take n bs))
       ∙ ap length (dacl_bytes ws bs n l c);
 }
+
+-- ---- what the functions name
+
+pub ruleset sids = (user_sid, no_sid, group_sid)
+
+pub ruleset ones = (one, one_sid)
+
+pub ruleset counts = (counted_one, counted_privileges, counted_numbers)

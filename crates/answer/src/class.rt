@@ -1,7 +1,7 @@
 // Request 4: what a query answers of a token's row, and how long that is. Most classes are one number.
 ghost use Rattle.std.specs.Prelude.{◌≡◌, ◌≤◌, ◌*◌, ◌∷◌, length, map, sum_by};
 ghost use Rattle.rules.specs.Token.{max_groups, max_restricting};
-ghost use Rattle.rules.specs.Memory.{low32, token_words, unpack, groups_at, limits_at};
+ghost use Rattle.rules.specs.Memory.{low32, unpack, groups_at, limits_at};
 ghost use Rattle.answer.specs.Class.{single_number, class_number, Decodes};
 ghost use Rattle.answer.specs.Classes.{pair_size, sid_size, statistics, RowSid, RowOne, RowCounted};
 
@@ -60,16 +60,16 @@ impl TryFrom<u32> for Class {
 
 // ---- the words of a row's lists
 
-pub(crate) fn groups(words: &[u64]) -> &[u64]
-    requires { length words.now ≡ token_words }
+#[tactic(auto, using(crate::proofs::Classes::groups_read))]
+pub(crate) fn groups(words: &[u64; TOKEN_WORDS]) -> &[u64]
     ensures { (map unpack result.now ≡ groups_at words.now) × (length result.now ≤ max_groups) }
 {
     let n = row::count_in(words, GROUP_COUNT, MAX_GROUPS);
     &words[HEAD_WORDS..HEAD_WORDS + n]
 }
 
-pub(crate) fn restricting(words: &[u64]) -> &[u64]
-    requires { length words.now ≡ token_words }
+#[tactic(auto, using(crate::proofs::Classes::restricting_read))]
+pub(crate) fn restricting(words: &[u64; TOKEN_WORDS]) -> &[u64]
     ensures { (map low32 result.now ≡ (limits_at words.now).restricting) × (length result.now ≤ max_restricting) }
 {
     let n = row::count_in(words, RESTRICTING_COUNT, MAX_RESTRICTING);
@@ -77,8 +77,7 @@ pub(crate) fn restricting(words: &[u64]) -> &[u64]
 }
 
 // The success, and class 9.
-pub(crate) fn statistics(words: &[u64]) -> [u64; 6]
-    requires { length words.now ≡ token_words }
+pub(crate) fn statistics(words: &[u64; TOKEN_WORDS]) -> [u64; 6]
     ensures { result ≡ 0 ∷ statistics words.now }
 {
     [
@@ -94,8 +93,8 @@ pub(crate) fn statistics(words: &[u64]) -> [u64; 6]
 // ---- the classes of one number
 
 // A SID's index is 0 for the user, k for group k - 1.
-fn sid_at(words: &[u64], index: u64) -> u64
-    requires { length words.now ≡ token_words }
+#[tactic(auto, using(crate::proofs::Classes::sids))]
+fn sid_at(words: &[u64; TOKEN_WORDS], index: u64) -> u64
     ensures { RowSid words.now index result }
 {
     if index == 0 {
@@ -107,8 +106,8 @@ fn sid_at(words: &[u64], index: u64) -> u64
     }
 }
 
-pub fn one(words: &[u64], class: Single) -> u64
-    requires { length words.now ≡ token_words }
+#[tactic(auto, using(crate::proofs::Classes::ones), unfolding(rules::specs::Query::class_bytes, rules::specs::Query::classes, rules::specs::Memory::token_at, rules::specs::Memory::identity_at, rules::specs::Memory::defaults_at))]
+pub fn one(words: &[u64; TOKEN_WORDS], class: Single) -> u64
     ensures { RowOne words.now (single_number class) result }
 {
     match class {
@@ -126,6 +125,7 @@ pub fn one(words: &[u64], class: Single) -> u64
 // ---- how many bytes follow the status
 
 // The numbers of groups.
+#[tactic(auto, using(crate::proofs::Classes::pairs_few))]
 fn pairs_size(groups: &[u64]) -> usize
     requires { length groups.now ≤ max_groups }
     ensures { (result ≡ sum_by pair_size groups.now) × (result ≤ 20 * max_groups) }
@@ -137,6 +137,7 @@ fn pairs_size(groups: &[u64]) -> usize
 }
 
 // The numbers of restricting SIDs.
+#[tactic(auto, using(crate::proofs::Classes::sids_few))]
 fn sids_size(sids: &[u64]) -> usize
     requires { length sids.now ≤ max_restricting }
     ensures { (result ≡ sum_by sid_size sids.now) × (result ≤ 10 * max_restricting) }
@@ -144,32 +145,32 @@ fn sids_size(sids: &[u64]) -> usize
     sids.iter().map(|w| number::size(w % WORD_32)).sum()
 }
 
-fn groups_size(words: &[u64]) -> usize
-    requires { length words.now ≡ token_words }
+#[tactic(auto, using(crate::proofs::Classes::groups_counted))]
+fn groups_size(words: &[u64; TOKEN_WORDS]) -> usize
     ensures { RowCounted words.now 2 result }
 {
     let groups = groups(words);
     number::size(groups.len() as u64) + pairs_size(groups)
 }
 
-fn restricting_size(words: &[u64]) -> usize
-    requires { length words.now ≡ token_words }
+#[tactic(auto, using(crate::proofs::Classes::sids_counted))]
+fn restricting_size(words: &[u64; TOKEN_WORDS]) -> usize
     ensures { RowCounted words.now 10 result }
 {
     let sids = restricting(words);
     number::size(sids.len() as u64) + sids_size(sids)
 }
 
-fn dacl_size(words: &[u64]) -> usize
-    requires { length words.now ≡ token_words }
+#[tactic(auto, using(crate::proofs::Classes::counted_dacl))]
+fn dacl_size(words: &[u64; TOKEN_WORDS]) -> usize
     ensures { RowCounted words.now 6 result }
 {
     let n = row::count_in(words, DACL_COUNT, MAX_DACL);
     number::size(n as u64) + n
 }
 
-pub fn size(words: &[u64], class: Class) -> usize
-    requires { length words.now ≡ token_words }
+#[tactic(auto, using(crate::proofs::Classes::counts), unfolding(rules::specs::Query::class_bytes, rules::specs::Query::classes, rules::specs::Memory::token_at, rules::specs::Memory::identity_at))]
+pub fn size(words: &[u64; TOKEN_WORDS], class: Class) -> usize
     ensures { RowCounted words.now (class_number class) result }
 {
     match class {

@@ -1,12 +1,11 @@
 // What a request answers, and the frame that it is written as.
 #![tactic(auto)]
 
-ghost use Rattle.std.specs.Prelude.{◌≡◌, true, [], ◌∷◌, ◌*◌, ◌-◌, ◌≤◌, ◌<◌, length, take, replicate};
+ghost use Rattle.std.specs.Prelude.{◌≡◌, true, [], ◌∷◌, ◌-◌, ◌≤◌, ◌<◌, length, replicate};
 ghost use Rattle.rules.specs.Number.{encode_all};
 ghost use Rattle.rules.specs.Frame.{max_answer};
-ghost use Rattle.rules.specs.Token.{max_dacl};
 ghost use Rattle.rules.specs.State.{token_slots};
-ghost use Rattle.rules.specs.Memory.{token_words, token_at};
+ghost use Rattle.rules.specs.Memory.{token_at};
 ghost use Rattle.rules.specs.Valid.{token_valid};
 ghost use Rattle.rules.specs.AdjustGroups.{report_words};
 ghost use Rattle.rules.specs.Query.{class_bytes};
@@ -59,6 +58,7 @@ fn put_all(fields: &[u64], out: &mut [u8]) -> usize
 }
 
 // The frame of up to three numbers.
+#[tactic(auto, using(crate::proofs::Answers::put_room))]
 fn put(fields: &[u64], out: &mut [u8]) -> usize
     requires { (length fields.now ≤ 3) × (max_answer ≤ length out.old) }
     ensures { WroteFrame (encode_all fields.now) out.old out.new result }
@@ -88,8 +88,8 @@ fn put_report(word: u64, out: &mut [u8]) -> usize
 
 // ---- a class of a row
 
-fn put_privileges(words: &[u64], out: &mut [u8]) -> usize
-    requires { (length words.now ≡ token_words) × Room (encode_all (0 ∷ privilege_words words.now)) out.old }
+fn put_privileges(words: &[u64; TOKEN_WORDS], out: &mut [u8]) -> usize
+    requires { Room (encode_all (0 ∷ privilege_words words.now)) out.old }
     ensures { WroteFrame (encode_all (0 ∷ privilege_words words.now)) out.old out.new result }
 {
     let fields = [
@@ -102,16 +102,16 @@ fn put_privileges(words: &[u64], out: &mut [u8]) -> usize
     put_all(&fields, out)
 }
 
-fn put_dacl(words: &[u64], dacl: &[u8], out: &mut [u8]) -> usize
-    requires { (length words.now ≡ token_words) × (length dacl.now ≡ max_dacl) × Room (0 ∷ class_bytes (token_at words.now dacl.now) 6) out.old }
+fn put_dacl(words: &[u64; TOKEN_WORDS], dacl: &[u8; MAX_DACL], out: &mut [u8]) -> usize
+    requires { Room (0 ∷ class_bytes (token_at words.now dacl.now) 6) out.old }
     ensures { WroteFrame (0 ∷ class_bytes (token_at words.now dacl.now) 6) out.old out.new result }
 {
     let n = row::count_in(words, DACL_COUNT, MAX_DACL);
     number::answer(&[0, n as u64], &dacl[..n], out)
 }
 
-fn put_groups(words: &[u64], out: &mut [u8]) -> usize
-    requires { (length words.now ≡ token_words) × Room (encode_all (0 ∷ group_numbers words.now)) out.old }
+fn put_groups(words: &[u64; TOKEN_WORDS], out: &mut [u8]) -> usize
+    requires { Room (encode_all (0 ∷ group_numbers words.now)) out.old }
     ensures { WroteFrame (encode_all (0 ∷ group_numbers words.now)) out.old out.new result }
 {
     let groups = class::groups(words);
@@ -124,8 +124,8 @@ fn put_groups(words: &[u64], out: &mut [u8]) -> usize
     put_all(&fields[..2 * groups.len() + 2], out)
 }
 
-fn put_sids(words: &[u64], out: &mut [u8]) -> usize
-    requires { (length words.now ≡ token_words) × Room (encode_all (0 ∷ sid_numbers words.now)) out.old }
+fn put_sids(words: &[u64; TOKEN_WORDS], out: &mut [u8]) -> usize
+    requires { Room (encode_all (0 ∷ sid_numbers words.now)) out.old }
     ensures { WroteFrame (encode_all (0 ∷ sid_numbers words.now)) out.old out.new result }
 {
     let sids = class::restricting(words);
@@ -137,8 +137,13 @@ fn put_sids(words: &[u64], out: &mut [u8]) -> usize
     put_all(&fields[..sids.len() + 2], out)
 }
 
-fn put_class(words: &[u64], dacl: &[u8], class: Class, out: &mut [u8]) -> usize
-    requires { (length words.now ≡ token_words) × (length dacl.now ≡ max_dacl) × (max_answer ≤ length out.old) × Room (0 ∷ class_bytes (token_at words.now dacl.now) (class_number class)) out.old }
+fn put_class(
+    words: &[u64; TOKEN_WORDS],
+    dacl: &[u8; MAX_DACL],
+    class: Class,
+    out: &mut [u8],
+) -> usize
+    requires { (max_answer ≤ length out.old) × Room (0 ∷ class_bytes (token_at words.now dacl.now) (class_number class)) out.old }
     ensures { WroteFrame (0 ∷ class_bytes (token_at words.now dacl.now) (class_number class)) out.old out.new result }
 {
     match class {
@@ -151,20 +156,24 @@ fn put_class(words: &[u64], dacl: &[u8], class: Class, out: &mut [u8]) -> usize
     }
 }
 
-fn put_class_at(slot: usize, class: Class, tokens: &[u64], dacls: &[u8], out: &mut [u8]) -> usize
-    requires { (length tokens.now ≡ token_slots * token_words) × (length dacls.now ≡ token_slots * max_dacl) × (max_answer ≤ length out.old) × (slot < token_slots) × (token_valid (token_in tokens.now dacls.now slot) ≡ true) }
+fn put_class_at(
+    slot: usize,
+    class: Class,
+    tokens: &[u64; TOKENS],
+    dacls: &[u8; DACLS],
+    out: &mut [u8],
+) -> usize
+    requires { (max_answer ≤ length out.old) × (slot < token_slots) × (token_valid (token_in tokens.now dacls.now slot) ≡ true) }
     ensures { WroteFrame (0 ∷ class_bytes (token_in tokens.now dacls.now slot) (class_number class)) out.old out.new result }
 {
-    let at = slot * TOKEN_WORDS;
-    let end = at + TOKEN_WORDS;
-    let from = slot * MAX_DACL;
-    let till = from + MAX_DACL;
-    put_class(&tokens[at..end], &dacls[from..till], class, out)
+    let (rows, _) = tokens.as_chunks::<TOKEN_WORDS>();
+    let (dacls, _) = dacls.as_chunks::<MAX_DACL>();
+    put_class(&rows[slot], &dacls[slot], class, out)
 }
 
 // Writes an answer at the start of out, and leaves the bytes after it.
-pub fn write(a: Answer, tokens: &[u64], dacls: &[u8], out: &mut [u8]) -> usize
-    requires { (length tokens.now ≡ token_slots * token_words) × (length dacls.now ≡ token_slots * max_dacl) × (max_answer ≤ length out.old) × Fit tokens.now dacls.now a }
+pub fn write(a: Answer, tokens: &[u64; TOKENS], dacls: &[u8; DACLS], out: &mut [u8]) -> usize
+    requires { (max_answer ≤ length out.old) × Fit tokens.now dacls.now a }
     ensures { WroteFrame (answer_of tokens.now dacls.now a) out.old out.new result }
 {
     match a {

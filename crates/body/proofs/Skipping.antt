@@ -57,3 +57,5 @@ module _ {A : Type 0} (p : rules.Reader A) (start : Reader) (count : ℕ) where
 
     pub skip_ends : count ≤ i → PassedOn (times count p) start r (Some tt)
     skip_ends h = record { means = times_none p (count - i) (rest_of r) (omega arith) ∙ inv.means; onward = inv.onward }
+
+pub ruleset skips = (skip_next, skip_lost, skip_ends)

@@ -13,6 +13,7 @@ pub struct Entry {
     pub next: usize,
 }
 
+#[tactic(auto, using(crate::proofs::Pairs::no_key, crate::proofs::Pairs::no_value, crate::proofs::Pairs::key_value))]
 pub fn read(s: &[u8], at: usize) -> Option<Entry>
     ensures { PairAt s.now at result }
 {

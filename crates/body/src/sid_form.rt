@@ -25,10 +25,12 @@ pub struct Numbered;
 impl SidForm for Numbered {
     ghost reader = { sid_number };
 
+    #[tactic(auto, using(crate::proofs::Sids::numbers_passed))]
     fn skip_sids(rest: &mut Reader, count: u32) -> Option<()> {
         rest.numbers(u64::from(count), U32)
     }
 
+    #[tactic(auto, using(crate::proofs::Sids::groups_passed))]
     fn skip_groups(rest: &mut Reader, count: u32) -> Option<()> {
         rest.numbers(2 * u64::from(count), U32)
     }
@@ -41,6 +43,7 @@ impl SidForm for Packed {
     ghost reader = { packed_sid };
 
     // Two loops: one over a closure would promise something of each reader that the closure may follow.
+    #[tactic(auto, using(crate::proofs::Skipping::skips))]
     fn skip_sids(rest: &mut Reader, count: u32) -> Option<()> {
         for _ in 0..count {
             skip_packed(rest)?;
@@ -48,6 +51,7 @@ impl SidForm for Packed {
         Some(())
     }
 
+    #[tactic(auto, using(crate::proofs::Skipping::skips))]
     fn skip_groups(rest: &mut Reader, count: u32) -> Option<()> {
         for _ in 0..count {
             skip_group(rest)?;
@@ -57,6 +61,7 @@ impl SidForm for Packed {
 }
 
 // A SID and its attributes.
+#[tactic(auto, using(crate::proofs::Sids::group_lost, crate::proofs::Sids::group_short, crate::proofs::Sids::group_passed))]
 fn skip_group(rest: &mut Reader) -> Option<()>
     ensures { PassedOn (rules.group packed_sid) rest.old rest.new result }
 {

@@ -2,7 +2,6 @@
 ghost use Rattle.std.specs.Prelude.{◌≡◌, true, [], ◌∷◌, ◌*◌, ◌≤◌, length};
 ghost use Rattle.rules.specs.Frame.{max_answer};
 ghost use Rattle.rules.specs.Refusal.{stream_broken};
-ghost use Rattle.rules.specs.State.{station_count};
 ghost use Rattle.rules.specs.Memory as Memory;
 ghost use Rattle.rules.specs.Memory.{pending_bytes};
 ghost use Rattle.control.specs.Stations.{StreamGiven};
@@ -15,10 +14,14 @@ ghost use Rattle.calls.specs.Accepted.{quiet, PartKept, BrokenOff, FrameServed, 
 
 use crate::Turn;
 use answer::{Answer, Refusal};
+use control::layout::CONTROL_WORDS;
 use control::stations;
 use control::stations::{Station, Stream};
+use handle::HANDLE_WORDS;
 use state::parts::Parts;
 use stream::{Framed, PENDING_BYTES};
+use table::slices::whole;
+use valid::layout::{DACLS, PENDING, TOKENS};
 
 // No answer, and no handle changes.
 fn unanswered(used: usize) -> Turn
@@ -135,18 +138,52 @@ fn accept_row(
     }
 }
 
-pub fn accept(
-    parts: &mut Parts,
+// The lent parts are arrays from here on.
+fn accept_parts(
+    tokens: &mut [u64; TOKENS],
+    dacls: &mut [u8; DACLS],
+    handles: &[u64; HANDLE_WORDS],
+    control: &mut [u64; CONTROL_WORDS],
+    pending: &mut [u8; PENDING],
     station: Station,
     chunk: &[u8],
-    pending: &mut [u8],
     out: &mut [u8],
 ) -> Turn
-    requires { (Memory.valid (memory_of parts.old.tokens.now parts.old.dacls.now (records_in parts.old.handles.now) parts.old.control.now pending.old) ≡ true) × (length pending.old ≡ station_count * pending_bytes) × (max_answer ≤ length out.old) }
-    ensures same { SameParts parts.old parts.new }
-    ensures accepted { Accepted station.number chunk.now parts.old.tokens.now parts.old.dacls.now (records_in parts.old.handles.now) parts.old.control.now pending.old out.old parts.new.tokens.now parts.new.dacls.now parts.new.control.now pending.new out.new result }
+    requires { (Memory.valid (memory_of tokens.old dacls.old (records_in handles.now) control.old pending.old) ≡ true) × (max_answer ≤ length out.old) }
+    ensures { Accepted station.number chunk.now tokens.old dacls.old (records_in handles.now) control.old pending.old out.old tokens.new dacls.new control.new pending.new out.new result }
 {
+    let mut parts = Parts {
+        handles,
+        tokens,
+        dacls,
+        control,
+    };
     let at = station.number as usize * PENDING_BYTES;
     let end = at + PENDING_BYTES;
-    accept_row(parts, station, chunk, &mut pending[at..end], out)
+    accept_row(&mut parts, station, chunk, &mut pending[at..end], out)
+}
+
+pub fn accept(
+    tokens: &mut [u64],
+    dacls: &mut [u8],
+    handles: &[u64; HANDLE_WORDS],
+    control: &mut [u64],
+    pending: &mut [u8],
+    station: Station,
+    chunk: &[u8],
+    out: &mut [u8],
+) -> Turn
+    requires { (Memory.valid (memory_of tokens.old dacls.old (records_in handles.now) control.old pending.old) ≡ true) × (max_answer ≤ length out.old) }
+    ensures { Accepted station.number chunk.now tokens.old dacls.old (records_in handles.now) control.old pending.old out.old tokens.new dacls.new control.new pending.new out.new result }
+{
+    accept_parts(
+        whole(tokens),
+        whole(dacls),
+        handles,
+        whole(control),
+        whole(pending),
+        station,
+        chunk,
+        out,
+    )
 }

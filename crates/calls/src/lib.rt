@@ -9,7 +9,6 @@ use control::stations::Station;
 use handle::Handles;
 use start::CallRefusal;
 use state::handles::Change;
-use state::parts::Parts;
 
 mod accept;
 
@@ -75,12 +74,15 @@ pub fn feed(
     if !valid::valid(tokens, dacls, count, &handles.words, control, pending) {
         return Err(CallRefusal::InvalidMemory);
     }
-    let mut parts = Parts {
-        handles: &handles.words,
+    let turn = accept::accept(
         tokens,
         dacls,
+        &handles.words,
         control,
-    };
-    let turn = accept::accept(&mut parts, there, chunk, pending, out);
+        pending,
+        there,
+        chunk,
+        out,
+    );
     Ok(turn)
 }

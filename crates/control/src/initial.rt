@@ -3,7 +3,6 @@ ghost use Rattle.std.specs.Prelude.{◌≡◌, length, replicate};
 ghost use Rattle.rules.specs.SidTable.{start_sids};
 ghost use Rattle.rules.specs.SidRows.{sid_words, write_sids};
 ghost use Rattle.rules.specs.State.{start};
-ghost use Rattle.rules.specs.Memory.{control_words};
 ghost use Rattle.control.specs.Control.{ControlIn};
 
 use crate::layout::*;
@@ -33,8 +32,7 @@ fn write_sids(sids: &mut [u64])
 }
 
 // The next numbers are 2 and 1; S-1-5-7 and S-1-5-18 stand in the SID table; token 1 is primary at every station, whose stream is empty and not broken.
-pub fn write(control: &mut [u64])
-    requires { length control.old ≡ control_words }
+pub fn write(control: &mut [u64; CONTROL_WORDS])
     ensures { ControlIn start control.new }
 {
     control.fill(0);

@@ -1,6 +1,6 @@
 // The places of the control words: sections one after the other. What is new goes to the end, a section behind the last and a word behind
 // the others of its row.
-use sid::layout::SIDS;
+pub use sid::layout::SIDS;
 
 pub const STATIONS: usize = 8;
 

@@ -1,8 +1,8 @@
 // The linked pairs' rows. A place is free where its row names no elevated token.
-ghost use Rattle.std.specs.Prelude.{◌≡◌, ◌<◌, length, set};
+ghost use Rattle.std.specs.Prelude.{◌≡◌, ◌<◌, set};
 ghost use Rattle.rules.specs.Pair.{is_of, has};
 ghost use Rattle.rules.specs.State.{pair_slots};
-ghost use Rattle.rules.specs.Memory.{pair_words, pair_word_at, control_words};
+ghost use Rattle.rules.specs.Memory.{pair_words, pair_word_at};
 ghost use Rattle.handle.specs.First.{FirstOf};
 ghost use Rattle.control.specs.Pairs.{row_in, PairFound, PlaceFree, PlaceGiven, RowGiven, PairSet, PairsRefer};
 
@@ -23,16 +23,16 @@ fn word_at(place: usize, word: usize) -> usize
     PAIRS_AT + (place * PAIR_WORDS + word)
 }
 
-fn set_word(place: usize, word: usize, value: u64, control: &mut [u64])
-    requires { (place < pair_slots) × (word < pair_words) × (length control.old ≡ control_words) }
+fn set_word(place: usize, word: usize, value: u64, control: &mut [u64; CONTROL_WORDS])
+    requires { (place < pair_slots) × (word < pair_words) }
     ensures { control.new ≡ set control.old (pair_word_at place word) value }
 {
     let at = word_at(place, word);
     control[at] = value;
 }
 
-pub fn row(place: usize, control: &[u64]) -> Pair
-    requires { (place < pair_slots) × (length control.now ≡ control_words) }
+pub fn row(place: usize, control: &[u64; CONTROL_WORDS]) -> Pair
+    requires { (place < pair_slots) }
     ensures { RowGiven place control.now result }
 {
     Pair {
@@ -45,8 +45,7 @@ pub fn row(place: usize, control: &[u64]) -> Pair
 // ---- looking
 
 // The first place whose row passes.
-fn position<F: Fn(Pair) -> bool>(control: &[u64], passes: F) -> Option<usize>
-    requires long { length control.now ≡ control_words }
+fn position<F: Fn(Pair) -> bool>(control: &[u64; CONTROL_WORDS], passes: F) -> Option<usize>
     requires callable { F.IsAlwaysCallable passes }
     ensures { FirstOf (λ k. F.post passes (row_in control.now k)) pair_slots result }
 {
@@ -59,16 +58,14 @@ fn position<F: Fn(Pair) -> bool>(control: &[u64], passes: F) -> Option<usize>
 }
 
 // The place of the session's pair.
-fn place_of(session: u64, control: &[u64]) -> Option<usize>
-    requires { length control.now ≡ control_words }
+fn place_of(session: u64, control: &[u64; CONTROL_WORDS]) -> Option<usize>
     ensures { PairFound (is_of session) control.now result }
 {
     position(control, |p| (p.elevated != 0) & (p.session == session))
 }
 
 // The place of the pair that the token is in.
-pub fn place_with(token: u64, control: &[u64]) -> Option<usize>
-    requires { length control.now ≡ control_words }
+pub fn place_with(token: u64, control: &[u64; CONTROL_WORDS]) -> Option<usize>
     ensures { PairFound (has token) control.now result }
 {
     position(
@@ -78,16 +75,14 @@ pub fn place_with(token: u64, control: &[u64]) -> Option<usize>
 }
 
 // The lowest free place.
-fn free_place(control: &[u64]) -> Option<usize>
-    requires { length control.now ≡ control_words }
+fn free_place(control: &[u64; CONTROL_WORDS]) -> Option<usize>
     ensures { PlaceFree control.now result }
 {
     position(control, |p| p.elevated == 0)
 }
 
 // Where the session's pair goes: the place of its old one, else the lowest free one.
-pub fn place_for(session: u64, control: &[u64]) -> Option<usize>
-    requires { length control.now ≡ control_words }
+pub fn place_for(session: u64, control: &[u64; CONTROL_WORDS]) -> Option<usize>
     ensures { PlaceGiven session control.now result }
 {
     let place = place_of(session, control);
@@ -96,8 +91,8 @@ pub fn place_for(session: u64, control: &[u64]) -> Option<usize>
 
 // ---- storing
 
-pub fn set_pair(place: usize, pair: Pair, control: &mut [u64])
-    requires { (place < pair_slots) × (length control.old ≡ control_words) }
+pub fn set_pair(place: usize, pair: Pair, control: &mut [u64; CONTROL_WORDS])
+    requires { (place < pair_slots) }
     ensures { PairSet place pair control.old control.new }
 {
     set_word(place, SESSION_WORD, pair.session, control);
@@ -108,8 +103,7 @@ pub fn set_pair(place: usize, pair: Pair, control: &mut [u64])
 // ---- references
 
 // Some pair has the token.
-pub fn refer(token: u64, control: &[u64]) -> bool
-    requires { length control.now ≡ control_words }
+pub fn refer(token: u64, control: &[u64; CONTROL_WORDS]) -> bool
     ensures { PairsRefer token control.now result }
 {
     place_with(token, control).is_some()

@@ -1,25 +1,20 @@
 // The SID table's section.
-ghost use Rattle.std.specs.Prelude.{◌≡◌, ◌<◌, length, unwrap_or, IfSome};
-ghost use Rattle.rules.specs.SidRows.{sid_words};
-ghost use Rattle.rules.specs.Memory.{control_words};
+ghost use Rattle.std.specs.Prelude.{◌<◌, unwrap_or, IfSome};
 ghost use Rattle.control.specs.Sids.{SidCount, SidsCopied, SidsSet, SidWritten};
 
 use crate::layout::*;
-use sid::layout::SIDS;
 use sid::number::write_number;
 use table::slices::copy;
 
 // How many SIDs stand in the table.
-pub fn count(control: &[u64]) -> u64
-    requires { length control.now ≡ control_words }
+pub fn count(control: &[u64; CONTROL_WORDS]) -> u64
     ensures { SidCount control.now result }
 {
     control[SIDS_AT]
 }
 
 // A copy, in which SIDs can enter before it is known whether the request is refused.
-pub fn copied(control: &[u64]) -> [u64; SIDS]
-    requires { length control.now ≡ control_words }
+pub fn copied(control: &[u64; CONTROL_WORDS]) -> [u64; SIDS]
     ensures { SidsCopied control.now result }
 {
     let mut sids = [0u64; SIDS];
@@ -27,8 +22,7 @@ pub fn copied(control: &[u64]) -> [u64; SIDS]
     sids
 }
 
-pub fn set(sids: &[u64], control: &mut [u64])
-    requires { (length sids.now ≡ sid_words) × (length control.old ≡ control_words) }
+pub fn set(sids: &[u64; SIDS], control: &mut [u64; CONTROL_WORDS])
     ensures { SidsSet sids.now control.old control.new }
 {
     copy(sids, &mut control[SIDS_AT..SIDS_END]);

@@ -1,7 +1,7 @@
 // The stations' rows, word by word.
-ghost use Rattle.std.specs.Prelude.{◌≡◌, ◌<◌, ◌≤◌, length, set, MatchOption};
+ghost use Rattle.std.specs.Prelude.{◌≡◌, ◌<◌, ◌≤◌, set, MatchOption};
 ghost use Rattle.rules.specs.State.{station_count};
-ghost use Rattle.rules.specs.Memory.{station_words, station_word_at, control_words};
+ghost use Rattle.rules.specs.Memory.{station_words, station_word_at};
 ghost use Rattle.control.specs.Stations.{WordGiven, CallerNumber, TokenSet, ClientGiven, ClientSet, StationsHave, StationsRefer, StreamGiven, StreamSet};
 
 use crate::layout::*;
@@ -47,16 +47,16 @@ fn word_at(station: Station, word: usize) -> usize
     STATIONS_AT + (station.number as usize * STATION_WORDS + word)
 }
 
-fn word(station: Station, word: usize, control: &[u64]) -> u64
-    requires { (word < station_words) × (length control.now ≡ control_words) }
+fn word(station: Station, word: usize, control: &[u64; CONTROL_WORDS]) -> u64
+    requires { (word < station_words) }
     ensures { WordGiven station.number word control.now result }
 {
     let at = word_at(station, word);
     control[at]
 }
 
-fn set_word(station: Station, word: usize, value: u64, control: &mut [u64])
-    requires { (word < station_words) × (length control.old ≡ control_words) }
+fn set_word(station: Station, word: usize, value: u64, control: &mut [u64; CONTROL_WORDS])
+    requires { (word < station_words) }
     ensures { control.new ≡ set control.old (station_word_at station.number word) value }
 {
     let at = word_at(station, word);
@@ -66,16 +66,14 @@ fn set_word(station: Station, word: usize, value: u64, control: &mut [u64])
 // ---- the primary token
 
 // The number of a station's primary token.
-pub fn caller_number(station: Station, control: &[u64]) -> u64
-    requires { length control.now ≡ control_words }
+pub fn caller_number(station: Station, control: &[u64; CONTROL_WORDS]) -> u64
     ensures { CallerNumber station.number control.now result }
 {
     word(station, PRIMARY_WORD, control)
 }
 
 // The station gets another primary token.
-pub fn set_token(station: Station, number: u64, control: &mut [u64])
-    requires { length control.old ≡ control_words }
+pub fn set_token(station: Station, number: u64, control: &mut [u64; CONTROL_WORDS])
     ensures { TokenSet station.number number control.old control.new }
 {
     set_word(station, PRIMARY_WORD, number, control);
@@ -83,8 +81,7 @@ pub fn set_token(station: Station, number: u64, control: &mut [u64])
 
 // ---- the token that a station acts for
 
-pub fn client_of(station: Station, control: &[u64]) -> Client
-    requires { length control.now ≡ control_words }
+pub fn client_of(station: Station, control: &[u64; CONTROL_WORDS]) -> Client
     ensures { ClientGiven station.number control.now result }
 {
     let token = word(station, CLIENT_WORD, control);
@@ -92,8 +89,7 @@ pub fn client_of(station: Station, control: &[u64]) -> Client
     Client { token, level }
 }
 
-pub fn set_client(station: Station, token: u64, level: u64, control: &mut [u64])
-    requires { length control.old ≡ control_words }
+pub fn set_client(station: Station, token: u64, level: u64, control: &mut [u64; CONTROL_WORDS])
     ensures { ClientSet station.number token level control.old control.new }
 {
     set_word(station, CLIENT_WORD, token, control);
@@ -103,8 +99,8 @@ pub fn set_client(station: Station, token: u64, level: u64, control: &mut [u64])
 // ---- references
 
 // Some station's row has the number in this word.
-fn have(number: u64, at: usize, control: &[u64]) -> bool
-    requires { (at < station_words) × (length control.now ≡ control_words) }
+fn have(number: u64, at: usize, control: &[u64; CONTROL_WORDS]) -> bool
+    requires { (at < station_words) }
     ensures { StationsHave number at control.now result }
 {
     let mut found = false;
@@ -115,8 +111,7 @@ fn have(number: u64, at: usize, control: &[u64]) -> bool
 }
 
 // Some station's primary token is this one, or the one that it acts for. 0 is no token.
-pub fn refers(token: u64, control: &[u64]) -> bool
-    requires { length control.now ≡ control_words }
+pub fn refers(token: u64, control: &[u64; CONTROL_WORDS]) -> bool
     ensures { StationsRefer token control.now result }
 {
     let primary = have(token, PRIMARY_WORD, control);
@@ -132,8 +127,7 @@ fn count_in(word: u64) -> usize
     word as usize
 }
 
-pub fn stream_of(station: Station, control: &[u64]) -> Stream
-    requires { length control.now ≡ control_words }
+pub fn stream_of(station: Station, control: &[u64; CONTROL_WORDS]) -> Stream
     ensures { StreamGiven station.number control.now result }
 {
     let count = word(station, COUNT_WORD, control);
@@ -144,8 +138,7 @@ pub fn stream_of(station: Station, control: &[u64]) -> Stream
     }
 }
 
-pub fn set_stream(station: Station, count: usize, broken: bool, control: &mut [u64])
-    requires { length control.old ≡ control_words }
+pub fn set_stream(station: Station, count: usize, broken: bool, control: &mut [u64; CONTROL_WORDS])
     ensures { StreamSet station.number count broken control.old control.new }
 {
     set_word(station, COUNT_WORD, count as u64, control);

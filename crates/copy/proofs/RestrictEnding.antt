@@ -8,7 +8,7 @@ use lib.Dec.{eqb, leb}
 use lib.ListN.{length, take, drop, get_or}
 use borrow.Author.Tests.{not-true, not-false, leb-true, ltb-true}
 use Rattle.table.specs.Lists.{take_pad}
-use Rattle.table.specs.Table.{nth_record, part_at}
+use Rattle.table.specs.Table.{nth_record}
 use Rattle.std.specs.Prelude.{Option, None, Some, Result, Ok, Err, unwrap_or, if◌then◌else◌}
 use Rattle.rules.specs.Basic.{implies, all, distinct, is_below}
 use Rattle.rules.specs.Bits.{within}
@@ -36,7 +36,7 @@ use Rattle.handle.specs.Meaning.{handle_of}
 use Rattle.token.proofs.Changing.{few_groups}
 use Rattle.control.specs.Control.{ControlIn}
 use Rattle.control.specs.Counters.{NextGiven}
-use Rattle.state.specs.TokenCalls.{FoundAt, lent}
+use Rattle.state.specs.TokenCalls.{FoundAt}
 use Rattle.state.specs.ReleaseFacts.{PartsIn}
 use Rattle.state.proofs.TokenScalars.{empty_size}
 use Rattle.state.proofs.InPlace.{in_slot}
@@ -77,18 +77,18 @@ unfolding mark
 is_mark true = refl
 is_mark false = refl
 
-pub sources : (i : ℕ) {ts : List ℕ} {g r : ℕ} → g ≡ min (get_or (lent i ts) Head.group_count 0) max_groups → r ≡ min (get_or (lent i ts) Head.restricting_count 0) max_restricting
-    → SourceAt i ts (record { groups = g; restricting = r; write_restricted = eqb (get_or (lent i ts) Head.write_restricted 0) 1 })
+pub sources : (i : ℕ) {ts ws : List ℕ} {g r : ℕ} → ws ≡ nth_record token_words i ts → g ≡ min (get_or ws Head.group_count 0) max_groups → r ≡ min (get_or ws Head.restricting_count 0) max_restricting
+    → SourceAt i ts (record { groups = g; restricting = r; write_restricted = eqb (get_or ws Head.write_restricted 0) 1 })
 unfolding token_row head
-sources i {ts} eg er = record {
+sources i {ts} {ws} row eg er = record {
   few_groups = omega arith;
   few_restricting = omega arith;
   source = λ t v e.
       let groups = few_groups t v in
       let sids = few_own t v in
-      let g = ap (λ (l : List ℕ). get_or l Head.group_count 0) (part_at token_words i ts ∙ e) in
-      let r = ap (λ (l : List ℕ). get_or l Head.restricting_count 0) (part_at token_words i ts ∙ e) in
-      let write : get_or (lent i ts) Head.write_restricted 0 ≡ mark t.limits.write_restricted = ap (λ (l : List ℕ). get_or l Head.write_restricted 0) (part_at token_words i ts ∙ e) in
+      let g = ap (λ (l : List ℕ). get_or l Head.group_count 0) (row ∙ e) in
+      let r = ap (λ (l : List ℕ). get_or l Head.restricting_count 0) (row ∙ e) in
+      let write : get_or ws Head.write_restricted 0 ≡ mark t.limits.write_restricted = ap (λ (l : List ℕ). get_or l Head.write_restricted 0) (row ∙ e) in
       record {
         groups = omega arith;
         restricting = omega arith;

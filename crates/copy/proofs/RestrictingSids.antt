@@ -208,10 +208,10 @@ restricted_row t sids =
     ∙ ap (λ (l : List ℕ). set l Head.restricting_count (length sids)) (append_assoc (head t) gs (pad max_restricting sids))
 
 pub restricts_to : (list : Sids) (ws : List ℕ) → length ws ≡ token_words → length list.words ≡ max_restricting → {ys : List ℕ} → ys ≡ list.words
-    → RestrictedTo list ws (set (put_mid sids_at (length ws - sids_at) ws ys) Head.restricting_count list.count)
+    → RestrictedTo list ws (set (put_mid sids_at max_restricting ws ys) Head.restricting_count list.count)
 restricts_to list ws long size {ys} e =
-    let put : put_mid sids_at (length ws - sids_at) ws ys ≡ take sids_at ws ++ list.words =
-    ap₂ (λ (l r : List ℕ). take sids_at ws ++ (l ++ r)) e (Post-is sids_at (length ws) ws (omega arith) ∙ drop-length ws)
+    let put : put_mid sids_at max_restricting ws ys ≡ take sids_at ws ++ list.words =
+    ap₂ (λ (l r : List ℕ). take sids_at ws ++ (l ++ r)) e (Post-is sids_at token_words ws (omega arith) ∙ ap (λ (n : ℕ). drop n ws) (sym long) ∙ drop-length ws)
     ∙ ap (λ (l : List ℕ). take sids_at ws ++ l) (append-nil list.words) in
     subst (λ (l : List ℕ). RestrictedTo list ws (set l Head.restricting_count list.count)) (sym put) (record {
       long = simp (length-set, length-append, length-take) (omega arith);

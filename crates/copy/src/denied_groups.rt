@@ -1,9 +1,8 @@
 // Request 10: the indexes of groups to deny, read from a body: they are judged, and then the groups denied in a row.
-ghost use Rattle.std.specs.Prelude.{◌≡◌, ◌&&◌, ◌≤◌, length};
+ghost use Rattle.std.specs.Prelude.{◌≡◌, ◌&&◌, ◌≤◌};
 ghost use Rattle.rules.specs.Basic.{all, distinct, is_below};
 ghost use Rattle.rules.specs.Group.{denied};
 ghost use Rattle.rules.specs.Token.{max_groups};
-ghost use Rattle.rules.specs.Memory.{token_words};
 ghost use Rattle.token.specs.Row.{on_word};
 ghost use Rattle.copy.specs.Numbers.{numbers_left};
 ghost use Rattle.copy.specs.DeniedGroups.{DeniedAt, GroupsDenied};
@@ -37,7 +36,7 @@ fn denied_word(w: u64) -> u64
 
 // Group `index` of a row that has `size` groups.
 fn deny_at(words: &mut [u64; TOKEN_WORDS], size: u64, index: u64)
-    requires { (length words.old ≡ token_words) × (size ≤ max_groups) }
+    requires { size ≤ max_groups }
     ensures { DeniedAt size index words.old words.new }
 {
     if index < size {
@@ -48,7 +47,7 @@ fn deny_at(words: &mut [u64; TOKEN_WORDS], size: u64, index: u64)
 
 // The groups of the indexes.
 pub fn deny(words: &mut [u64; TOKEN_WORDS], size: u64, indexes: Numbers)
-    requires { (length words.old ≡ token_words) × (size ≤ max_groups) }
+    requires { size ≤ max_groups }
     ensures { GroupsDenied size (numbers_left indexes.entry) words.old words.new }
 {
     for index in indexes {

@@ -1,9 +1,7 @@
 // Request 9: duplicate.
-ghost use Rattle.std.specs.Prelude.{◌≡◌, ◌<◌, length};
+ghost use Rattle.std.specs.Prelude.{◌<◌};
 ghost use Rattle.rules.specs.State.{token_slots};
-ghost use Rattle.rules.specs.Memory.{token_words};
 ghost use Rattle.rules.specs.Duplicate as rules;
-ghost use Rattle.handle.specs.Words.{records_in};
 ghost use Rattle.state.specs.Parts.{SameParts};
 ghost use Rattle.decide.specs.Carried.{CarriedOut};
 ghost use Rattle.decide.specs.Issue.{NumbersLeft};
@@ -30,6 +28,7 @@ const IMPERSONATION: u32 = Identity::IMPERSONATION as u32;
 const ANONYMOUS: u64 = 7;
 
 // By a handle of mask `held`, of a token that is `source`.
+#[tactic(auto, using(crate::proofs::DuplicateEnding::judges))]
 fn valid_duplicate(held: Mask, source: Identity, f: DuplicateFields) -> bool
     ensures { DuplicateJudged held.0 source f.kind f.level f.mask result }
 {
@@ -46,7 +45,6 @@ fn valid_duplicate(held: Mask, source: Identity, f: DuplicateFields) -> bool
 
 // Another number, type and level.
 fn relabel(words: &mut [u64; TOKEN_WORDS], n: u64, kind: u32, level: u32)
-    requires { length words.old ≡ token_words }
     ensures { Remade (rules.copied n kind level) words.old words.new }
 {
     words[NUMBER] = n;
@@ -56,6 +54,7 @@ fn relabel(words: &mut [u64; TOKEN_WORDS], n: u64, kind: u32, level: u32)
     words[ELEVATION] = 1;
 }
 
+#[tactic(auto, using(crate::proofs::DuplicateEnding::issues_copy))]
 fn issue_copy(
     parts: &mut Parts,
     station: Station,
@@ -93,6 +92,7 @@ fn issue_anonymous(parts: &mut Parts, station: Station, mask: u16, slot: usize) 
 }
 
 // Only the type and level asked for make an anonymous copy; to primary, the level becomes 0.
+#[tactic(auto, using(crate::proofs::DuplicateEnding::to_primary, crate::proofs::DuplicateEnding::to_anonymous, crate::proofs::DuplicateEnding::to_impersonation))]
 fn issue_duplicate(
     parts: &mut Parts,
     station: Station,

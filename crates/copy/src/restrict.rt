@@ -29,6 +29,7 @@ use state::parts::Parts;
 use token::layout::MAX_RESTRICTING;
 
 // The copy of a restricted token is restricted, and write-restricted only if the token is.
+#[tactic(auto, using(crate::proofs::RestrictEnding::narrow_by))]
 fn narrows(source: Source, mark: u32, listed: u64) -> bool
     ensures { result ≡ implies (not (eqb source.restricting 0)) (not (eqb listed 0) && implies (eqb mark 1) source.write_restricted) }
 {

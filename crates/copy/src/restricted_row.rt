@@ -1,8 +1,7 @@
 // Request 10: the row of the copy.
-ghost use Rattle.std.specs.Prelude.{◌≡◌, ◌≤◌, ◌<◌, length};
+ghost use Rattle.std.specs.Prelude.{◌≡◌, ◌≤◌, ◌<◌};
 ghost use Rattle.rules.specs.Token.{max_groups};
 ghost use Rattle.rules.specs.State.{token_slots};
-ghost use Rattle.rules.specs.Memory.{token_words};
 ghost use Rattle.copy.specs.Copies.{Remade};
 ghost use Rattle.copy.specs.Restrict.{SourceAt, mark_word, limited_to, CopyMade};
 
@@ -27,9 +26,7 @@ pub fn source_at(parts: &Parts, slot: usize) -> Source
     requires { slot < token_slots }
     ensures { SourceAt slot parts.now.tokens.now result }
 {
-    let at = slot * TOKEN_WORDS;
-    let end = at + TOKEN_WORDS;
-    let words = &parts.tokens[at..end];
+    let words = parts.row(slot);
     let groups = row::count_in(words, GROUP_COUNT, MAX_GROUPS);
     let restricting = row::count_in(words, RESTRICTING_COUNT, MAX_RESTRICTING);
     Source {
@@ -48,7 +45,6 @@ fn marked(mark: u32, w: u64) -> u64
 
 // A copy whose lists are as they were.
 fn limit(words: &mut [u64; TOKEN_WORDS], n: u64, mark: u32, removed: u64)
-    requires { length words.old ≡ token_words }
     ensures { Remade (limited_to n mark removed) words.old words.new }
 {
     let write = marked(mark, words[WRITE_RESTRICTED]);
@@ -71,7 +67,7 @@ pub fn make(
     f: RestrictFields,
     s: &[u8],
 )
-    requires { (length words.old ≡ token_words) × (groups ≤ max_groups) }
+    requires { groups ≤ max_groups }
     ensures { CopyMade n groups list f.mark f.removed s.now f.deny_at f.deny_count words.old words.new }
 {
     limit(words, n, f.mark, f.removed);

@@ -1,9 +1,8 @@
 // Requests 10 and 15: the copy's restricting SIDs, from the source's and those given in a body.
-ghost use Rattle.std.specs.Prelude.{◌≡◌, ◌≤◌, ◌<◌, length};
+ghost use Rattle.std.specs.Prelude.{◌≡◌, ◌≤◌, ◌<◌};
 ghost use Rattle.rules.specs.Number.{max64};
 ghost use Rattle.rules.specs.Token.{max_restricting};
 ghost use Rattle.rules.specs.State.{token_slots};
-ghost use Rattle.rules.specs.Memory.{token_words};
 ghost use Rattle.copy.specs.Numbers.{numbers_left};
 ghost use Rattle.copy.specs.Restricting.{so_many, Listed, SidAdded, is_kept, Answers, OwnKept, ListMade, RestrictedTo};
 
@@ -76,7 +75,8 @@ pub fn kept<F: Fn(u64) -> bool>(parts: &Parts, slot: usize, own: u64, stays: F) 
 {
     let from = slot * TOKEN_WORDS + GROUPS_END;
     let end = from + own as usize;
-    let sids = &parts.tokens[from..end];
+    let tokens = &*parts.tokens;
+    let sids = &tokens[from..end];
     let mut list = Sids::NONE;
     for sid in sids {
         if stays(*sid) {
@@ -99,8 +99,7 @@ pub fn list_of(parts: &Parts, slot: usize, own: u64, f: RestrictFields, s: &[u8]
 }
 
 // In a row.
-pub fn restrict_to(words: &mut [u64], list: Sids)
-    requires { length words.old ≡ token_words }
+pub fn restrict_to(words: &mut [u64; TOKEN_WORDS], list: Sids)
     ensures { RestrictedTo list words.old words.new }
 {
     copy(&list.words, &mut words[GROUPS_END..]);

@@ -9,6 +9,7 @@ use state::parts::Parts;
 use token::layout::{MAX_DACL, TOKEN_WORDS};
 
 // The row of a slot, in a table of rows of N elements.
+#[tactic(auto, using(crate::proofs::SlotRows::row_copied))]
 fn row_at<T: Copy, const N: usize>(table: &[T], slot: usize) -> [T; N]
     requires { (0 < N) × (length table.now ≡ token_slots * N) × (slot < token_slots) }
     ensures { RowCopied N slot table.now result }

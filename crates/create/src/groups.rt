@@ -12,7 +12,7 @@ use body::entry::Entry;
 use privilege::words;
 use sid::number::is_number;
 use token::Group;
-use token::layout::{HEAD_WORDS, MAX_GROUPS};
+use token::layout::{HEAD_WORDS, MAX_GROUPS, TOKEN_WORDS};
 
 // MANDATORY, ENABLED_BY_DEFAULT, OWNER, DENY_ONLY, LOGON_ID.
 const GIVABLE: u64 = 0xC000001B;
@@ -66,7 +66,7 @@ pub fn read_groups(
     s: &[u8],
     at: usize,
     count: usize,
-    words: &mut [u64],
+    words: &mut [u64; TOKEN_WORDS],
 ) -> Result<(), Refusal>
     requires { (words.old ≡ replicate token_words 0) × (known ≤ max_sids) }
     ensures { GroupsRead user known s.now at count words.new result }

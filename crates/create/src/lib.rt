@@ -1,7 +1,7 @@
 // Requests 3 and 14: create. A new token and a handle on it.
 #![tactic(auto)]
 
-ghost use Rattle.std.specs.Prelude.{◌≡◌, true, ◌&&◌, ◌≤◌, length, drop, replicate};
+ghost use Rattle.std.specs.Prelude.{◌≡◌, true, ◌&&◌, ◌≤◌, drop, replicate};
 ghost use Rattle.rules.specs.Bits.{within};
 ghost use Rattle.rules.specs.Sid.{is_packed};
 ghost use Rattle.rules.specs.SidTable.{max_sids};
@@ -11,7 +11,6 @@ ghost use Rattle.rules.specs.Token.{primary_of};
 ghost use Rattle.rules.specs.Memory.{token_words};
 ghost use Rattle.rules.specs.Create.{valid_integrity};
 ghost use Rattle.token.specs.NewRow.{Headed};
-ghost use Rattle.control.specs.Sids.{SidsCopied};
 ghost use Rattle.handle.specs.Words.{records_in};
 ghost use Rattle.state.specs.Parts.{SameParts};
 ghost use Rattle.create.specs.Create.{RowMade, KnownSids, RowCreated, CreateCarriedOut};
@@ -50,8 +49,7 @@ fn fields_good<U>(f: &CreateFields<U>) -> bool
 
 // The row's head, behind which the groups stand.
 #[tactic(auto, unfolding(rules::specs::Token::primary_of))]
-fn set_head<U>(n: u64, user: u32, f: &CreateFields<U>, row: &mut [u64])
-    requires { length row.old ≡ token_words }
+fn set_head<U>(n: u64, user: u32, f: &CreateFields<U>, row: &mut [u64; TOKEN_WORDS])
     ensures { Headed n (primary_of n user f.now.session f.now.integrity) (granted f.now.present f.now.by_default) f.now.count row.old row.new }
 {
     let identity = Identity {
@@ -67,7 +65,13 @@ fn set_head<U>(n: u64, user: u32, f: &CreateFields<U>, row: &mut [u64])
 }
 
 // The new token's row, where every field is good. Its groups stand in the body.
-fn make(n: u64, known: u64, f: CreateFields<u32>, s: &[u8], row: &mut [u64]) -> Result<(), Refusal>
+fn make(
+    n: u64,
+    known: u64,
+    f: CreateFields<u32>,
+    s: &[u8],
+    row: &mut [u64; TOKEN_WORDS],
+) -> Result<(), Refusal>
     requires { (row.old ≡ replicate token_words 0) × (known ≤ max_sids) }
     ensures { RowMade n known f s.now row.new result }
 {
@@ -84,8 +88,8 @@ fn make_packed(
     n: u64,
     f: CreateFields<usize>,
     s: &[u8],
-    row: &mut [u64],
-    sids: &mut [u64],
+    row: &mut [u64; TOKEN_WORDS],
+    sids: &mut [u64; SIDS],
 ) -> Result<(), Refusal>
     requires { (row.old ≡ replicate token_words 0) × (sid_words_valid sids.old ≡ true) × (is_packed (drop f.user s.now) ≡ true) }
     ensures { PackedMade n f s.now sids.old row.new sids.new result }
@@ -111,16 +115,13 @@ fn known_sids(parts: &Parts) -> u64
     sids::count(parts.control).min(MAX_SIDS as u64)
 }
 
-fn table_of(parts: &Parts) -> [u64; SIDS]
-    ensures { SidsCopied parts.now.control.now result }
-{
-    sids::copied(parts.control)
-}
-
 // The end of both requests. The used bit falls on the caller's token before the new one is there. The new one has no DACL.
 #[tactic(auto, using(crate::proofs::CreateEnding::none_issued, crate::proofs::CreateEnding::create_issues))]
-fn issue_created(parts: &mut Parts, station: Station, row: &[u64]) -> Result<Outcome, Refusal>
-    requires { length row.now ≡ token_words }
+fn issue_created(
+    parts: &mut Parts,
+    station: Station,
+    row: &[u64; TOKEN_WORDS],
+) -> Result<Outcome, Refusal>
     ensures same { SameParts parts.old parts.new }
     ensures created { RowCreated station.number row.now parts.old.tokens.now parts.old.dacls.now (records_in parts.old.handles.now) parts.old.control.now parts.new.tokens.now parts.new.dacls.now parts.new.control.now result }
 {
@@ -166,7 +167,7 @@ pub fn create_packed(
         return Err(Refusal::PrivilegeNotHeld);
     }
     let n = parts.next(NEXT_TOKEN);
-    let mut table = table_of(parts);
+    let mut table = parts.sids();
     // Both hold where the body is whole and the memory in order.
     if !(is_packed(s, f.user) & table_valid(&table)) {
         return Err(Refusal::BadField);

@@ -1,7 +1,7 @@
 // Request 14: packed SIDs enter a copy of the SID table, and the groups of a new token are judged and entered in its row.
-ghost use Rattle.std.specs.Prelude.{◌≡◌, true, length, drop, replicate};
+ghost use Rattle.std.specs.Prelude.{◌≡◌, true, drop, replicate};
 ghost use Rattle.rules.specs.Sid.{is_packed};
-ghost use Rattle.rules.specs.SidRows.{row_words, row_sid, sid_words_valid};
+ghost use Rattle.rules.specs.SidRows.{row_sid, sid_words_valid};
 ghost use Rattle.rules.specs.Memory.{token_words};
 ghost use Rattle.sid.specs.Finding.{Rowed};
 ghost use Rattle.create.specs.PackedGroups.{judged_row, RowAt, NumberEntered, AttributesAt, PackedRead};
@@ -9,10 +9,10 @@ ghost use Rattle.create.specs.PackedGroups.{judged_row, RowAt, NumberEntered, At
 use crate::groups::{entered_word, valid_pair};
 use answer::Refusal;
 use number::{Number, U32, number_at};
-use sid::layout::ROW_WORDS;
+use sid::layout::{ROW_WORDS, SIDS};
 use sid::packed::{load, size_at};
 use token::Group;
-use token::layout::{HEAD_WORDS, MAX_GROUPS};
+use token::layout::{HEAD_WORDS, MAX_GROUPS, TOKEN_WORDS};
 
 #[tactic(auto, using(crate::proofs::PackedGroups::is_packed_lem))]
 pub fn is_packed(s: &[u8], at: usize) -> bool
@@ -32,8 +32,7 @@ pub fn row_at(s: &[u8], at: usize) -> [u64; ROW_WORDS]
 
 // The test of a pair asks of its SID only whether it is the user's.
 #[tactic(auto, using(crate::proofs::PackedGroups::judged_by))]
-fn judged(user: &[u64], x: &[u64], attributes: u32) -> bool
-    requires { (length user.now ≡ row_words) × (length x.now ≡ row_words) }
+fn judged(user: &[u64; ROW_WORDS], x: &[u64; ROW_WORDS], attributes: u32) -> bool
     ensures { result ≡ judged_row user.now x.now attributes }
 {
     let sid = if user == x { 0 } else { 1 };
@@ -41,7 +40,7 @@ fn judged(user: &[u64], x: &[u64], attributes: u32) -> bool
 }
 
 // The SID of a row enters: its number, None without room.
-pub fn enter(x: &[u64], sids: &mut [u64]) -> Option<u32>
+pub fn enter(x: &[u64; ROW_WORDS], sids: &mut [u64; SIDS]) -> Option<u32>
     requires { (sid_words_valid sids.old ≡ true) × Rowed x.now }
     ensures { NumberEntered (row_sid x.now) sids.old sids.new result }
 {
@@ -60,14 +59,14 @@ fn attributes_at(s: &[u8], at: usize) -> Option<Number>
 // The count groups that stand at a place of a body, entered in a row of zeros until one is bad. Without room their SIDs are still judged: a
 // bad pair is refused first.
 pub fn read_packed_groups(
-    user: &[u64],
+    user: &[u64; ROW_WORDS],
     s: &[u8],
     at: usize,
     count: usize,
-    words: &mut [u64],
-    sids: &mut [u64],
+    words: &mut [u64; TOKEN_WORDS],
+    sids: &mut [u64; SIDS],
 ) -> Result<(), Refusal>
-    requires { (words.old ≡ replicate token_words 0) × (sid_words_valid sids.old ≡ true) × (length user.now ≡ row_words) }
+    requires { (words.old ≡ replicate token_words 0) × (sid_words_valid sids.old ≡ true) }
     ensures { PackedRead user.now s.now at count sids.old words.new sids.new result }
 {
     if MAX_GROUPS < count {

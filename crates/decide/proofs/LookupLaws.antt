@@ -38,23 +38,23 @@ mask_narrow mask e t = let l = within_le mask all_rights (and_r (not (eqb mask 0
 
 -- ---- the decision
 
-abbrev decide : (σ : State) (known permitted : Bool) (rest : Decision) → Served
+abbrev pub decide : (σ : State) (known permitted : Bool) (rest : Decision) → Served
 decide σ known permitted rest =
     carried_out σ (need known else not_aLive_handle then need permitted else right_missing then rest)
 
-stopped : (σ : State) (known permitted : Bool) (rest : Decision) {e : Refusal} → Some e ≡ handle_refusal known permitted → decide σ known permitted rest ≡ stays σ (refusal_of e)
+pub stopped : (σ : State) (known permitted : Bool) (rest : Decision) {e : Refusal} → Some e ≡ handle_refusal known permitted → decide σ known permitted rest ≡ stays σ (refusal_of e)
 unfolding carried_out
 stopped σ true true rest h = cc
 stopped σ true false rest h = ap (λ (o : Option Refusal). stays σ (refusal_of (unwrap_or o refusal.RightMissing))) (sym h)
 stopped σ false permitted rest h = ap (λ (o : Option Refusal). stays σ (refusal_of (unwrap_or o refusal.NotALiveHandle))) (sym h)
 
-passed : (σ : State) (known permitted : Bool) (rest : Decision) → None ≡ handle_refusal known permitted → decide σ known permitted rest ≡ carried_out σ rest
+pub passed : (σ : State) (known permitted : Bool) (rest : Decision) → None ≡ handle_refusal known permitted → decide σ known permitted rest ≡ carried_out σ rest
 unfolding carried_out
 passed σ true true rest e = refl
 passed σ true false rest e = cc
 passed σ false permitted rest e = cc
 
-is_known_lem : (known permitted : Bool) → None ≡ handle_refusal known permitted → known ≡ true
+pub is_known_lem : (known permitted : Bool) → None ≡ handle_refusal known permitted → known ≡ true
 is_known_lem true permitted e = refl
 is_known_lem false permitted e = cc
 

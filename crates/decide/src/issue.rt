@@ -1,7 +1,4 @@
 // What requests that make a token end with: the token, and a handle on it.
-ghost use Rattle.std.specs.Prelude.{◌≡◌, length};
-ghost use Rattle.rules.specs.Token.{max_dacl};
-ghost use Rattle.rules.specs.Memory.{token_words};
 ghost use Rattle.handle.specs.Words.{records_in};
 ghost use Rattle.state.specs.Parts.{SameParts};
 ghost use Rattle.decide.specs.Issue.{NumbersLeft, IssueRoom, RowIssued};
@@ -10,7 +7,7 @@ use crate::outcome::Outcome;
 use answer::Answer;
 use control::stations::Station;
 use state::parts::Parts;
-use token::layout::NUMBER;
+use token::layout::{MAX_DACL, NUMBER, TOKEN_WORDS};
 
 // Both tables have a free slot and a number left.
 pub fn can_issue(parts: &Parts) -> bool
@@ -26,10 +23,10 @@ pub fn issue_row(
     parts: &mut Parts,
     station: Station,
     mask: u16,
-    words: &[u64],
-    bytes: &[u8],
+    words: &[u64; TOKEN_WORDS],
+    bytes: &[u8; MAX_DACL],
 ) -> Outcome
-    requires { (length words.now ≡ token_words) × (length bytes.now ≡ max_dacl) × NumbersLeft parts.old.control.now }
+    requires { NumbersLeft parts.old.control.now }
     ensures same { SameParts parts.old parts.new }
     ensures issued { RowIssued station.number mask words.now bytes.now parts.old.tokens.now parts.old.dacls.now (records_in parts.old.handles.now) parts.old.control.now parts.new.tokens.now parts.new.dacls.now parts.new.control.now result }
 {

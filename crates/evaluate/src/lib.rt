@@ -1,8 +1,7 @@
 // Request 18: a condition of a token. Nothing changes.
 #![tactic(auto)]
 
-ghost use Rattle.std.specs.Prelude.{◌≡◌, length};
-ghost use Rattle.rules.specs.Memory.{token_words};
+ghost use Rattle.std.specs.Prelude.{◌≡◌};
 ghost use Rattle.rules.specs.Serve.{decided};
 ghost use Rattle.number.specs.Reader.{rest_of};
 ghost use Rattle.condition.specs.Told.{read_whole, verdict_of};
@@ -22,8 +21,7 @@ use token::layout::*;
 use token::row;
 
 // The condition that the rest of a body is, of the token in a row.
-fn evaluate_row(rest: Reader, words: &[u64]) -> Option<Told>
-    requires { length words.now ≡ token_words }
+fn evaluate_row(rest: Reader, words: &[u64; TOKEN_WORDS]) -> Option<Told>
     ensures { result ≡ verdict_of (asked_in words.now) (read_whole (rest_of rest.entry)) }
 {
     let end = HEAD_WORDS + row::count_in(words, GROUP_COUNT, MAX_GROUPS);
@@ -45,9 +43,8 @@ pub fn evaluate(
     ensures { CarriedOut (λ σ. decided σ station.number (asks number (rest_of rest.entry))) parts.now parts.now result }
 {
     let located = locate(parts, station, number, Mask::QUERY);
-    let from = located.map_or(0, |x| x.slot) * TOKEN_WORDS;
-    let end = from + TOKEN_WORDS;
-    let told = evaluate_row(rest, &parts.tokens[from..end]).ok_or(Refusal::Malformed)?;
+    let slot = located.map_or(0, |x| x.slot);
+    let told = evaluate_row(rest, parts.row(slot)).ok_or(Refusal::Malformed)?;
     located?;
     if !told.known {
         return Err(Refusal::BadField);

@@ -1,7 +1,7 @@
 // Handles: the list of 32 slots as words, which a call passes on; `list` has it as it is lent.
 #![tactic(auto)]
 
-ghost use Rattle.std.specs.Prelude.{◌≡◌, map, ◌*◌, ◌/◌, ◌%◌, ◌<◌, length, get_or, set, unwrap_or, IfSome};
+ghost use Rattle.std.specs.Prelude.{◌≡◌, map, ◌/◌, ◌%◌, ◌<◌, get_or, set, unwrap_or, IfSome};
 ghost use Rattle.rules.specs.Basic.{member, word32};
 ghost use Rattle.rules.specs.Table.{lives};
 ghost use Rattle.rules.specs.Index.{free_index, found_index};
@@ -9,7 +9,7 @@ ghost use Rattle.rules.specs.Handle.{is_handle};
 ghost use Rattle.rules.specs.State.{handle_token, handle_slots};
 ghost use Rattle.handle.specs.Meaning.{slots_of, none, is_free, is_named, refers_to};
 ghost use Rattle.handle.specs.First.{FirstOf};
-ghost use Rattle.handle.specs.Words.{word16, slot_words, first_word, records_in};
+ghost use Rattle.handle.specs.Words.{word16, first_word, records_in};
 
 use table::WORD_32;
 
@@ -104,8 +104,9 @@ fn first_word(h: Handle) -> u64
 }
 
 // A handle into a slot.
-pub fn put(words: &mut [u64], slot: usize, h: Handle)
-    requires { (length words.old ≡ handle_slots * slot_words) × (slot < handle_slots) }
+#[tactic(auto, using(crate::proofs::Words::slot_stored))]
+pub fn put(words: &mut [u64; HANDLE_WORDS], slot: usize, h: Handle)
+    requires { slot < handle_slots }
     ensures { records_in words.new ≡ set (records_in words.old) slot h }
 {
     let from = slot * SLOT_WORDS;
@@ -157,6 +158,7 @@ pub fn refers(words: &[u64; HANDLE_WORDS], freed: usize, token: u64) -> bool
 }
 
 // The list with h in a slot; unchanged for a slot past the end.
+#[tactic(auto, using(crate::proofs::Slots::kept, crate::proofs::Words::records_long))]
 pub fn place(handles: Handles, slot: usize, h: Handle) -> Handles
     ensures { records_in result.words ≡ set (records_in handles.words) slot h }
 {

@@ -43,6 +43,7 @@ impl Gate {
     }
 }
 
+#[tactic(auto, using(crate::proofs::ImpersonateLaws::gate_read))]
 fn gate_of(parts: &Parts, station: Station, token: u64) -> Gate
     ensures { GateRead token station.number parts.now.tokens.now parts.now.control.now result }
 {
@@ -85,6 +86,7 @@ fn level_in_force(g: Gate, own: u8) -> u8
 }
 
 // Impersonate is used only where gate one needed it.
+#[tactic(auto, using(crate::proofs::ImpersonateLaws::marks, crate::proofs::ImpersonateLaws::marks_none))]
 fn mark(parts: &mut Parts, station: Station, g: Gate)
     ensures alone { WordsAlone parts.old parts.new }
     ensures marked { MarksUsed g station.number parts.old.tokens.now parts.old.control.now parts.new.tokens.now }
@@ -95,6 +97,7 @@ fn mark(parts: &mut Parts, station: Station, g: Gate)
 }
 
 // The effect, of a client that is not refused: it takes the place of an earlier one.
+#[tactic(auto, using(crate::proofs::ImpersonateLaws::acted))]
 fn act(parts: &mut Parts, station: Station, g: Gate, token: u64, level: u64)
     ensures same { SameParts parts.old parts.new }
     ensures acted { Acted g token level station.number parts.old.tokens.now parts.old.dacls.now (records_in parts.old.handles.now) parts.old.control.now parts.new.tokens.now parts.new.dacls.now parts.new.control.now }

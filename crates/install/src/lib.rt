@@ -17,6 +17,7 @@ use state::parts::Parts;
 use token::Identity;
 
 // The token is of the caller's user and session.
+#[tactic(auto, using(crate::proofs::InstallLaws::matching))]
 fn matching(parts: &Parts, station: Station, token: u64) -> bool
     ensures { Matching token station.number parts.now.tokens.now parts.now.control.now result }
 {
@@ -44,6 +45,7 @@ fn check(parts: &Parts, station: Station, same: bool, token: u64) -> Result<(), 
 }
 
 // The used bits fall on the token that is the caller's primary one now; Tcb counts only where the tokens don't match.
+#[tactic(auto, using(crate::proofs::InstallLaws::marks_one, crate::proofs::InstallLaws::marks_both))]
 fn mark(parts: &mut Parts, station: Station, same: bool)
     ensures alone { WordsAlone parts.old parts.new }
     ensures marked { MarksUsed same station.number parts.old.tokens.now parts.old.control.now parts.new.tokens.now }
@@ -55,6 +57,7 @@ fn mark(parts: &mut Parts, station: Station, same: bool)
 }
 
 // The effect, of a token that is not refused.
+#[tactic(auto, using(crate::proofs::InstallLaws::placed))]
 fn place(parts: &mut Parts, station: Station, same: bool, token: u64)
     ensures same { SameParts parts.old parts.new }
     ensures placed { Placed same token station.number parts.old.tokens.now parts.old.dacls.now (records_in parts.old.handles.now) parts.old.control.now parts.new.tokens.now parts.new.dacls.now parts.new.control.now }

@@ -6,7 +6,7 @@ use mathlib.Core.List.{List, [], ◌∷◌}
 use lib.Dec.{eqb, ltb}
 use borrow.Author.Tests.{lt-ltb}
 use Rattle.std.specs.Prelude.{Option, None, Some, unwrap_or, Ok, Err, if◌then◌else◌}
-use Rattle.rules.specs.Refusal.{not_aLive_handle, right_missing, privilege_not_held, bad_field, table_full}
+use Rattle.rules.specs.Refusal.{privilege_not_held, bad_field, table_full}
 use Rattle.rules.specs.Privileges.{tcb}
 use Rattle.rules.specs.Token.{full, limited, with_elevation}
 use Rattle.rules.specs.Table.{is_live}
@@ -16,7 +16,7 @@ use Rattle.rules.specs.State as state
 use Rattle.rules.specs.State.{State, station_count, pair_slots, token_of, with_tokens, put_token, change_token, used, find_handle, has_pair, can_link, released}
 use Rattle.rules.specs.Valid.{valid}
 use Rattle.rules.specs.Link.{with_both, is_of_session, linkable, linked, link}
-use Rattle.rules.specs.Decision.{Decision, Served, need◌else◌then◌, success, carried_out}
+use Rattle.rules.specs.Decision.{Decision, need◌else◌then◌, success, carried_out}
 use Rattle.rules.proofs.Logic.{and_l, and_r}
 use Rattle.rules.proofs.Facts.{valid_facts, facts_valid}
 use Rattle.rules.proofs.Steps.{Is, found_handle}
@@ -30,13 +30,12 @@ use Rattle.state.specs.TokenCalls.{IdentityGiven, ElevationGiven, WordsChanged, 
 use Rattle.state.specs.ReleaseFacts.{PartsIn, PairLinked}
 use Rattle.state.proofs.FormedLaws.{valid_formed, pairs_back}
 use Rattle.state.proofs.Slots.{some_free_lem, some_found}
-use Rattle.answer.specs.Refusal.{refusal_of}
 use Rattle.answer.specs.declared.Answer.TheVariants as answers
 use Rattle.answer.specs.declared.refusal.Refusal.{Refusal}
 use Rattle.answer.specs.declared.refusal.Refusal.TheVariants as refusal
 use Rattle.decide.specs.Carried.{ends, Carried}
-use Rattle.decide.specs.Lookup.{handle_refusal}
-use Rattle.decide.proofs.Deciding.{stays, fails, holds, refuses, ends_with, used_parts, changed_parts}
+use Rattle.decide.proofs.Deciding.{fails, holds, refuses, ends_with, used_parts, changed_parts}
+use Rattle.decide.proofs.LookupLaws.{stopped, passed, is_known_lem}
 use Rattle.link.specs.Link.{both_live, both_may, PairNamed, of_session, LinkJudged, LinkApplied}
 
 -- ---- the tokens
@@ -87,21 +86,6 @@ can_link_lem session σ v =
 
 -- ---- the decision
 
-abbrev decide : (σ : State) (known permitted : Bool) (rest : Decision) → Served
-decide σ known permitted rest = carried_out σ (need known else not_aLive_handle then need permitted else right_missing then rest)
-
-stopped : (σ : State) (known permitted : Bool) (rest : Decision) {e : Refusal} → Some e ≡ handle_refusal known permitted → decide σ known permitted rest ≡ stays σ (refusal_of e)
-unfolding carried_out
-stopped σ true true rest h = cc
-stopped σ true false rest h = ap (λ (o : Option Refusal). stays σ (refusal_of (unwrap_or o refusal.RightMissing))) (sym h)
-stopped σ false permitted rest h = ap (λ (o : Option Refusal). stays σ (refusal_of (unwrap_or o refusal.NotALiveHandle))) (sym h)
-
-passed : (σ : State) (known permitted : Bool) (rest : Decision) → None ≡ handle_refusal known permitted → (decide σ known permitted rest ≡ carried_out σ rest) × (known ≡ true)
-unfolding carried_out
-passed σ true true rest e = (refl, refl)
-passed σ true false rest e = cc
-passed σ false permitted rest e = cc
-
 -- the rule, once the handles are found
 abbrev go : ℕ → State → (session elevated filtered : ℕ) → Decision
 go s σ session x y =
@@ -118,7 +102,7 @@ module _ {s n m session : ℕ} {hs : List Handle} where
   module _ {x : Pair} (a : PairNamed s n m session hs (Ok x)) where
     module _ (σ : State) (v : valid σ ≡ true) (i : HandlesIn σ hs) where
       known : both_live σ s n m ≡ true
-      known = (passed σ (both_live σ s n m) (both_may σ s n m) (success σ []) (a.refusal σ v i)).1
+      known = is_known_lem (both_live σ s n m) (both_may σ s n m) (a.refusal σ v i)
 
       elevated_is : Is σ x.elevated
       elevated_is = subst (Is σ) (sym (a.pair.elevated σ v i)) (found_handle σ s n (valid_facts σ v) (and_l (is_live (find_handle σ s n)) (is_live (find_handle σ s m)) known)).token
@@ -128,7 +112,7 @@ module _ {s n m session : ℕ} {hs : List Handle} where
 
       goes_on : carried_out σ (link σ s n m session) ≡ carried_out σ (go s σ x.session x.elevated x.filtered)
       unfolding link with_both
-      goes_on = (passed σ (both_live σ s n m) (both_may σ s n m) _ (a.refusal σ v i)).0 ∙ rw (a.pair.session, a.pair.elevated σ v i, a.pair.filtered σ v i)
+      goes_on = passed σ (both_live σ s n m) (both_may σ s n m) _ (a.refusal σ v i) ∙ rw (a.pair.session, a.pair.elevated σ v i, a.pair.filtered σ v i)
 
     module _ {cs ts ds : List ℕ} {may : Bool} (h : Held tcb s ts cs may) where
       pub link_not_held : may ≡ false → Carried (λ σ. link σ s n m session) ts ds hs cs ts ds cs (Err refusal.PrivilegeNotHeld)

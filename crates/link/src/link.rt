@@ -56,6 +56,7 @@ fn is_of_session(i: Identity, session: u64) -> bool
 }
 
 // Two tokens of the session and of one user; a Limited one is not made Full, nor a Full one Limited.
+#[tactic(auto, using(crate::proofs::LinkEnding::judges))]
 fn linkable(parts: &Parts, pair: Pair) -> bool
     ensures { LinkJudged pair parts.now.tokens.now result }
 {
@@ -77,6 +78,7 @@ fn place_for(parts: &Parts, session: u64) -> Option<usize>
 }
 
 // The effect: Tcb is used, the tokens become Full and Limited, and the pair takes its place.
+#[tactic(auto, using(crate::proofs::LinkEnding::applies))]
 fn apply(parts: &mut Parts, station: Station, place: usize, pair: Pair)
     requires { place < pair_slots }
     ensures same { SameParts parts.old parts.new }

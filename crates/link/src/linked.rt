@@ -1,8 +1,7 @@
 // Request 17: the partner of a linked token, itself or a clone of it.
-ghost use Rattle.std.specs.Prelude.{◌≡◌, ◌<◌, length};
+ghost use Rattle.std.specs.Prelude.{◌<◌};
 ghost use Rattle.rules.specs.Link as rules;
 ghost use Rattle.rules.specs.State.{token_slots};
-ghost use Rattle.rules.specs.Memory.{token_words};
 ghost use Rattle.handle.specs.Words.{records_in};
 ghost use Rattle.state.specs.Parts.{SameParts};
 ghost use Rattle.decide.specs.Carried.{CarriedOut};
@@ -26,6 +25,7 @@ use token::layout::*;
 const IDENTIFICATION: u64 = 1;
 
 // The other token of the pair that the token is in.
+#[tactic(auto, using(crate::proofs::LinkedEnding::no_partner, crate::proofs::LinkedEnding::is_elevated, crate::proofs::LinkedEnding::is_filtered))]
 fn partner_of(parts: &Parts, token: u64) -> Option<u64>
     ensures { PartnerGiven token parts.now.control.now result }
 {
@@ -40,6 +40,7 @@ fn partner_of(parts: &Parts, token: u64) -> Option<u64>
 
 // ---- with Tcb: a handle on the partner itself
 
+#[tactic(auto, using(crate::proofs::LinkedEnding::no_handle_left, crate::proofs::LinkedEnding::opens))]
 fn open_partner(parts: &mut Parts, station: Station, partner: u64) -> Result<Outcome, Refusal>
     ensures same { SameParts parts.old parts.new }
     ensures opened { PartnerOpened station.number partner parts.old.tokens.now parts.old.dacls.now (records_in parts.old.handles.now) parts.old.control.now parts.new.tokens.now parts.new.dacls.now parts.new.control.now result }
@@ -59,7 +60,6 @@ fn open_partner(parts: &mut Parts, station: Station, partner: u64) -> Result<Out
 
 // Another number, and an impersonation token at Identification; the elevation is kept.
 fn relabel(words: &mut [u64; TOKEN_WORDS], n: u64)
-    requires { length words.old ≡ token_words }
     ensures { Remade (rules.clone n) words.old words.new }
 {
     words[NUMBER] = n;
@@ -69,6 +69,7 @@ fn relabel(words: &mut [u64; TOKEN_WORDS], n: u64)
 }
 
 // Of the token in a slot.
+#[tactic(auto, using(crate::proofs::LinkedEnding::no_clone, crate::proofs::LinkedEnding::clones))]
 fn issue_clone(parts: &mut Parts, station: Station, slot: usize) -> Result<Outcome, Refusal>
     requires { slot < token_slots }
     ensures same { SameParts parts.old parts.new }

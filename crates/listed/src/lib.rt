@@ -1,10 +1,8 @@
 // The SIDs that tokens keep are in the SID table (document 02, W5: every number that a token keeps is in the table).
 #![tactic(auto)]
 
-ghost use Rattle.std.specs.Prelude.{◌≡◌, [], ◌*◌, ◌^◌, ◌≤◌, ◌<◌, length};
+ghost use Rattle.std.specs.Prelude.{◌≡◌, [], ◌*◌, ◌^◌, ◌≤◌, ◌<◌};
 ghost use Rattle.rules.specs.Basic.{all};
-ghost use Rattle.rules.specs.State.{token_slots};
-ghost use Rattle.rules.specs.Memory.{token_words};
 ghost use Rattle.listed.specs.Tests.{at_most, last_of, stray_of, given_test, word_test, row_test, TokensListed};
 
 use table::WORD_32;
@@ -85,8 +83,8 @@ fn at_most(count: u64, most: usize) -> usize
 }
 
 // The user's, the groups' and the restricting SIDs; a free slot has none.
-fn row_listed(words: &[u64], last: u64) -> bool
-    requires { (length words.now ≡ token_words) × (last < 2 ^ 63) }
+fn row_listed(words: &[u64; TOKEN_WORDS], last: u64) -> bool
+    requires { last < 2 ^ 63 }
     ensures { result ≡ row_test last words.now [] }
 {
     if words[NUMBER] == 0 {
@@ -102,13 +100,13 @@ fn row_listed(words: &[u64], last: u64) -> bool
 }
 
 // `count` is the number of the table's SIDs.
-pub fn tokens_listed(tokens: &[u64], count: u64) -> bool
-    requires { length tokens.now ≡ token_slots * token_words }
+pub fn tokens_listed(tokens: &[u64; TOKENS], count: u64) -> bool
     ensures { TokensListed tokens.now count result }
 {
     let last = last_of(count);
+    let (rows, _) = tokens.as_chunks::<TOKEN_WORDS>();
     let mut ok = true;
-    for row in tokens.chunks_exact(TOKEN_WORDS) {
+    for row in rows {
         ok &= row_listed(row, last);
     }
     ok

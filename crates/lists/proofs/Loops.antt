@@ -2,7 +2,7 @@
 use mathlib.Core.Path.{◌≡◌, refl, sym, ap, ◌∙◌}
 use mathlib.Core.Bool.{Bool, true, false, ◌&&◌, and-true, and_assoc}
 use mathlib.Core.List.{List, [], ◌∷◌}
-use Prim.Native.Nat.{ℕ, zero, suc, ◌+◌, ◌≤◌, ◌<◌, ◌*◌}
+use Prim.Native.Nat.{ℕ, zero, suc, ◌+◌, ◌≤◌, ◌<◌, ◌*◌, ◌/◌}
 use native.Mathlib.Numerals.{add-one}
 use native.Mathlib.Omega.{arith}
 use borrow.Author.Tests.{eq-eqb, ne_eqb, eqb-true, eqb-false}
@@ -12,9 +12,10 @@ use lib.ListN.{length, drop, get_or, drop_of_length-le}
 use lib.Seq.{drop-cons}
 use Rattle.std.specs.Prelude.{if◌then◌else◌}
 use Rattle.std.specs.List.{fold}
-use Rattle.rules.specs.Basic.{all}
+use Rattle.rules.specs.Basic.{all, is_zero, word32}
 use Rattle.lists.specs.Numbers.{InTurn}
-use Rattle.lists.specs.Tests.{one, count, tally, is_referred, refs_test, reference_slots}
+use Rattle.lists.specs.Tests.{one, count, tally, is_apart, is_referred, is_narrow, refs_test, reference_slots}
+use Rattle.lists.proofs.Truth.{narrow_none}
 
 -- ---- every element passes
 
@@ -56,6 +57,9 @@ module _ {A : Type 0} (f : A → Bool) (d : A) (s : List A) where
 
   pub array_done : {n : ℕ} {ok : Bool} {i : ℕ} → TestedArray n ok i → n ≤ i → ok ≡ all f s
   array_done t h = tested_done t.tested (omega arith)
+
+pub apart_done : (from : List ℕ) {s : List ℕ} {ok : Bool} {i : ℕ} → Tested (is_apart from) 0 s ok i → length s ≤ i → ok ≡ all (is_apart from) s
+apart_done from {s} t h = tested_done (is_apart from) 0 s t h
 
 -- ---- a list as the numbers that its values stand for
 
@@ -118,6 +122,12 @@ module _ (t f : ℕ → Bool) (u : (a b : ℕ) → t (bit_or a b) ≡ (t a && t 
 pub none_folded : (f : ℕ → Bool) (g : ℕ → ℕ) → ((x : ℕ) → eqb (g x) 0 ≡ f x) → {r : ℕ} (s : List ℕ) → r ≡ fold (λ bad x. bit_or bad (g x)) 0 s → eqb r 0 ≡ all f s
 none_folded f g v s e = folded (λ n. eqb n 0) f or_none g v s refl e
 
+pub zeros_folded : {r : ℕ} (s : List ℕ) → r ≡ fold (λ bad w. bit_or bad w) 0 s → eqb r 0 ≡ all is_zero s
+zeros_folded s e = none_folded is_zero (λ w. w) (λ w. refl) s e
+
+pub narrow_folded : {r : ℕ} (s : List ℕ) → r ≡ fold (λ bad w. bit_or bad (w / word32)) 0 s → eqb r 0 ≡ all is_narrow s
+narrow_folded s e = none_folded is_narrow (λ w. w / word32) narrow_none s e
+
 -- ---- a number is counted
 
 one_few : (x y : ℕ) → one x y ≤ 1
@@ -157,9 +167,6 @@ module _ (s rs : List ℕ) where
     pub referred : Tested (is_referred rs) 0 s ok i
     pub few : n ≤ i * reference_slots
     pub rest : n + tally (drop i s) rs ≡ tally s rs
-
-  pub tallying_none : Tallying true 0 0
-  tallying_none = record { referred = tested_none _ _ _; few = omega arith; rest = omega arith }
 
   pub tallying_more : {ok : Bool} {n i x : ℕ} → Tallying ok n i → i < length s → length rs ≤ reference_slots → x ≤ length rs → x ≡ count (get_or s i 0) rs
       → Tallying (ok && leb 1 x) (n + x) (i + 1)

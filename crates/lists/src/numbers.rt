@@ -110,6 +110,7 @@ fn is_once(x: u64, s: &[u64]) -> bool
 }
 
 // No number stands twice.
+#[tactic(auto, using(crate::proofs::Loops::tested_more, crate::proofs::Counts::distinct_done))]
 pub fn all_once(s: &[u64]) -> bool
     ensures { result ≡ distinct s.now }
 {
@@ -142,6 +143,7 @@ fn is_apart(x: u64, s: &[u64]) -> bool
 }
 
 // No number of s stands in `from`.
+#[tactic(auto, using(crate::proofs::Loops::tested_more, crate::proofs::Loops::apart_done))]
 pub fn all_apart(s: &[u64], from: &[u64]) -> bool
     ensures { result ≡ all (is_apart from.now) s.now }
 {

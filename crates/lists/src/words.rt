@@ -1,4 +1,6 @@
 // Tests of every element of a slice. What is bad is gathered by `|`, and no loop is left early: the compiler makes vectors of them.
+#![tactic(auto, using(crate::proofs::Loops::zeros_folded, crate::proofs::Loops::narrow_folded))]
+
 ghost use Rattle.std.specs.Prelude.{◌≡◌};
 ghost use Rattle.rules.specs.Basic.{all, is_zero};
 ghost use Rattle.lists.specs.Tests.{is_narrow};

@@ -1,13 +1,17 @@
 -- Numbers one after the other, as a loop passes over them. Assumes nothing.
-use Prim.Native.Nat.{ℕ, zero, suc, ◌+◌, ◌-◌, ◌≤◌, ◌<◌, min}
+use Prim.Native.Nat.{ℕ, zero, suc, ◌+◌, ◌*◌, ◌-◌, ◌^◌, ◌≤◌, ◌<◌, min}
 use native.Mathlib.Nat.{le_of_suc-le-suc, not-suc-le-zero}
 use native.Mathlib.Numerals.{add-one}
 use native.Mathlib.Omega.{arith}
-use mathlib.Core.Path.{◌≡◌, sym, ap, ◌∙◌}
+use mathlib.Core.Path.{◌≡◌, refl, sym, ap, ◌∙◌}
 use mathlib.Core.List.{List, [], ◌∷◌, ◌++◌, append-nil, append_assoc}
 use lib.ListN.{length, take, drop, get_or, length-append}
 use borrow.Rule.Slice.PartMut.{put_mid}
+use Rattle.std.specs.List.{sum_by}
+use Rattle.std.proofs.lemmas.List.Sums.{sum_by-cons}
 use Rattle.rules.specs.Number.{encode, encode_all}
+use Rattle.rules.proofs.Answers.{word}
+use Rattle.number.specs.Answer.{max_fields}
 use Rattle.number.specs.Over.{over}
 use Rattle.number.proofs.Over.{over_same, lent_length, onto}
 
@@ -46,3 +50,23 @@ module _ (fs o₀ o : List ℕ) (a i : ℕ) (more : i < length fs) (e : a ≡ le
 
   pub filled : (ys : List ℕ) → ys ≡ over (encode (get_or fs i 0)) (take (length o - a) (drop a o)) → put_mid a (length o - a) o ys ≡ over (encode_all (take (i + 1) fs)) o₀
   filled ys w = onto (encode_all (take i fs)) (encode (get_or fs i 0)) o₀ o ys a e f w ∙ ap (λ (l : List ℕ). over l o₀) (sym (encoded_next fs i more))
+
+-- ---- how many bytes the fields take
+
+abbrev field_size : ℕ → ℕ
+field_size n = length (encode n)
+
+all_sum : (fs : List ℕ) → sum_by field_size fs ≡ length (encode_all fs)
+unfolding encode_all
+all_sum [] = refl
+all_sum (f ∷ fs) = simp length-append (omega (arith, sum_by-cons field_size f fs, all_sum fs))
+
+pub fields_sum : (fs : List ℕ) {r : ℕ} → r ≡ sum_by field_size fs → r ≡ length (encode_all fs)
+fields_sum fs e = e ∙ all_sum fs
+
+pub fields_few : (fs : List ℕ) {r : ℕ} → ((i : ℕ) → get_or fs i 0 < 2 ^ 64) → length fs ≤ max_fields → r ≡ sum_by field_size fs → r ≤ 10 * max_fields
+fields_few fs below h e = omega (arith, all fs below)
+  where
+    all : (gs : List ℕ) → ((i : ℕ) → get_or gs i 0 < 2 ^ 64) → sum_by field_size gs ≤ length gs * 10
+    all [] b = omega arith
+    all (g ∷ gs) b = omega (arith, sum_by-cons field_size g gs, all gs (λ i. b (suc i)), word g (b 0))

@@ -55,6 +55,8 @@ module _ (s : List ℕ) (at limit : ℕ) where
     read_longer None l f = record { means = f.means ∙ read_more l; bounds = tt }
     read_longer (Some n) l f = record { means = f.means ∙ read_more l; bounds = (omega (arith, f.bounds), f.bounds.1, f.bounds.2) }
 
+pub ruleset readings = (read_none, read_large, read_one, read_longer)
+
 -- ---- what the reader's answer says, by its case
 
 module _ (s : List ℕ) (at limit : ℕ) (r : Option Number) (f : NumberAt s at limit r) where

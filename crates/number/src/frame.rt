@@ -8,15 +8,12 @@ use crate::{size, write};
 use table::slices::copy;
 
 // How many bytes the fields take.
+#[tactic(auto, using(crate::proofs::Fields::fields_few, crate::proofs::Fields::fields_sum))]
 pub fn sizes(fields: &[u64]) -> usize
     requires { length fields.now ≤ max_fields }
     ensures { (result ≡ length (encode_all fields.now)) × (result ≤ 10 * max_fields) }
 {
-    let mut sum = 0;
-    for field in fields {
-        sum += size(*field);
-    }
-    sum
+    fields.iter().map(|field| size(*field)).sum()
 }
 
 // Writes the fields one after the other at the start of out.
@@ -32,6 +29,7 @@ fn write_all(fields: &[u64], out: &mut [u8]) -> usize
 }
 
 // Writes a body at the start of out.
+#[tactic(auto, using(crate::proofs::Over::both, crate::proofs::Over::copied))]
 fn write_body(fields: &[u64], plain: &[u8], out: &mut [u8]) -> usize
     requires { length (body fields.now plain.now) ≤ length out.old }
     ensures { Wrote (body fields.now plain.now) out.old out.new result }

@@ -82,6 +82,7 @@ fn longer(s: &[u8], from: usize, limit: u64, b: u64) -> Option<Number>
 }
 
 // The number at a place, in a field whose largest value is the limit. Almost every number is one byte: it is answered first, in the caller's own code.
+#[tactic(auto, using(crate::proofs::Reading::readings))]
 fn read(s: &[u8], at: usize, limit: u64) -> Option<Number>
     ensures { NumberAt s.now at limit result }
 {

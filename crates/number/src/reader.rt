@@ -1,5 +1,5 @@
 // The reader of a body: the lent bytes and its place (document 01: 'one reader that keeps the lent bytes and its place').
-ghost use Rattle.std.specs.Prelude.{◌≡◌, ◌+◌, ◌≤◌, length, take, drop};
+ghost use Rattle.std.specs.Prelude.{◌≡◌, ◌+◌, ◌≤◌, length, take, drop, IfNone};
 ghost use Rattle.rules.specs.Basic.{is_empty};
 ghost use Rattle.rules.specs.Number.{read_number};
 ghost use Rattle.rules.specs.Request.{times, byte};
@@ -24,7 +24,8 @@ impl<'a> Reader<'a> {
 
     // A number of a field whose largest value is the limit.
     pub fn number(&mut self, limit: u64) -> Option<u64>
-        ensures { ReadOn (read_number limit) limit self.old self.new result }
+        ensures read { ReadOn (read_number limit) limit self.old self.new result }
+        ensures stays { IfNone result (self.new ≡ self.old) }
     {
         let Number { value, next } = number_at(self.body, self.at, limit)?;
         self.at = next;
@@ -33,7 +34,8 @@ impl<'a> Reader<'a> {
 
     // Past count numbers of a limit.
     pub fn numbers(&mut self, count: u64, limit: u64) -> Option<()>
-        ensures { PassedOn (times count (read_number limit)) self.old self.new result }
+        ensures passed { PassedOn (times count (read_number limit)) self.old self.new result }
+        ensures stays { IfNone result (self.new ≡ self.old) }
     {
         self.at = skip(self.body, self.at, count, limit)?;
         Some(())
@@ -41,7 +43,8 @@ impl<'a> Reader<'a> {
 
     // Past count bytes of any value.
     pub fn bytes(&mut self, count: u64) -> Option<()>
-        ensures { PassedOn (times count byte) self.old self.new result }
+        ensures passed { PassedOn (times count byte) self.old self.new result }
+        ensures stays { IfNone result (self.new ≡ self.old) }
     {
         let left = self.body.len().saturating_sub(self.at) as u64;
         if left < count {

@@ -13,7 +13,6 @@ use decide::outcome;
 use decide::outcome::Outcome;
 use privilege::mask::Mask;
 use state::parts::Parts;
-use token::layout::TOKEN_WORDS;
 
 // A class of the handle's token, where the report has room for it.
 pub fn query(parts: &Parts, station: Station, f: QueryFields) -> Result<Outcome, Refusal>
@@ -21,9 +20,7 @@ pub fn query(parts: &Parts, station: Station, f: QueryFields) -> Result<Outcome,
 {
     let slot = locate(parts, station, f.handle, Mask::QUERY)?.slot;
     let class = Class::try_from(f.class)?;
-    let at = slot * TOKEN_WORDS;
-    let end = at + TOKEN_WORDS;
-    let needed = size(&parts.tokens[at..end], class) as u64;
+    let needed = size(parts.row(slot), class) as u64;
     if u64::from(f.capacity) < needed {
         return Err(Refusal::CapacityBelow(needed));
     }

@@ -13,10 +13,9 @@ use lib.ListN.{length, take, drop, get_or, set, length-set, length-drop}
 use lib.Seq.{drop-drop, length-take-le, take_all, take-add, take-suc, take-set-le, take-suc-set, drop-set-add}
 use Rattle.table.specs.Table.{nth_record}
 use Rattle.table.specs.Rows.{read_rows, length_rows, rows_at}
-use Rattle.std.specs.Prelude.{if◌then◌else◌, Some, None}
-use Rattle.std.proofs.Common.{Bor}
-use Rattle.std.specs.Slice.Iter.{chunks_exact_rest, chunks_exact_size, chunks_exact_steps}
-use Rattle.std.specs.declared.slice.ChunksExact.{ChunksExact}
+use Rattle.table.specs.Chunks.{rows_long, row_at}
+use Rattle.std.specs.Prelude.{if◌then◌else◌}
+use Rattle.std.specs.Simd.{first_chunks}
 use Rattle.rules.specs.Basic.{all, member, distinct, implies}
 use Rattle.rules.specs.Token.{Token, max_dacl, primary}
 use Rattle.rules.specs.Table.{Slot, free, live, lives}
@@ -31,7 +30,6 @@ use Rattle.lists.specs.Tests.{station_references, reference_slots, count, is_giv
 use Rattle.references.specs.Tests.{column_by, first_word, other_word, token_in, client_in, rows_in, pair_column, kept, nonzero, is_kept, Room, Front, Joined, Added, Referred, fields_test}
 use Rattle.lists.proofs.Truth.{same_truth, all_cong, all_and, all_map, eqb_same, eqb_flip}
 use Rattle.lists.proofs.Cuts.{drop_take}
-use Rattle.lists.proofs.Rows.{ChunksAt, at_begin, at_turn, at_row, at_more, at_done}
 use Rattle.references.proofs.Loops.{Keeping, keeping_none, keeping_more, keeping_done, Sorting, sorting_first, sorting_second}
 use Rattle.lists.proofs.Counts.{count_none, distinct_count}
 
@@ -51,24 +49,21 @@ module _ (f : List ℕ → ℕ) (w : ℕ) where
       column_at n i (drop w ws) (omega arith)
       ∙ ap (λ l. f (take w l)) (drop-drop (i * w) w ws ∙ ap (λ (k : ℕ). drop k ws) (add_comm w (i * w) ∙ sym (suc-mul i w)))
 
-  given_none : (n : ℕ) (ws out : List ℕ) → length out ≡ n → Keeping (λ x. x) (λ x. x) (column_by f w n ws) [] n n out 0 0
+  pub given_none : (n : ℕ) (ws out : List ℕ) → length out ≡ n → Keeping (λ x. x) (λ x. x) (column_by f w n ws) [] n n out 0 0
   given_none n ws out e = keeping_none _ _ _ _ n n 0 out (length_column n ws) (omega arith) e (omega arith) refl
 
-  pub given_begin : (n : ℕ) (ws out : List ℕ) {it : ChunksExact ℕ} → length out ≡ n → length ws ≡ n * w → chunks_exact_rest it ≡ ws → chunks_exact_size it ≡ w
-      → ChunksAt w n ws (Keeping (λ x. x) (λ x. x) (column_by f w n ws) [] n n out 0) it
-  given_begin n ws out e l r s = at_begin w n ws _ l r s (given_none n ws out e)
+  -- the rows that are gone over
+  module _ {n : ℕ} (ws : List ℕ) {rows : List (List ℕ)} (r : rows ≡ first_chunks w n ws) where
+    pub given_more : {out : List ℕ} {m i v j : ℕ} → Keeping (λ x. x) (λ x. x) (column_by f w n ws) [] n n out m i → i < length rows
+        → v ≡ f (get_or rows i []) → j ≡ is_kept v → Keeping (λ x. x) (λ x. x) (column_by f w n ws) [] n n (set out m v) (m + j) (i + 1)
+    unfolding nth_record
+    given_more {i = i} h l e ej =
+        let t : i < n = omega (arith, rows_long w n ws r) in
+        let a = e ∙ ap f (row_at w n ws r [] l) ∙ sym (column_at n i ws t) in
+        keeping_more _ _ _ _ 0 h t a (ej ∙ ap is_kept a)
 
-  pub given_more : {n : ℕ} (ws : List ℕ) {out : List ℕ} {m v j : ℕ} {it : ChunksExact ℕ} (it' : ChunksExact ℕ) (x : Bor (List ℕ))
-      → ChunksAt w n ws (Keeping (λ x. x) (λ x. x) (column_by f w n ws) [] n n out m) it → chunks_exact_steps it (Some x) it' → 0 < w → v ≡ f x.now → j ≡ is_kept v
-      → ChunksAt w n ws (Keeping (λ x. x) (λ x. x) (column_by f w n ws) [] n n (set out m v) (m + j)) it'
-  given_more {n} ws it' x h s some e ej =
-      let t = at_turn w n ws h it' x s some in
-      let a = e ∙ ap f (at_row w n ws h it' x s some) ∙ sym (column_at n h.turn ws t) in
-      at_more w n ws h it' x s some _ (keeping_more _ _ _ _ 0 h.holds t a (ej ∙ ap is_kept a))
-
-  pub given_done : {n : ℕ} (ws : List ℕ) {out : List ℕ} {m : ℕ} {it it' : ChunksExact ℕ}
-      → ChunksAt w n ws (Keeping (λ x. x) (λ x. x) (column_by f w n ws) [] n n out m) it → chunks_exact_steps it None it' → Front n (nonzero (column_by f w n ws)) m out
-  given_done {n} ws h s = keeping_done _ _ _ [] (at_done w n ws h s) (omega arith)
+    pub given_done : {out : List ℕ} {m i : ℕ} → Keeping (λ x. x) (λ x. x) (column_by f w n ws) [] n n out m i → length rows ≤ i → Front n (nonzero (column_by f w n ws)) m out
+    given_done h l = keeping_done _ _ _ [] h (omega (arith, rows_long w n ws r))
 
 -- f of every station's row is written behind the first n elements of an array
 module _ (f : List ℕ → ℕ) (n : ℕ) (ws before : List ℕ) where
@@ -83,12 +78,10 @@ module _ (f : List ℕ → ℕ) (n : ℕ) (ws before : List ℕ) where
     pub held : take n items ≡ take n before
     pub behind : take i (drop n items) ≡ take i added
 
-  pub adding_none : n + station_count ≤ reference_slots → length before ≡ reference_slots → Adding before 0
-  adding_none h l = record { within = omega arith; fits = h; long = l; held = refl; behind = refl }
-
-  pub adding_more : {items : List ℕ} {i v : ℕ} {row : List ℕ} → v ≡ f row → i < station_count → Adding items i → row ≡ take station_words (drop (i * station_words) ws)
-      → Adding (set items (n + i) v) (i + 1)
-  adding_more {items} {i} {v} e h t r = record {
+  pub adding_more : {rows : List (List ℕ)} {items : List ℕ} {i v : ℕ} → rows ≡ first_chunks station_words station_count ws → Adding items i → i < length rows
+      → v ≡ f (get_or rows i []) → Adding (set items (n + i) v) (i + 1)
+  unfolding nth_record
+  adding_more {items = items} {i = i} {v = v} r t l e = let h : i < station_count = omega (arith, rows_long station_words station_count ws r) in record {
     within = omega arith;
     fits = t.fits;
     long = length-set items (n + i) v ∙ t.long;
@@ -96,13 +89,14 @@ module _ (f : List ℕ → ℕ) (n : ℕ) (ws before : List ℕ) where
     behind =
         ap₂ take (add-one i) (drop-set-add n items i v)
         ∙ take-suc-set (drop n items) i v (simp length-drop (omega (arith, t.fits, t.long)))
-        ∙ ap₂ (λ l x. l ++ (x ∷ [])) t.behind (e ∙ ap f r ∙ sym (column_at f station_words station_count i ws h))
+        ∙ ap₂ (λ l x. l ++ (x ∷ [])) t.behind (e ∙ ap f (row_at station_words station_count ws r [] l) ∙ sym (column_at f station_words station_count i ws h))
         ∙ sym (take-suc added i 0 (omega (arith, length_column f station_words station_count ws)))
         ∙ ap (λ (k : ℕ). take k added) (sym (add-one i));
   }
 
-  pub adding_done : {items : List ℕ} {i : ℕ} → Adding items i → station_count ≤ i → Added f n ws before items
-  adding_done {items} {i} t h =
+  pub adding_done : {rows : List (List ℕ)} {items : List ℕ} {i : ℕ} → rows ≡ first_chunks station_words station_count ws → Adding items i → length rows ≤ i → Added f n ws before items
+  adding_done {items = items} {i = i} r t l =
+      let h : station_count ≤ i = omega (arith, rows_long station_words station_count ws r) in
       let e : i ≡ station_count = omega (arith, t.within) in
       record {
         long = t.long;
@@ -123,33 +117,25 @@ module _ (k n : ℕ) (ws before : List ℕ) where
   pre_long : n + pair_slots ≤ length before → length (take n before) ≡ n
   pre_long h = length-take-le n before (omega arith)
 
-  joining_none : n + pair_slots ≤ length before → Joining before n 0
+  pub joining_none : n + pair_slots ≤ length before → Joining before n 0
   joining_none h =
       let l = pre_long h in
       record { first = h; keeping = keeping_none _ _ _ _ pair_slots (length before) n before (length_rows _ pair_words 0 pair_slots ws []) (omega arith) refl (omega arith) refl }
 
-  pub joining_begin : {it : ChunksExact ℕ} → n + pair_slots ≤ length before → length ws ≡ pair_slots * pair_words → chunks_exact_rest it ≡ ws → chunks_exact_size it ≡ pair_words
-      → ChunksAt pair_words pair_slots ws (Joining before n) it
-  joining_begin h l r s = at_begin pair_words pair_slots ws _ l r s (joining_none h)
+  module _ {rows : List (List ℕ)} (r : rows ≡ first_chunks pair_words pair_slots ws) where
+    pub joining_more : {items : List ℕ} {m i v j : ℕ} → Joining items m i → i < length rows
+        → v ≡ get_or (get_or rows i []) k 0 → j ≡ is_kept (get_or (get_or rows i []) elevated_word 0) → Joining (set items m v) (m + j) (i + 1)
+    joining_more {i = i} h l e ej =
+        let t : i < pair_slots = omega (arith, rows_long pair_words pair_slots ws r) in
+        let row : get_or rows i [] ≡ get_or pair_rows i [] = row_at pair_words pair_slots ws r [] l ∙ sym (rows_at _ pair_words 0 [] pair_slots i ws [] t) in
+        record { first = h.first; keeping = keeping_more _ _ _ _ [] h.keeping t (e ∙ ap (λ l. get_or l k 0) row) (ej ∙ ap (λ l. is_kept (get_or l elevated_word 0)) row) }
 
-  pub joining_more : {items : List ℕ} {m v j : ℕ} {it : ChunksExact ℕ} (it' : ChunksExact ℕ) (x : Bor (List ℕ)) → ChunksAt pair_words pair_slots ws (Joining items m) it
-      → chunks_exact_steps it (Some x) it' → v ≡ get_or x.now k 0 → j ≡ is_kept (get_or x.now elevated_word 0) → ChunksAt pair_words pair_slots ws (Joining (set items m v) (m + j)) it'
-  unfolding nth_record
-  joining_more it' x h s e ej =
-      let t = at_turn pair_words pair_slots ws h it' x s (omega arith) in
-      let row : x.now ≡ get_or pair_rows h.turn [] = at_row pair_words pair_slots ws h it' x s (omega arith) ∙ sym (rows_at _ pair_words 0 [] pair_slots h.turn ws [] t) in
-      at_more pair_words pair_slots ws h it' x s (omega arith) _ (record {
-        first = h.holds.first;
-        keeping = keeping_more _ _ _ _ [] h.holds.keeping t (e ∙ ap (λ r. get_or r k 0) row) (ej ∙ ap (λ r. is_kept (get_or r elevated_word 0)) row);
-      })
-
-  pub joining_done : {items : List ℕ} {m : ℕ} {it it' : ChunksExact ℕ} → ChunksAt pair_words pair_slots ws (Joining items m) it → chunks_exact_steps it None it'
-      → Joined (pair_column k ws) n before items m
-  joining_done h' s =
-      let t = at_done pair_words pair_slots ws h' s in
-      let l = pre_long t.first in
-      let f = t.keeping.few in
-      record { long = t.keeping.long; few = omega arith; front = (keeping_done _ _ _ _ t.keeping (omega arith)).front }
+    pub joining_done : {items : List ℕ} {m i : ℕ} → Joining items m i → length rows ≤ i → Joined (pair_column k ws) n before items m
+    joining_done {i = i} t h =
+        let l = pre_long t.first in
+        let f = t.keeping.few in
+        let past : pair_slots ≤ i = omega (arith, rows_long pair_words pair_slots ws r) in
+        record { long = t.keeping.long; few = omega (arith, t.keeping.within); front = (keeping_done _ _ _ _ t.keeping past).front }
 
 -- the pairs' references stand behind those that were kept, and behind them the stations'
 pub at_referred : {A : Type 0} (t : A → Bool) (k f g : A → ℕ) (d : A) (src : List A) (us : List ℕ) {ok : Bool} {n i m l : ℕ} {fs gs ws es hs ps items : List ℕ}

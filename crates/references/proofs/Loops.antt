@@ -1,7 +1,6 @@
 -- Loops that keep elements of a list and are not left early: what is left to do gives what the whole gives. Assumes nothing.
 use mathlib.Core.Path.{◌≡◌, refl, sym, ap, ◌∙◌}
-use mathlib.Core.Bool.{Bool, true, false, not, ◌&&◌, and-true}
-use borrow.Author.Tests.{eq-eqb}
+use mathlib.Core.Bool.{Bool, true, false, not, ◌&&◌}
 use mathlib.Core.List.{List, [], ◌∷◌, ◌++◌, append_assoc, append-nil}
 use Prim.Native.Nat.{ℕ, suc, ◌+◌, ◌≤◌, ◌<◌}
 use native.Mathlib.Numerals.{add-one}
@@ -13,8 +12,6 @@ use Rattle.std.specs.Prelude.{if◌then◌else◌}
 use Rattle.std.specs.Int.{from_bool}
 use Rattle.rules.specs.Basic.{all}
 use Rattle.lists.proofs.Loops.{TestedArray, array_none, array_more, array_done}
-use Rattle.handle.specs.declared.Handle.{Handle}
-use Rattle.references.specs.Meaning.{fields_of}
 use Rattle.references.specs.Tests.{kept, is_kept, Front}
 
 -- ---- how many more are kept with x
@@ -125,14 +122,3 @@ module _ {A : Type 0} (t : A → Bool) (k f g : A → ℕ) (d : A) (src : List A
 
   pub sorting_second : {size room : ℕ} {ok : Bool} {fs gs : List ℕ} {n i : ℕ} → Sorting size room ok fs gs n i → size ≤ i → Front room (kept k g src) n gs
   sorting_second s h = keeping_done k g src [] s.second h
-
--- ---- a free slot is equal to a slot of zeros
-
-pub free_fields : (h : Handle) {r : Bool} → h.number ≡ 0 → r ≡ (eqb h.station 0 && (eqb h.mask 0 && (eqb h.number 0 && eqb h.token 0))) → r ≡ fields_of h
-free_fields h z e = e ∙ rw (eq-eqb h.number 0 z) (turned (eqb h.station 0) (eqb h.mask 0) (eqb h.token 0))
-  where
-    turned : (x y w : Bool) → (x && (y && (true && w))) ≡ ((x && w) && y)
-    turned true true w = sym (and-true w)
-    turned true false true = refl
-    turned true false false = refl
-    turned false y w = refl

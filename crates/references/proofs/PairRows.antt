@@ -2,7 +2,7 @@
 use mathlib.Core.Path.{◌≡◌, refl, sym, ap, ap₂, ◌∙◌}
 use mathlib.Core.Bool.{Bool, true, false, ◌&&◌, and-true, and-false, and_assoc, and_comm}
 use mathlib.Core.List.{List, [], ◌∷◌, map}
-use Prim.Native.Nat.{ℕ, zero, suc, ◌+◌, ◌*◌, ◌-◌, ◌≤◌, ◌<◌}
+use Prim.Native.Nat.{ℕ, zero, suc, ◌*◌, ◌≤◌, ◌<◌}
 use native.Mathlib.Nat.{zero-mul, suc-mul, not-suc-le-zero}
 use native.Mathlib.Omega.{arith}
 use borrow.Author.Tests.{eq-eqb, ne_eqb}
@@ -10,9 +10,11 @@ use lib.Dec.{eqb}
 use lib.ListN.{length, take, drop, get_or, replicate, length-drop, get_or-eq_default}
 use lib.Seq.{take_all}
 use Rattle.table.specs.Lists.{named_take}
-use Rattle.table.specs.Table.{flat, nth_record, part_at}
+use Rattle.table.specs.Table.{flat, nth_record}
 use Rattle.table.specs.Rows.{read_rows, test_rows, length_rows, rows_at}
+use Rattle.table.specs.Chunks.{rows_long, row_at}
 use Rattle.std.specs.Prelude.{if◌then◌else◌}
+use Rattle.std.specs.Simd.{first_chunks}
 use Rattle.rules.specs.Basic.{all, distinct, same}
 use Rattle.rules.specs.Token.{Token, max_dacl, full, limited, new_token}
 use Rattle.rules.specs.Table.{Slot, free, live, is_live, or_else, lives, found}
@@ -31,7 +33,7 @@ use Rattle.token.specs.Meaning.{slots_of}
 use Rattle.token_rows.specs.Tests.{slot_test}
 use Rattle.token_rows.proofs.Same.{same_append}
 use Rattle.lists.proofs.Truth.{and_swap, all_cong, eqb_flip}
-use Rattle.references.specs.Tests.{kept, rows_in, pair_column, Joined, token_named, fits_in, pair_test, pairs_test}
+use Rattle.references.specs.Tests.{kept, rows_in, pair_column, token_named, fits_in, pair_test, pairs_test}
 use Rattle.references.proofs.Lists.{all_lives}
 
 -- ---- a token by its number
@@ -136,13 +138,13 @@ module _ (ts : List ℕ) (s x y : ℕ) where
   unfolding pair_fits no_token new_token
   no_filtered at = sym (ap (λ t. pair_fits s (token_named ts x) t) (named_none ts y at (omega arith)) ∙ simp and-false)
 
-  pub at_tokens : {i j : ℕ} {r : Bool} → ((ds : List ℕ) → i ≡ found_index (is_numbered x) (slots_of ts ds)) → ((ds : List ℕ) → j ≡ found_index (is_numbered y) (slots_of ts ds))
-      → i < token_slots → j < token_slots
-      → r ≡ pair_fits s (token_at (take (i * token_words + token_words - i * token_words) (drop (i * token_words) ts)) []) (token_at (take (j * token_words + token_words - j * token_words) (drop (j * token_words) ts)) [])
-      → r ≡ pair_fits s (token_named ts x) (token_named ts y)
-  at_tokens {i} {j} at from h l e =
+  pub at_tokens : {rows : List (List ℕ)} {i j : ℕ} {r : Bool} → rows ≡ first_chunks token_words token_slots ts
+      → ((ds : List ℕ) → i ≡ found_index (is_numbered x) (slots_of ts ds)) → ((ds : List ℕ) → j ≡ found_index (is_numbered y) (slots_of ts ds)) → i < token_slots → j < token_slots
+      → r ≡ pair_fits s (token_at (get_or rows i []) []) (token_at (get_or rows j []) []) → r ≡ pair_fits s (token_named ts x) (token_named ts y)
+  at_tokens {rows} {i} {j} g at from h l e =
+      let n : length rows ≡ token_slots = rows_long token_words token_slots ts g in
       e
-      ∙ ap₂ (λ v w. pair_fits s (token_at v []) (token_at w [])) (part_at token_words i ts) (part_at token_words j ts)
+      ∙ ap₂ (λ v w. pair_fits s (token_at v []) (token_at w [])) (row_at token_words token_slots ts g [] {i = i} (omega arith)) (row_at token_words token_slots ts g [] {i = j} (omega arith))
       ∙ elevated_any s _ (nth_record token_words i ts) [] (nth_record max_dacl i [])
       ∙ filtered_any s _ (nth_record token_words j ts) [] (nth_record max_dacl j [])
       ∙ sym (ap₂ (pair_fits s) (named_row ts x at h) (named_row ts y from l))
@@ -168,10 +170,6 @@ module _ (ts row : List ℕ) (l : length row ≡ pair_words) where
       let written : same (get_or row session_word 0 ∷ get_or row elevated_word 0 ∷ get_or row filtered_word 0 ∷ []) row ≡ true =
       ap (same (get_or row session_word 0 ∷ get_or row elevated_word 0 ∷ get_or row filtered_word 0 ∷ [])) named ∙ same_refl _ in
       e ∙ sym (rw (ne_eqb (get_or row elevated_word 0) 0 n, written))
-
--- the sessions of the live pairs, in the front of an array
-pub at_sessions : (ws : List ℕ) {before items : List ℕ} {n : ℕ} {r : Bool} → Joined (pair_column session_word ws) 0 before items n → r ≡ distinct (take (n - 0) (drop 0 items)) → r ≡ distinct (pair_column session_word ws)
-at_sessions ws {items = items} {n = n} j e = e ∙ ap (λ (k : ℕ). distinct (take k items)) {x = n - 0} {y = n} (omega arith) ∙ ap distinct j.front
 
 -- ---- all pairs
 

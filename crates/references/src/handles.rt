@@ -1,16 +1,16 @@
 // The handles (document 01: free places are zero, and ranges are kept), what the live ones are called, and what they, the linked pairs and the
 // stations refer to.
-ghost use Rattle.std.specs.Prelude.{◌≡◌, ◌++◌, ◌*◌, ◌≤◌, length};
+ghost use Rattle.std.specs.Prelude.{◌≡◌, ◌++◌};
 ghost use Rattle.rules.specs.Basic.{all};
-ghost use Rattle.rules.specs.State.{handle_slots, station_count, pair_slots};
-ghost use Rattle.rules.specs.Memory.{station_words, pair_words, elevated_word, filtered_word};
+ghost use Rattle.rules.specs.State.{handle_slots, station_count};
+ghost use Rattle.rules.specs.Memory.{station_words, elevated_word, filtered_word, stations_in, pairs_in};
 ghost use Rattle.handle.specs.Words.{records_in};
 ghost use Rattle.references.specs.Tests.{column_by, token_in, client_in, pair_column, kept, Front, Referred};
 ghost use Rattle.references.specs.Meaning.{number_of, token_of, fields_of};
 
 use crate::REFERENCES;
 use crate::columns::{add_pairs, add_stations, client_in, token_in};
-use control::layout::{ELEVATED_WORD, FILTERED_WORD, STATIONS};
+use control::layout::{CONTROL_WORDS, ELEVATED_WORD, FILTERED_WORD, STATIONS};
 use handle::{HANDLE_WORDS, Handle, NONE, SLOTS};
 use privilege::mask::Mask;
 
@@ -35,11 +35,10 @@ fn fields_valid(h: Handle) -> bool
     (h.station < STATIONS as u16) & Mask(h.mask as u32).valid()
 }
 
-pub fn live(handles: &[u64; HANDLE_WORDS], rows: &[u64], pairs: &[u64]) -> Held
-    requires { (length rows.now ≡ station_count * station_words) × (length pairs.now ≡ pair_slots * pair_words) }
+pub fn live(handles: &[u64; HANDLE_WORDS], control: &[u64; CONTROL_WORDS]) -> Held
     ensures fields { result.ok ≡ all fields_of (records_in handles.now) }
     ensures called { Front handle_slots (kept number_of number_of (records_in handles.now)) result.count result.numbers }
-    ensures refers { Referred (kept number_of token_of (records_in handles.now) ++ pair_column elevated_word pairs.now ++ pair_column filtered_word pairs.now) (column_by token_in station_words station_count rows.now) (column_by client_in station_words station_count rows.now) result.held result.referred }
+    ensures refers { Referred (kept number_of token_of (records_in handles.now) ++ pair_column elevated_word (pairs_in control.now) ++ pair_column filtered_word (pairs_in control.now)) (column_by token_in station_words station_count (stations_in control.now)) (column_by client_in station_words station_count (stations_in control.now)) result.held result.referred }
 {
     let mut ok = true;
     let mut numbers = [0u32; SLOTS];
@@ -52,10 +51,10 @@ pub fn live(handles: &[u64; HANDLE_WORDS], rows: &[u64], pairs: &[u64]) -> Held
         referred[count] = h.token;
         count += usize::from(h.number != 0);
     }
-    let k = add_pairs(&mut referred, count, ELEVATED_WORD, pairs);
-    let held = add_pairs(&mut referred, k, FILTERED_WORD, pairs);
-    add_stations(&mut referred, held, rows, token_in);
-    add_stations(&mut referred, held + STATIONS, rows, client_in);
+    let k = add_pairs(&mut referred, count, ELEVATED_WORD, control);
+    let held = add_pairs(&mut referred, k, FILTERED_WORD, control);
+    add_stations(&mut referred, held, control, token_in);
+    add_stations(&mut referred, held + STATIONS, control, client_in);
     Held {
         ok,
         count,

@@ -1,9 +1,8 @@
 // Part of the test of refusal 13: the handles' fields, all numbers given, what handles, stations and linked pairs refer to, and the pairs.
 #![tactic(auto)]
 
-ghost use Rattle.std.specs.Prelude.{◌≡◌, map, ◌+◌, ◌*◌, ◌≤◌, length, take, drop};
+ghost use Rattle.std.specs.Prelude.{◌≡◌, map, ◌+◌, take, drop};
 ghost use Rattle.rules.specs.State.{token_slots, handle_slots, station_count};
-ghost use Rattle.rules.specs.Memory.{token_words, control_words};
 ghost use Rattle.handle.specs.Meaning.{handle_of};
 ghost use Rattle.handle.specs.Words.{records_in};
 ghost use Rattle.lists.specs.Tests.{station_references, reference_slots};
@@ -11,19 +10,18 @@ ghost use Rattle.references.specs.Tests.{Room, numbers_test, links_test};
 
 use clients::clients_valid;
 use columns::{Given, first_word, numbers, other_word};
-use control::layout::{
-    MAX_HANDLE, NEXT_HANDLE, NEXT_TOKEN, PAIRS, PAIRS_AT, PAIRS_END, STATIONS, STATIONS_AT,
-    STATIONS_END,
-};
+use control::layout::{CONTROL_WORDS, MAX_HANDLE, NEXT_HANDLE, NEXT_TOKEN, PAIRS, STATIONS};
 use handle::{HANDLE_WORDS, SLOTS};
 use handles::{Held, live};
 use lists::numbers::{all_apart, all_given, refs_valid};
 use pairs::pairs_valid;
+use token::layout::TOKENS;
 
 mod clients;
 mod columns;
 mod handles;
 mod pairs;
+mod rows;
 
 // All that can refer to a token: handles, linked pairs by their two tokens, and stations, each by its primary token and by the one that it
 // acts for.
@@ -52,21 +50,20 @@ fn numbers_valid(given: Given, others: Given, held: Held, next_token: u64, next_
 }
 
 // The handles' fields, all numbers, the tokens that stations act for, and the linked pairs.
-pub fn links_valid(tokens: &[u64], handles: &[u64; HANDLE_WORDS], control: &[u64]) -> bool
-    requires { (length tokens.now ≡ token_slots * token_words) × (length control.now ≡ control_words) }
+pub fn links_valid(
+    tokens: &[u64; TOKENS],
+    handles: &[u64; HANDLE_WORDS],
+    control: &[u64; CONTROL_WORDS],
+) -> bool
     ensures { result ≡ links_test tokens.now (map handle_of (records_in handles.now)) control.now }
 {
     let given = numbers(tokens, first_word);
     let others = numbers(tokens, other_word);
-    let held = live(
-        handles,
-        &control[STATIONS_AT..STATIONS_END],
-        &control[PAIRS_AT..PAIRS_END],
-    );
+    let held = live(handles, control);
     let next_token = control[NEXT_TOKEN];
     let next_handle = control[NEXT_HANDLE];
     held.ok
         & numbers_valid(given, others, held, next_token, next_handle)
-        & clients_valid(tokens, &control[STATIONS_AT..STATIONS_END])
-        & pairs_valid(tokens, &control[PAIRS_AT..PAIRS_END])
+        & clients_valid(tokens, control)
+        & pairs_valid(tokens, control)
 }

@@ -1,6 +1,6 @@
 // A function for each request number: the rest of the body in the request's layout (of 18, what stands before its condition), or refusal 1;
 // then the request.
-#![tactic(auto)]
+#![tactic(auto, using(crate::proofs::LayoutLaws::no_number))]
 
 ghost use Rattle.std.specs.Prelude.{◌≤◌, length};
 ghost use Rattle.rules.specs.Request as rules;
@@ -20,9 +20,7 @@ pub fn open_own(parts: &mut Parts, station: Station, rest: Reader) -> Result<Out
     ensures same { SameParts parts.old parts.new }
     ensures carried { LayoutCarried (number_layout rules.open_own) station.number rest.entry parts.old parts.new result }
 {
-    let Some(mask) = layout::number(rest) else {
-        return Err(Refusal::Malformed);
-    };
+    let mask = layout::number(rest).ok_or(Refusal::Malformed)?;
     open::open_own(parts, station, mask)
 }
 
@@ -30,9 +28,7 @@ pub fn close(parts: &mut Parts, station: Station, rest: Reader) -> Result<Outcom
     ensures same { SameParts parts.old parts.new }
     ensures carried { LayoutCarried (number_layout rules.close) station.number rest.entry parts.old parts.new result }
 {
-    let Some(number) = layout::number(rest) else {
-        return Err(Refusal::Malformed);
-    };
+    let number = layout::number(rest).ok_or(Refusal::Malformed)?;
     open::close(parts, station, number)
 }
 
@@ -40,9 +36,7 @@ pub fn create(parts: &mut Parts, station: Station, rest: Reader) -> Result<Outco
     ensures same { SameParts parts.old parts.new }
     ensures carried { LayoutCarried (create_layout sid_number) station.number rest.entry parts.old parts.new result }
 {
-    let Some(fields) = layout::create(rest) else {
-        return Err(Refusal::Malformed);
-    };
+    let fields = layout::create(rest).ok_or(Refusal::Malformed)?;
     create::create(parts, station, fields, rest.body)
 }
 
@@ -50,9 +44,7 @@ pub fn query(parts: &mut Parts, station: Station, rest: Reader) -> Result<Outcom
     ensures same { SameParts parts.old parts.new }
     ensures carried { LayoutCarried query_layout station.number rest.entry parts.old parts.new result }
 {
-    let Some(fields) = layout::query(rest) else {
-        return Err(Refusal::Malformed);
-    };
+    let fields = layout::query(rest).ok_or(Refusal::Malformed)?;
     query::query(parts, station, fields)
 }
 
@@ -60,9 +52,7 @@ pub fn privileges(parts: &mut Parts, station: Station, rest: Reader) -> Result<O
     ensures same { SameParts parts.old parts.new }
     ensures carried { LayoutCarried (entries_layout rules.privileges) station.number rest.entry parts.old parts.new result }
 {
-    let Some(fields) = layout::entries(rest) else {
-        return Err(Refusal::Malformed);
-    };
+    let fields = layout::entries(rest).ok_or(Refusal::Malformed)?;
     adjust_privileges::adjust_privileges(parts, station, fields, rest.body)
 }
 
@@ -70,9 +60,7 @@ pub fn groups(parts: &mut Parts, station: Station, rest: Reader) -> Result<Outco
     ensures same { SameParts parts.old parts.new }
     ensures carried { LayoutCarried (entries_layout rules.groups) station.number rest.entry parts.old parts.new result }
 {
-    let Some(fields) = layout::entries(rest) else {
-        return Err(Refusal::Malformed);
-    };
+    let fields = layout::entries(rest).ok_or(Refusal::Malformed)?;
     adjust_groups::adjust_groups(parts, station, fields, rest.body)
 }
 
@@ -80,9 +68,7 @@ pub fn scope(parts: &mut Parts, station: Station, rest: Reader) -> Result<Outcom
     ensures same { SameParts parts.old parts.new }
     ensures carried { LayoutCarried scope_layout station.number rest.entry parts.old parts.new result }
 {
-    let Some(fields) = layout::scope(rest) else {
-        return Err(Refusal::Malformed);
-    };
+    let fields = layout::scope(rest).ok_or(Refusal::Malformed)?;
     adjust_defaults::scope::scope(parts, station, fields)
 }
 
@@ -91,9 +77,7 @@ pub fn defaults(parts: &mut Parts, station: Station, rest: Reader) -> Result<Out
     ensures same { SameParts parts.old parts.new }
     ensures carried { LayoutCarried defaults_layout station.number rest.entry parts.old parts.new result }
 {
-    let Some(fields) = layout::defaults(rest) else {
-        return Err(Refusal::Malformed);
-    };
+    let fields = layout::defaults(rest).ok_or(Refusal::Malformed)?;
     adjust_defaults::defaults::adjust_defaults(parts, station, fields, rest.body)
 }
 
@@ -101,9 +85,7 @@ pub fn duplicate(parts: &mut Parts, station: Station, rest: Reader) -> Result<Ou
     ensures same { SameParts parts.old parts.new }
     ensures carried { LayoutCarried duplicate_layout station.number rest.entry parts.old parts.new result }
 {
-    let Some(fields) = layout::duplicate(rest) else {
-        return Err(Refusal::Malformed);
-    };
+    let fields = layout::duplicate(rest).ok_or(Refusal::Malformed)?;
     copy::duplicate::duplicate(parts, station, fields)
 }
 
@@ -111,9 +93,7 @@ pub fn restrict(parts: &mut Parts, station: Station, rest: Reader) -> Result<Out
     ensures same { SameParts parts.old parts.new }
     ensures carried { LayoutCarried (restrict_layout sid_number) station.number rest.entry parts.old parts.new result }
 {
-    let Some(fields) = layout::restrict::<Numbered>(rest) else {
-        return Err(Refusal::Malformed);
-    };
+    let fields = layout::restrict::<Numbered>(rest).ok_or(Refusal::Malformed)?;
     copy::restrict::restrict(parts, station, fields, rest.body)
 }
 
@@ -121,9 +101,7 @@ pub fn install(parts: &mut Parts, station: Station, rest: Reader) -> Result<Outc
     ensures same { SameParts parts.old parts.new }
     ensures carried { LayoutCarried (number_layout rules.install) station.number rest.entry parts.old parts.new result }
 {
-    let Some(number) = layout::number(rest) else {
-        return Err(Refusal::Malformed);
-    };
+    let number = layout::number(rest).ok_or(Refusal::Malformed)?;
     install::install(parts, station, number)
 }
 
@@ -131,9 +109,7 @@ pub fn impersonate(parts: &mut Parts, station: Station, rest: Reader) -> Result<
     ensures same { SameParts parts.old parts.new }
     ensures carried { LayoutCarried (number_layout rules.impersonate) station.number rest.entry parts.old parts.new result }
 {
-    let Some(number) = layout::number(rest) else {
-        return Err(Refusal::Malformed);
-    };
+    let number = layout::number(rest).ok_or(Refusal::Malformed)?;
     impersonate::impersonate(parts, station, number)
 }
 
@@ -151,9 +127,7 @@ pub fn create_packed(parts: &mut Parts, station: Station, rest: Reader) -> Resul
     ensures same { SameParts parts.old parts.new }
     ensures carried { LayoutCarried (create_layout packed_sid) station.number rest.entry parts.old parts.new result }
 {
-    let Some(fields) = layout::create_packed(rest) else {
-        return Err(Refusal::Malformed);
-    };
+    let fields = layout::create_packed(rest).ok_or(Refusal::Malformed)?;
     create::create_packed(parts, station, fields, rest.body)
 }
 
@@ -165,9 +139,7 @@ pub fn restrict_packed(
     ensures same { SameParts parts.old parts.new }
     ensures carried { LayoutCarried (restrict_layout packed_sid) station.number rest.entry parts.old parts.new result }
 {
-    let Some(fields) = layout::restrict::<Packed>(rest) else {
-        return Err(Refusal::Malformed);
-    };
+    let fields = layout::restrict::<Packed>(rest).ok_or(Refusal::Malformed)?;
     restrict_packed::restrict_packed(parts, station, fields, rest.body)
 }
 
@@ -175,9 +147,7 @@ pub fn link(parts: &mut Parts, station: Station, rest: Reader) -> Result<Outcome
     ensures same { SameParts parts.old parts.new }
     ensures carried { LayoutCarried link_layout station.number rest.entry parts.old parts.new result }
 {
-    let Some(fields) = layout::link(rest) else {
-        return Err(Refusal::Malformed);
-    };
+    let fields = layout::link(rest).ok_or(Refusal::Malformed)?;
     link::link::link(parts, station, fields)
 }
 
@@ -185,9 +155,7 @@ pub fn linked(parts: &mut Parts, station: Station, rest: Reader) -> Result<Outco
     ensures same { SameParts parts.old parts.new }
     ensures carried { LayoutCarried (number_layout rules.linked) station.number rest.entry parts.old parts.new result }
 {
-    let Some(number) = layout::number(rest) else {
-        return Err(Refusal::Malformed);
-    };
+    let number = layout::number(rest).ok_or(Refusal::Malformed)?;
     link::linked::linked(parts, station, number)
 }
 
@@ -196,8 +164,6 @@ pub fn evaluate(parts: &mut Parts, station: Station, mut rest: Reader) -> Result
     ensures same { SameParts parts.old parts.new }
     ensures carried { LayoutCarried evaluate_layout station.number rest.entry parts.old parts.new result }
 {
-    let Some(number) = rest.number(U32) else {
-        return Err(Refusal::Malformed);
-    };
+    let number = rest.number(U32).ok_or(Refusal::Malformed)?;
     evaluate::evaluate(parts, station, number as u32, rest)
 }

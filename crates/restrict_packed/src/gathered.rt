@@ -1,13 +1,12 @@
 // Request 15: the packed SIDs of a body enter a copy of the SID table, in their order.
-ghost use Rattle.std.specs.Prelude.{◌≡◌, true, false, ◌<◌, IfSome, length, drop, replicate};
+ghost use Rattle.std.specs.Prelude.{◌≡◌, true, false, ◌<◌, IfSome, drop, replicate};
 ghost use Rattle.rules.specs.Number.{max64};
 ghost use Rattle.rules.specs.Sid.{is_packed};
-ghost use Rattle.rules.specs.SidRows.{sid_words};
 ghost use Rattle.restrict_packed.specs.Gathered.{numbers_end, RowAt, Marked, Noted, PackedGathered};
 
 use copy::restricting::Sids;
 use given::enter;
-use sid::layout::ROW_WORDS;
+use sid::layout::{ROW_WORDS, SIDS};
 use sid::packed::{load, size_at};
 use sid::valid::table_valid;
 
@@ -25,7 +24,6 @@ fn row_at(s: &[u8], at: usize) -> [u64; ROW_WORDS]
 // No number of a table is past the marks.
 #[tactic(auto, using(crate::proofs::Gathering::marks_it, crate::proofs::Gathering::marks_none))]
 fn mark(n: u64, marks: &mut [bool; NUMBERS])
-    requires { length marks.old ≡ numbers_end }
     ensures { Marked n marks.old marks.new }
 {
     if n < NUMBERS as u64 {
@@ -36,7 +34,7 @@ fn mark(n: u64, marks: &mut [bool; NUMBERS])
 // One that entered, by its number: it is marked and listed. No list, where it or one before it had no room.
 #[tactic(auto, using(crate::proofs::Gathering::notes_none, crate::proofs::Gathering::notes_lost, crate::proofs::Gathering::notes_it))]
 fn note(list: Option<Sids>, entered: Option<u64>, marks: &mut [bool; NUMBERS]) -> Option<Sids>
-    requires { (length marks.old ≡ numbers_end) × IfSome list (λ l. l.count < max64) }
+    requires { IfSome list (λ l. l.count < max64) }
     ensures { Noted list entered marks.old marks.new result }
 {
     let number = entered?;
@@ -51,10 +49,10 @@ pub fn gather(
     s: &[u8],
     at: usize,
     count: u32,
-    sids: &mut [u64],
+    sids: &mut [u64; SIDS],
     marks: &mut [bool; NUMBERS],
 ) -> Option<Sids>
-    requires { (length sids.old ≡ sid_words) × (marks.old ≡ replicate numbers_end false) }
+    requires { marks.old ≡ replicate numbers_end false }
     ensures { PackedGathered s.now at count sids.old sids.new marks.new result }
 {
     // It is, where the memory is in order: no SID is looked up in a table that is not.

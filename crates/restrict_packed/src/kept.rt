@@ -1,8 +1,7 @@
 // Request 15: the copy's restricting SIDs, from the source's and the numbers of those given.
-ghost use Rattle.std.specs.Prelude.{◌≡◌, ◌≤◌, ◌<◌, length};
+ghost use Rattle.std.specs.Prelude.{◌≡◌, ◌≤◌, ◌<◌};
 ghost use Rattle.rules.specs.Token.{max_restricting};
 ghost use Rattle.rules.specs.State.{token_slots};
-ghost use Rattle.restrict_packed.specs.Gathered.{numbers_end};
 ghost use Rattle.restrict_packed.specs.Kept.{stays_by, ListMade};
 
 use crate::gathered::NUMBERS;
@@ -11,7 +10,6 @@ use state::parts::Parts;
 
 // One of a restricted source's SIDs stays: it is given too, or none is given.
 fn stays(sid: u64, count: u32, marks: &[bool; NUMBERS]) -> bool
-    requires { length marks.now ≡ numbers_end }
     ensures { result ≡ stays_by count marks.now sid }
 {
     count == 0 || (sid < NUMBERS as u64 && marks[sid as usize])
@@ -28,7 +26,7 @@ pub fn list_of(
     given: Option<Sids>,
     marks: &[bool; NUMBERS],
 ) -> Sids
-    requires { (slot < token_slots) × (own ≤ max_restricting) × (length marks.now ≡ numbers_end) }
+    requires { (slot < token_slots) × (own ≤ max_restricting) }
     ensures { ListMade slot own parts.now.tokens.now count given marks.now result }
 {
     if own != 0 {

@@ -1,12 +1,10 @@
 // Request 15: restrict, with packed SIDs. They enter a copy of the SID table, which is kept only if a token is issued.
 #![tactic(auto)]
 
-ghost use Rattle.std.specs.Prelude.{◌≡◌, ◌≤◌, ◌<◌, length};
+ghost use Rattle.std.specs.Prelude.{◌≤◌, ◌<◌};
 ghost use Rattle.rules.specs.Token.{max_restricting};
 ghost use Rattle.rules.specs.State.{token_slots};
-ghost use Rattle.rules.specs.SidRows.{sid_words};
 ghost use Rattle.rules.specs.Request.{packed_sid};
-ghost use Rattle.control.specs.Sids.{SidsCopied};
 ghost use Rattle.state.specs.Parts.{SameParts};
 ghost use Rattle.copy.specs.Restrict.{RestrictCarriedOut};
 ghost use Rattle.restrict_packed.specs.Taken.{SidsTaken};
@@ -28,12 +26,6 @@ use privilege::mask::Mask;
 use sid::layout::SIDS;
 use state::parts::Parts;
 
-fn table_of(parts: &Parts) -> [u64; SIDS]
-    ensures { SidsCopied parts.now.control.now result }
-{
-    sids::copied(parts.control)
-}
-
 // For a copy of the token in a slot. Each SID given gets a number of the table, whether the copy drops it or not; without room, 5 is still
 // judged first.
 fn take(
@@ -42,9 +34,9 @@ fn take(
     own: u64,
     f: RestrictFields,
     s: &[u8],
-    table: &mut [u64],
+    table: &mut [u64; SIDS],
 ) -> Asked
-    requires { (slot < token_slots) × (own ≤ max_restricting) × (length table.old ≡ sid_words) }
+    requires { (slot < token_slots) × (own ≤ max_restricting) }
     ensures { SidsTaken slot own s.now f.sid_at f.sid_count parts.now.tokens.now table.old table.new result }
 {
     let mut marks = [false; NUMBERS];
@@ -67,7 +59,7 @@ pub fn restrict_packed(
 {
     let from = locate(parts, station, f.handle, Mask::DUPLICATE)?;
     let source = source_at(parts, from.slot);
-    let mut table = table_of(parts);
+    let mut table = parts.sids();
     let a = take(parts, from.slot, source.restricting, f, s, &mut table);
     check(parts, source, a, f, s)?;
     let end = issue_restricted(parts, station, from, source.groups, a.list, f, s);

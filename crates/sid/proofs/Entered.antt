@@ -12,7 +12,7 @@ use Rattle.std.specs.Prelude.{if◌then◌else◌, Option, Some, None}
 use Rattle.rules.specs.Basic.{is_below}
 use Rattle.rules.specs.Sid.{Sid, no_sid, valid_sid}
 use Rattle.rules.specs.SidTable.{max_sids, is_in, place_of, entered, fits_table, sids_valid}
-use Rattle.rules.specs.SidRows.{row_words, sid_row, row_sid, rank, row_at, rows_at, sid_words, write_sids, sids_at, sid_words_valid}
+use Rattle.rules.specs.SidRows.{sid_row, row_sid, rank, row_at, rows_at, sid_words, write_sids, sids_at, sid_words_valid}
 use Rattle.rules.specs.Growth.{Mem}
 use Rattle.rules.proofs.Logic.{either, mem_all}
 use Rattle.rules.proofs.Sids.{is_below_lem, row_back, row_one, length_row}
@@ -139,20 +139,11 @@ module _ (ws x : List ℕ) (v : sid_words_valid ws ≡ true) (x-row : Rowed x) w
         }
 
 module _ (ws : List ℕ) (x : List ℕ) (v : sid_words_valid ws ≡ true) (x-row : Rowed x) where
-  pub first_in : 0 < length ws
-  first_in = omega (arith, size ws x v x-row)
-
   pub end_small : 1 + get_or ws 0 0 < 2 ^ 64
   end_small = omega (arith, count_few ws x v x-row)
 
   pub end_in : 1 + get_or ws 0 0 ≤ length ws
   end_in = omega (arith, count_few ws x v x-row, size ws x v x-row)
-
-  pub all_in : sid_words ≤ length ws
-  all_in = omega (arith, size ws x v x-row)
-
-  pub row_wide : length x ≡ row_words
-  row_wide = (lent_sought ws x v x-row).wide
 
   pub rank_in : {k : ℕ} → k ≤ length (take (1 + get_or ws 0 0 - 1) (drop 1 ws)) → k ≤ get_or ws 0 0
   rank_in h = omega (arith, length-take (1 + get_or ws 0 0 - 1) (drop 1 ws))

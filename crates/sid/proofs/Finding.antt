@@ -1,13 +1,13 @@
 -- Laws of the lookup by halving, and of the places that move up. Assumes nothing.
 use Prim.Native.Nat.{ℕ, suc, ◌+◌, ◌-◌, ◌/◌, ◌≤◌, ◌<◌}
 use native.Mathlib.Omega.{arith}
-use mathlib.Core.Path.{◌≡◌, sym, ap, ap₂, ◌∙◌}
+use mathlib.Core.Path.{◌≡◌, refl, sym, ap, ap₂, ◌∙◌}
 use mathlib.Core.Bool.{Bool, true, false}
 use mathlib.Core.Logic.{⊎_elim}
-use mathlib.Core.List.{List, ◌∷◌, ◌++◌}
-use lib.ListN.{length, take, drop, get_or, set, length-take, length-drop, drop_of_length-le}
-use lib.Seq.{drop-cons, drop-drop, take-take, set_at, length-take-le}
-use Rattle.std.proofs.lemmas.List.{drop-take}
+use mathlib.Core.List.{List, [], ◌∷◌, ◌++◌, append_assoc}
+use lib.ListN.{length, take, drop, get_or, set, length-append, length-take, length-drop, take-append-drop}
+use lib.Seq.{drop-cons, set_at, take-suc, get_or-append_seam}
+use Rattle.std.proofs.lemmas.List.{drop-take, get_or-drop}
 use Rattle.std.specs.Prelude.{Some, None}
 use Rattle.rules.specs.SidTable.{max_sids}
 use Rattle.rules.specs.SidRows.{row_words, less, rank, row_at}
@@ -77,23 +77,66 @@ module _ (places rows x : List ℕ) (s : Sought places rows x) {k : ℕ} (e : k 
 
 -- ---- a new place
 
--- what is turned by one is the places from k on, with the one at n in front
-turned : {A : Type 0} (q : List A) (m : ℕ) (d : A) → length q ≡ suc m → drop (length q - 1) q ++ take (length q - 1) q ≡ get_or q m d ∷ take m q
-turned q m d l =
-    let e : length q - 1 ≡ m = omega arith in
-    ap (λ (k : ℕ). drop k q ++ take k q) e ∙ ap (λ (t : List _). t ++ take m q) (drop-cons q m d (omega arith) ∙ ap (λ (t : List _). get_or q m d ∷ t) (drop_of_length-le q {i = suc m} (omega arith)))
+-- a turn stores what is carried at place k + j, and carries on what stood there
+module _ (p : List ℕ) (k new j : ℕ) where
+  abbrev moved : List ℕ
+  moved = new ∷ drop k p
 
-pub shift_done : (p : List ℕ) (n k new : ℕ) {v : List ℕ} → k ≤ n → n < length p
-    → v ≡ drop (length (take (n + 1 - k) (drop k p)) - 1) (take (n + 1 - k) (drop k p)) ++ take (length (take (n + 1 - k) (drop k p)) - 1) (take (n + 1 - k) (drop k p))
-    → set (take k p ++ (v ++ drop (n + 1 - k) (drop k p))) k new ≡ shifted n k new p
+  before_long : k + j < length p → length (take k p ++ take j moved) ≡ k + j
+  before_long h = simp (length-append, length-take, length-drop) (omega arith)
+
+  up_one : {out : List ℕ} {next : ℕ} → k + j < length p → out ≡ take k p ++ (take j moved ++ drop (k + j) p) → next ≡ get_or moved j 0
+      → (set out (k + j) next ≡ take k p ++ (take (suc j) moved ++ drop (suc (k + j)) p)) × (get_or out (k + j) 0 ≡ get_or moved (suc j) 0)
+  up_one {out} {next} h e f =
+      let y : ℕ = get_or p (k + j) 0 in
+      let ys : List ℕ = drop (suc (k + j)) p in
+      let before : List ℕ = take k p ++ take j moved in
+      let whole : out ≡ before ++ (y ∷ ys) =
+      e ∙ ap (λ (t : List ℕ). take k p ++ (take j moved ++ t)) (drop-cons p (k + j) 0 h) ∙ sym (append_assoc (take k p) (take j moved) (y ∷ ys)) in
+      let longer : take (suc j) moved ≡ take j moved ++ (next ∷ []) = take-suc moved j 0 (simp length-drop (omega arith)) ∙ ap (λ (n : ℕ). take j moved ++ (n ∷ [])) (sym f) in (
+        ap (λ (t : List ℕ). set t (k + j) next) whole
+            ∙ set_at before y ys next (k + j) (before_long h)
+            ∙ append_assoc (take k p) (take j moved) (next ∷ ys)
+            ∙ ap (λ (t : List ℕ). take k p ++ t) (sym (append_assoc (take j moved) (next ∷ []) ys) ∙ ap (λ (t : List ℕ). t ++ ys) (sym longer)),
+        ap (λ (t : List ℕ). get_or t (k + j) 0) whole
+            ∙ ap (λ (m : ℕ). get_or (before ++ (y ∷ ys)) m 0) (sym (before_long h))
+            ∙ get_or-append_seam before y ys 0
+            ∙ sym (get_or-drop k p j 0),
+      )
+
+pub record Carried (p : List ℕ) (n k new : ℕ) (out : List ℕ) (next i : ℕ) : Type 0 where
+  pub inside : n < length p
+  pub low : k ≤ i
+  pub high : i ≤ n + 1
+  pub places : out ≡ take k p ++ (take (i - k) (new ∷ drop k p) ++ drop i p)
+  pub carries : next ≡ get_or (new ∷ drop k p) (i - k) 0
+
+pub carried_none : (p : List ℕ) (n k new : ℕ) → k ≤ n → n < length p → Carried p n k new p new k
+carried_none p n k new h l =
+    let none : k - k ≡ 0 = omega arith in
+    record { inside = l; low = omega arith; high = omega arith; places = rw none (sym (take-append-drop k p)); carries = rw none refl }
+
+pub carried_more : {p : List ℕ} {n k new : ℕ} {out : List ℕ} {next i : ℕ} → Carried p n k new out next i → i < n + 1 → Carried p n k new (set out i next) (get_or out i 0) (i + 1)
+carried_more {p} {n} {k} {new} {out} {next} {i} t h =
+    let here : k + (i - k) ≡ i = omega (arith, t.low) in
+    let beyond : i + 1 - k ≡ suc (i - k) = omega (arith, t.low) in
+    let up : suc i ≡ i + 1 = omega arith in
+    let one = up_one p k new (i - k) {out = out} {next = next} (omega (arith, t.inside, t.low)) (rw here t.places) t.carries in
+    record {
+      inside = t.inside;
+      low = omega (arith, t.low);
+      high = omega arith;
+      places = rw (beyond, ← up) (rw here at one.0);
+      carries = rw beyond (rw here at one.1);
+    }
+
+pub carried_done : {p : List ℕ} {n k new : ℕ} {out : List ℕ} {next i : ℕ} → Carried p n k new out next i → k ≤ n → n + 1 ≤ i → out ≡ shifted n k new p
 unfolding shifted
-shift_done p n k new {v} h l e =
-    let size : length (take (n + 1 - k) (drop k p)) ≡ suc (n - k) = simp (length-take, length-drop) (omega arith) in
-    let moved : take (n - k) (take (n + 1 - k) (drop k p)) ≡ drop k (take n p) =
-    take-take (n - k) (n + 1 - k) (drop k p) (omega arith) ∙ sym (drop-take k (n - k) p) ∙ ap (λ (j : ℕ). drop k (take j p)) {x = k + (n - k)} {y = n} (omega arith) in
-    ap (λ (t : List ℕ). set (take k p ++ (t ++ drop (n + 1 - k) (drop k p))) k new) (e ∙ turned (take (n + 1 - k) (drop k p)) (n - k) 0 size)
-    ∙ set_at (take k p) _ (take (n - k) (take (n + 1 - k) (drop k p)) ++ drop (n + 1 - k) (drop k p)) new k (length-take-le k p (omega arith))
-    ∙ ap₂ (λ (a b : List ℕ). take k p ++ (new ∷ (a ++ b))) moved (drop-drop (n + 1 - k) k p ∙ ap (λ (j : ℕ). drop j p) {x = k + (n + 1 - k)} {y = n + 1} (omega arith))
+carried_done {p} {n} {k} {new} {out} {next} {i} t h l =
+    let e : i ≡ n + 1 = omega (arith, t.high) in
+    let many : i - k ≡ suc (n - k) = omega arith in
+    let front : take (n - k) (drop k p) ≡ drop k (take n p) = sym (drop-take k (n - k) p) ∙ ap (λ (m : ℕ). drop k (take m p)) {x = k + (n - k)} {y = n} (omega arith) in
+    t.places ∙ rw (many, e, front) refl
 
 pub place_inside : (places rows x : List ℕ) {k : ℕ} → Sought places rows x → k < length places → get_or places k 0 < max_sids
 place_inside places rows x {k} s l = below_at max_sids places k s.below l

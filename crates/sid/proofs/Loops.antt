@@ -6,10 +6,13 @@ use mathlib.Core.Path.{◌≡◌, refl, sym, ap, ap₂, ◌∙◌}
 use mathlib.Core.Bool.{Bool, true, false, ◌&&◌, and-true, and_assoc}
 use mathlib.Core.List.{List, [], ◌∷◌, ◌++◌}
 use lib.Dec.{eqb, ltb}
-use lib.ListN.{length, take, drop, get_or, length-drop, length-take, drop_of_length-le}
+use lib.ListN.{length, take, drop, get_or, length-drop, drop_of_length-le}
 use lib.Seq.{drop-cons, take_all, drop-drop, get_or-drop}
 use borrow.Author.Tests.{eq-eqb, eqb-true, ne_eqb, ltb-true, le-leb, lt-leb}
 use Rattle.std.specs.Prelude.{if◌then◌else◌, cond, Some}
+use Rattle.std.specs.Simd.{first_chunks}
+use Rattle.table.specs.Table.{nth_record}
+use Rattle.table.specs.Chunks.{chunk_at}
 use Rattle.std.specs.Ordering.{is_some_and, is_lt, nat_cmp, partial_ordering_then}
 use Rattle.std.specs.Cmp.Lexicographic.{slice_partial_cmp}
 use Rattle.std.specs.declared.cmp.Ordering.TheVariants.{Less, Equal, Greater}
@@ -47,16 +50,13 @@ row_order (x ∷ xs) (y ∷ ys) l = by (ltb x y) (eqb x y) refl refl (row_order 
     by false true h k e = e
     by false false h k e = refl
 
--- ---- parts of the table
+-- ---- a row of the table
 
--- what a lent part `&rows[at..end]` is, where `at = i * 9` and `end = at + 9`
-pub part_row : (rows : List ℕ) (i : ℕ) → take (i * row_words + row_words - i * row_words) (drop (i * row_words) rows) ≡ row_at rows i
-unfolding row_at
-part_row rows i = ap (λ (k : ℕ). take k (drop (i * row_words) rows)) {x = i * row_words + row_words - i * row_words} {y = row_words} (omega arith)
-
-pub length_part : (rows : List ℕ) (i : ℕ) → length rows ≡ max_sids * row_words → i < max_sids
-    → length (take (i * row_words + row_words - i * row_words) (drop (i * row_words) rows)) ≡ row_words
-length_part rows i l h = simp (length-take, length-drop) (omega arith)
+-- row i of the rows as `as_chunks` gives them
+pub row_chunk : (rows : List ℕ) (i : ℕ) {chunks : List (List ℕ)} → chunks ≡ first_chunks row_words (length rows / row_words) rows
+    → length rows ≡ max_sids * row_words → i < max_sids → get_or chunks i [] ≡ row_at rows i
+unfolding row_at nth_record
+row_chunk rows i e l h = ap (λ (t : List (List ℕ)). get_or t i []) e ∙ chunk_at row_words [] (length rows / row_words) i rows (omega arith)
 
 -- ---- a row
 

@@ -1,24 +1,24 @@
 -- Laws of numbers in the SID table, and of the packed SID of a number. Assumes nothing.
-use Prim.Native.Nat.{ℕ, zero, suc, ◌+◌, ◌*◌, ◌-◌, ◌≤◌, ◌<◌}
+use Prim.Native.Nat.{ℕ, zero, suc, ◌+◌, ◌-◌, ◌≤◌, ◌<◌}
 use native.Mathlib.Omega.{arith}
 use mathlib.Core.Path.{◌≡◌, refl, sym, ap, ap₂, subst, ◌∙◌}
 use mathlib.Core.Bool.{Bool, true, false, ◌&&◌, ◌||◌, and-false}
 use mathlib.Core.List.{List, ◌++◌}
 use lib.Dec.{eqb, leb, ltb}
 use lib.ListN.{length, take, drop, get_or}
-use lib.Seq.{drop-drop}
 use borrow.Author.Tests.{eq-eqb, ne_eqb, le-leb, lt-leb, lt-ltb, le-ltb}
 use Rattle.std.specs.Prelude.{if◌then◌else◌, Option, Some, None}
 use Rattle.rules.specs.Number.{got}
 use Rattle.rules.specs.Sid.{Sid, valid_sid, packed, read_sid}
 use Rattle.rules.specs.SidTable.{max_sids, number_at, is_number, place_of_number, sid_of, sids_valid}
-use Rattle.rules.specs.SidRows.{row_words, sid_row, row_sid, is_row, row_at, rows_at, sid_words, sids_at, sid_words_valid}
+use Rattle.rules.specs.SidRows.{sid_row, row_sid, is_row, row_at, rows_at, sid_words, sids_at, sid_words_valid}
 use Rattle.rules.proofs.Logic.{and_i}
 use Rattle.rules.proofs.Sids.{read_packed, row_is, row_back, length_row}
 use Rattle.rules.proofs.SidNumbers.{sids_few, sid_at_lem, sids_two, place_below}
 use Rattle.rules.proofs.SidWords.{length_read, rows_in_lem, row_of, words_size, words_written, words_valid}
 use Rattle.sid.specs.Numbers.{NumberIn, place_in, has_number, number_row, can_write_number, WroteNumber}
 use Rattle.sid.specs.Reading.{Wrote}
+use Rattle.sid.proofs.Parts.{rows_part}
 use Rattle.sid.proofs.Writing.{it_can}
 
 -- ---- the number of a place
@@ -135,19 +135,12 @@ module _ (ws : List ℕ) (n : ℕ) (out : List ℕ) where
             and_i (and_i (and_i (eq-eqb (length ws) sid_words size) (le-leb (get_or ws 0 0) max_sids few)) (a_number (sids_at ws) n h (omega (arith, count_read ws))))
             (lt-ltb (place_of_number n) (get_or ws 0 0) (omega (arith, e)))
 
-        -- the lent row
-        row_lent : take (rows_at + p * row_words + row_words - (rows_at + p * row_words)) (drop (rows_at + p * row_words) ws) ≡ number_row ws n
-        unfolding number_row row_at
-        row_lent =
-            ap₂ take {x = rows_at + p * row_words + row_words - (rows_at + p * row_words)} {y = row_words} (omega arith) (sym (drop-drop (p * row_words) rows_at ws))
-            ∙ ap (λ (k : ℕ). take row_words (drop (k * row_words) (drop rows_at ws))) e
-
-        pub number_wrote : p < get_or ws 0 0 → {after : List ℕ} {r : Option ℕ}
-            → Wrote (take (rows_at + p * row_words + row_words - (rows_at + p * row_words)) (drop (rows_at + p * row_words) ws)) out after r
-            → WroteNumber ws n out after r
-        unfolding can_write_number
-        number_wrote l {after} {r} w =
-            let q : Wrote (number_row ws n) out after r = subst (λ (x : List ℕ). Wrote x out after r) row_lent w in
+        pub number_wrote : p < get_or ws 0 0 → {row after : List ℕ} {r : Option ℕ} → row ≡ row_at (take (sid_words - rows_at) (drop rows_at ws)) p
+            → Wrote row out after r → WroteNumber ws n out after r
+        unfolding can_write_number number_row
+        number_wrote l {row} {after} {r} f w =
+            let its : row ≡ number_row ws n = f ∙ ap₂ row_at (rows_part ws size) e in
+            let q : Wrote (number_row ws n) out after r = subst (λ (x : List ℕ). Wrote x out after r) its w in
             record { size = rw (has l) q.size; bytes = rw (has l) q.bytes }
 
 -- of a valid table: the packed SID that has the number, and it is read back

@@ -30,6 +30,10 @@ drop_take (suc n) (suc m) [] = sym (take_nothing (suc m - suc n))
     take_nothing (suc k) = refl
 drop_take (suc n) (suc m) (x ∷ xs) = drop_take n m xs ∙ ap (λ (k : ℕ). take k (drop n xs)) {x = m - n} {y = suc m - suc n} (omega arith)
 
+-- the rows' part
+pub rows_part : (ws : List ℕ) → length ws ≡ sid_words → take (sid_words - rows_at) (drop rows_at ws) ≡ drop rows_at ws
+rows_part ws size = take_all (sid_words - rows_at) (drop rows_at ws) (simp length-drop (omega arith))
+
 module _ (ws : List ℕ) where
   module _ (size : length ws ≡ sid_words) where
     pub part_few : get_or ws 0 0 < 2 → false ≡ words_test ws
@@ -45,9 +49,6 @@ module _ (ws : List ℕ) where
         -- the lent parts
         places_part : take (1 + get_or ws 0 0 - 1) (drop 1 ws) ≡ take (get_or ws 0 0) (take max_sids (drop 1 ws))
         places_part = ap (λ (k : ℕ). take k (drop 1 ws)) {x = 1 + get_or ws 0 0 - 1} {y = get_or ws 0 0} (omega arith) ∙ sym (take-take (get_or ws 0 0) max_sids (drop 1 ws) high)
-
-        rows_part : take (sid_words - rows_at) (drop rows_at ws) ≡ drop rows_at ws
-        rows_part = take_all (sid_words - rows_at) (drop rows_at ws) (simp length-drop (omega arith))
 
         behind_places : take (rows_at - (1 + get_or ws 0 0)) (drop (1 + get_or ws 0 0) ws) ≡ drop (get_or ws 0 0) (take max_sids (drop 1 ws))
         behind_places =
@@ -75,11 +76,11 @@ module _ (ws : List ℕ) where
         part_tests {b} e f er es ep eq et =
             rw (eq-eqb (length ws) sid_words size, le-ltb (get_or ws 0 0) 2 low, le-ltb max_sids (get_or ws 0 0) high, sym places_part, sym e, not-false b f)
             (ap₂ ◌&&◌ (ap₂ ◌&&◌ (ap₂ ◌&&◌ (ap₂ ◌&&◌
-            (er ∙ ap (λ (l : List ℕ). all_below (is_row_at l) (get_or ws 0 0)) rows_part)
-            (es ∙ ap (λ (l : List ℕ). rising (row_at l) (take (1 + get_or ws 0 0 - 1) (drop 1 ws))) rows_part))
+            (er ∙ ap (λ (l : List ℕ). all_below (is_row_at l) (get_or ws 0 0)) (rows_part ws size))
+            (es ∙ ap (λ (l : List ℕ). rising (row_at l) (take (1 + get_or ws 0 0 - 1) (drop 1 ws))) (rows_part ws size)))
             (ep ∙ ap (all is_zero) behind_places))
             (eq ∙ ap (all is_zero) behind_rows))
-            (et ∙ ap starts_test rows_part))
+            (et ∙ ap starts_test (rows_part ws size)))
 
 pub size_rows : (ws : List ℕ) → length ws ≡ sid_words → length (take (sid_words - rows_at) (drop rows_at ws)) ≡ max_sids * row_words
 size_rows ws size = simp (length-take, length-drop) (omega arith)

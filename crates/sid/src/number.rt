@@ -4,6 +4,7 @@ ghost use Rattle.rules.specs.SidTable.{max_sids, number_at};
 ghost use Rattle.sid.specs.Numbers.{NumberIn, place_in, WroteNumber};
 
 use crate::layout::*;
+use crate::row::row;
 use crate::write::write;
 
 const ANONYMOUS: u64 = 7;
@@ -58,9 +59,7 @@ fn place_of(n: u64) -> Option<usize>
 pub fn write_number(sids: &[u64], number: u32, out: &mut [u8]) -> Option<usize>
     ensures { WroteNumber sids.now number out.old out.new result }
 {
-    if sids.len() != SIDS {
-        return None;
-    }
+    let sids = sids.as_array::<SIDS>()?;
     let count = sids[0];
     if (MAX_SIDS as u64) < count {
         return None;
@@ -69,7 +68,5 @@ pub fn write_number(sids: &[u64], number: u32, out: &mut [u8]) -> Option<usize>
     if count as usize <= place {
         return None;
     }
-    let at = ROWS + place * ROW_WORDS;
-    let end = at + ROW_WORDS;
-    write(&sids[at..end], out)
+    write(row(&sids[ROWS..SIDS], place), out)
 }

@@ -16,8 +16,7 @@ fn past(word: u64, n: u64) -> u64
 }
 
 // A revision of 1, at most 15 sub-authorities, and zeros behind them.
-pub fn is_row(row: &[u64]) -> bool
-    requires { length row.now ≡ row_words }
+pub fn is_row(row: &[u64; ROW_WORDS]) -> bool
     ensures { result ≡ is_row row.now }
 {
     let header = row[0];
@@ -34,18 +33,16 @@ pub fn is_row(row: &[u64]) -> bool
 }
 
 // Row i of rows.
-pub(crate) fn row(rows: &[u64], i: usize) -> &[u64]
+pub(crate) fn row(rows: &[u64], i: usize) -> &[u64; ROW_WORDS]
     requires { (length rows.now ≡ max_sids * row_words) × (i < max_sids) }
-    ensures { (result.now ≡ row_at rows.now i) × (length result.now ≡ row_words) }
+    ensures { result.now ≡ row_at rows.now i }
 {
-    let at = i * ROW_WORDS;
-    let end = at + ROW_WORDS;
-    &rows[at..end]
+    let (rows, _) = rows.as_chunks::<ROW_WORDS>();
+    &rows[i]
 }
 
 // The order of rows: the first word that differs is the smaller one.
-pub fn less(a: &[u64], b: &[u64]) -> bool
-    requires { (length a.now ≡ row_words) × (length b.now ≡ row_words) }
+pub fn less(a: &[u64; ROW_WORDS], b: &[u64; ROW_WORDS]) -> bool
     ensures { result ≡ less a.now b.now }
 {
     a < b

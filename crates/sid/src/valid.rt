@@ -2,7 +2,7 @@
 ghost use Rattle.std.specs.Prelude.{◌≡◌, true, ◌*◌, ◌≤◌, ◌<◌, length};
 ghost use Rattle.rules.specs.Basic.{all, is_below};
 ghost use Rattle.rules.specs.SidTable.{max_sids};
-ghost use Rattle.rules.specs.SidRows.{row_words, rising, row_at, sid_words, sid_words_valid};
+ghost use Rattle.rules.specs.SidRows.{row_words, rising, row_at, sid_words_valid};
 ghost use Rattle.sid.specs.Tests.{all_below, is_row_at, starts_test, words_test};
 
 use crate::layout::*;
@@ -52,8 +52,7 @@ fn starts(rows: &[u64]) -> bool
 }
 
 // The count and the places, then what these stand for.
-fn passes(sids: &[u64]) -> bool
-    requires { length sids.now ≡ sid_words }
+fn passes(sids: &[u64; SIDS]) -> bool
     ensures { result ≡ words_test sids.now }
 {
     let count = sids[0];
@@ -80,8 +79,8 @@ fn passes(sids: &[u64]) -> bool
 pub fn table_valid(sids: &[u64]) -> bool
     ensures { result ≡ sid_words_valid sids.now }
 {
-    if sids.len() != SIDS {
+    let Some(sids) = sids.as_array::<SIDS>() else {
         return false;
-    }
+    };
     passes(sids)
 }

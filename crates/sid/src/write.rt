@@ -1,6 +1,6 @@
 // The writer of packed SIDs.
-ghost use Rattle.std.specs.Prelude.{◌≡◌, ◌<◌, length, get_or};
-ghost use Rattle.rules.specs.SidRows.{halves, row_words};
+ghost use Rattle.std.specs.Prelude.{◌≡◌, ◌<◌, get_or};
+ghost use Rattle.rules.specs.SidRows.{halves};
 ghost use Rattle.sid.specs.Reading.{Wrote};
 
 use crate::layout::ROW_WORDS;
@@ -9,8 +9,8 @@ use table::WORD_32;
 use table::slices::copy;
 
 // Half i of a row's words.
-fn half(row: &[u64], i: usize) -> u32
-    requires { (length row.now ≡ row_words) × (i < 18) }
+fn half(row: &[u64; ROW_WORDS], i: usize) -> u32
+    requires { i < 18 }
     ensures { result ≡ get_or (halves row.now) i 0 }
 {
     let w = row[i / 2];
@@ -25,9 +25,7 @@ fn half(row: &[u64], i: usize) -> u32
 pub fn write(row: &[u64], out: &mut [u8]) -> Option<usize>
     ensures { Wrote row.now out.old out.new result }
 {
-    if row.len() != ROW_WORDS {
-        return None;
-    }
+    let row = row.as_array::<ROW_WORDS>()?;
     if !is_row(row) {
         return None;
     }

@@ -46,6 +46,11 @@ module _ (ts ds : List ℕ) (hs : List Handle) (cs ps : List ℕ) where
     unfolding encode
     held_pending = record { rows = sym (ap (λ m. m.pending) back) }
 
+-- ---- the sizes of valid memory
+
+pub valid_lent : {ts ds cs ps : List ℕ} (hs : List Handle) → valid (memory_of ts ds hs cs ps) ≡ true → Sizes.Lent ts ds cs ps
+valid_lent {ts} {ds} {cs} {ps} hs v = sizes_of ts ds hs cs ps (fits ts ds hs cs ps v)
+
 -- ---- after the test of all lent memory, made with `if !b`
 
 module _ {count : ℕ} {items : List Handle} {ts ds cs ps : List ℕ} {b : Bool} (t : ValidTested count items ts ds cs ps b) (f : not b ≡ false) where
@@ -53,7 +58,7 @@ module _ {count : ℕ} {items : List Handle} {ts ds cs ps : List ℕ} {b : Bool}
   tested_valid = t.holds (not-false b f)
 
   pub tested_lent : Sizes.Lent ts ds cs ps
-  tested_lent = sizes_of ts ds items cs ps (fits ts ds items cs ps tested_valid)
+  tested_lent = valid_lent items tested_valid
 
   pub control_long : length cs ≡ control_words
   control_long = tested_lent.control

@@ -1,18 +1,14 @@
 // The start's memory (document 01: 'Start: token 1 ..').
-ghost use Rattle.std.specs.Prelude.{◌≡◌, ◌*◌, length};
-ghost use Rattle.rules.specs.Token.{max_dacl};
-ghost use Rattle.rules.specs.State.{token_slots};
-ghost use Rattle.rules.specs.Memory.{token_words};
 ghost use Rattle.valid.specs.Meaning.{Lent};
 ghost use Rattle.start.specs.Initial.{FirstTokens, Begun};
 
 use privilege::privileges::Privileges;
-use token::layout::TOKEN_WORDS;
+use table::slices::whole;
+use token::layout::{DACLS, TOKEN_WORDS, TOKENS};
 use token::{Identity, row};
 
 // Token 1 in the first slot: SYSTEM's, with every privilege present, enabled and default. The other slots are free.
-fn write_tokens(tokens: &mut [u64], dacls: &mut [u8])
-    requires { (length tokens.old ≡ token_slots * token_words) × (length dacls.old ≡ token_slots * max_dacl) }
+fn write_tokens(tokens: &mut [u64; TOKENS], dacls: &mut [u8; DACLS])
     ensures { FirstTokens tokens.new dacls.new }
 {
     tokens.fill(0);
@@ -34,7 +30,7 @@ pub fn write(tokens: &mut [u64], dacls: &mut [u8], control: &mut [u64], pending:
     requires { Lent tokens.old dacls.old control.old pending.old }
     ensures { Begun tokens.new dacls.new control.new pending.new }
 {
-    write_tokens(tokens, dacls);
-    control::initial::write(control);
+    write_tokens(whole(tokens), whole(dacls));
+    control::initial::write(whole(control));
     pending.fill(0);
 }

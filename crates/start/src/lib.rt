@@ -8,6 +8,7 @@ ghost use Rattle.start.specs.Promise.{StartsWith, ReconnectsWith};
 
 use control::stations::Station;
 use handle::Handles;
+use table::slices::whole;
 
 mod initial;
 mod refusal;
@@ -55,6 +56,6 @@ pub fn reconnect(
     if !valid::valid(tokens, dacls, count, &handles.words, control, pending) {
         return Err(CallRefusal::InvalidMemory);
     }
-    station::drop_stream(there, control, pending);
+    station::drop_stream(there, whole(control), whole(pending));
     Ok(())
 }

@@ -1,19 +1,21 @@
 // The state's tokens, in the parts that hold it.
 ghost use Rattle.std.specs.Prelude.{◌≡◌, ◌<◌, length};
 ghost use Rattle.rules.specs.Number.{max64};
-ghost use Rattle.rules.specs.Token.{max_dacl, with_elevation};
+ghost use Rattle.rules.specs.Token.{with_elevation};
+ghost use Rattle.rules.specs.State.{token_slots};
 ghost use Rattle.rules.specs.Memory.{token_words, next_token};
+ghost use Rattle.control.specs.Sids.{SidsCopied};
 ghost use Rattle.control.specs.Stations.{CallerNumber};
 ghost use Rattle.state.specs.Parts.{SameParts, WordsAlone};
-ghost use Rattle.state.specs.TokenCalls.{RowAt, RowOf, IdentityGiven, IdentityAt, RestrictedGiven, ElevationGiven, PrivilegesGiven, SlotOf, FreeSlot, Held, Marked, CanAdd, WordsChanged, RowAdded, Used};
+ghost use Rattle.state.specs.TokenCalls.{lent, RowAt, RowOf, IdentityGiven, IdentityAt, RestrictedGiven, ElevationGiven, PrivilegesGiven, SlotOf, FreeSlot, Held, Marked, CanAdd, WordsChanged, RowAdded, Used};
 
 use crate::parts::Parts;
-use control::layout::{MAX_TOKEN, NEXT_TOKEN};
+use control::layout::{MAX_TOKEN, NEXT_TOKEN, SIDS};
 use control::stations::Station;
-use control::{counters, stations};
+use control::{counters, sids, stations};
 use privilege::privileges::Privileges;
 use privilege::words;
-use token::layout::{ELEVATION, RESTRICTING_COUNT, TOKEN_SLOTS, TOKEN_WORDS};
+use token::layout::{ELEVATION, MAX_DACL, RESTRICTING_COUNT, TOKEN_WORDS};
 use token::{Identity, row, slots};
 
 // Who the empty token is.
@@ -47,16 +49,21 @@ fn mark_used(bits: u64, words: &mut [u64])
 // ---- looking
 
 impl Parts<'_> {
+    // A slot's row.
+    pub fn row(&self, slot: usize) -> &[u64; TOKEN_WORDS]
+        requires { slot < token_slots }
+        ensures { result.now ≡ lent slot self.now.tokens.now }
+    {
+        let (rows, _) = self.tokens.as_chunks::<TOKEN_WORDS>();
+        &rows[slot]
+    }
+
     // The row of the token in a slot; none past the last slot.
-    pub fn row_at(&self, slot: usize) -> Option<&[u64]>
+    pub fn row_at(&self, slot: usize) -> Option<&[u64; TOKEN_WORDS]>
         ensures { RowAt slot self.now.tokens.now result }
     {
-        if TOKEN_SLOTS <= slot {
-            return None;
-        }
-        let at = slot * TOKEN_WORDS;
-        let end = at + TOKEN_WORDS;
-        Some(&self.tokens[at..end])
+        let (rows, _) = self.tokens.as_chunks::<TOKEN_WORDS>();
+        rows.get(slot)
     }
 
     // The slot of the live token of a number.
@@ -67,7 +74,7 @@ impl Parts<'_> {
     }
 
     // The row of the live token of a number.
-    fn row_of(&self, number: u64) -> Option<&[u64]>
+    fn row_of(&self, number: u64) -> Option<&[u64; TOKEN_WORDS]>
         ensures { RowOf number self.now.tokens.now result }
     {
         self.row_at(self.slot_of(number)?)
@@ -121,6 +128,13 @@ impl Parts<'_> {
         }
     }
 
+    // A copy of the SID table, in which SIDs can enter before it is known whether the request is refused.
+    pub fn sids(&self) -> [u64; SIDS]
+        ensures { SidsCopied self.now.control.now result }
+    {
+        sids::copied(self.control)
+    }
+
     // The number of a station's primary token.
     pub fn caller_number(&self, station: Station) -> u64
         ensures { CallerNumber station.number self.now.control.now result }
@@ -154,8 +168,8 @@ impl Parts<'_> {
 
 impl Parts<'_> {
     // A new token by its rows, whose number is the next one.
-    pub fn add_row(&mut self, words: &[u64], bytes: &[u8])
-        requires { (length words.now ≡ token_words) × (length bytes.now ≡ max_dacl) × (next_token self.old.control.now < max64) }
+    pub fn add_row(&mut self, words: &[u64; TOKEN_WORDS], bytes: &[u8; MAX_DACL])
+        requires { next_token self.old.control.now < max64 }
         ensures same { SameParts self.old self.new }
         ensures added { RowAdded words.now bytes.now self.old.tokens.now self.old.dacls.now self.old.control.now self.new.tokens.now self.new.dacls.now self.new.control.now }
     {
@@ -174,7 +188,8 @@ impl Parts<'_> {
         if let Some(slot) = self.slot_of(number) {
             let at = slot * TOKEN_WORDS;
             let end = at + TOKEN_WORDS;
-            row::set_elevation(&mut self.tokens[at..end], elevation);
+            let tokens = &mut *self.tokens;
+            row::set_elevation(&mut tokens[at..end], elevation);
         }
     }
 
@@ -188,7 +203,8 @@ impl Parts<'_> {
         if let Some(slot) = self.slot_of(caller) {
             let at = slot * TOKEN_WORDS;
             let end = at + TOKEN_WORDS;
-            mark_used(words::bit(privilege), &mut self.tokens[at..end]);
+            let tokens = &mut *self.tokens;
+            mark_used(words::bit(privilege), &mut tokens[at..end]);
         }
     }
 }

@@ -6,6 +6,7 @@ use mathlib.Core.Bool.{Bool, true, false, ◌||◌}
 use mathlib.Core.List.{List, [], ◌∷◌, ◌++◌}
 use lib.Dec.{eqb, leb, ltb}
 use lib.ListN.{length, take, drop, get_or, length-append, length-take, length-drop, drop_of_length-le}
+use lib.Seq.{take_all}
 use borrow.Author.Tests.{lt-ltb, le-ltb, eq-eqb, ne_eqb}
 use Rattle.std.specs.Prelude.{if◌then◌else◌}
 use Rattle.rules.specs.Frame.{max_body, Length, unread, invalid, size, second_of, length_of, framed_by, framed}
@@ -69,6 +70,8 @@ module _ (row : List ℕ) (count : ℕ) (h : count ≤ length row) where
             unfolding second_of
             two_bytes y = record { means = sym (second ∙ rw (← v, y)); bounds = (omega arith, omega arith) }
 
+pub ruleset lengths = (none, no_length, one_byte, one_only, bad_length, two_bytes)
+
 -- ---- bytes that follow change nothing of a length that is known
 
 Stays : List ℕ → Length → Length → Type 0
@@ -122,12 +125,19 @@ module _ (row : List ℕ) (count : ℕ) (h : count ≤ length row) (r : declared
     unfolding framed framed_by
     body_full l = record { means = rw (is (len.Known start n) e, le-ltb (length (drop start (take count row))) n (omega (arith, there))); bounds = within }
 
-    pub sure_some : (k : ℕ) → count - start < n → k ≡ n - (count - start) - 1 → Sure (take count row) k
+    sure_first : (k : ℕ) → count - start < n → k ≡ n - (count - start) - 1 → Sure (take count row) k
     unfolding framed framed_by Stays
-    sure_some k l g = record {
+    sure_first k l g = record {
       stays = λ bytes lo hi.
           let body = drop start (take count row) in
           let known : length_of (take count row ++ bytes) ≡ size n (body ++ bytes) =
           subst (λ (m : Length). Stays bytes m (length_of (take count row ++ bytes))) (is (len.Known start n) e) (length_stays (take count row) bytes) in
           rw (known, lt-ltb (length (body ++ bytes)) n (simp length-append (omega (arith, there))));
     }
+
+-- of all the bytes
+pub sure_some : (s : List ℕ) (r : declared.Length) → Announced s (length s) r → (start n : ℕ) → r ≡ len.Known start n → (k : ℕ) → length s - start < n → k ≡ n - (length s - start) - 1
+    → Sure s k
+sure_some s r f start n e k l g = subst (λ bytes. Sure bytes k) (take_all (length s) s (omega arith)) (sure_first s (length s) (omega arith) r f start n e k l g)
+
+pub ruleset framings = (length_unread, length_invalid, body_short)

@@ -166,25 +166,46 @@ module _ {chunk before : List ℕ} {count : ℕ} {row : List ℕ} {n i : ℕ} (j
           (sym s ∙ ap onward (ap (framed_of next (n + 1)) (sym g) ∙ f.means) ∙ turn)
           kept (omega arith) (omega arith) (subst (Starts (n + 1)) g f.bounds)
 
+-- what the first count bytes of a row come to, as bytes of their own
+framed_first : (row : List ℕ) (count : ℕ) (r : Framed) → count ≤ length row → FramedAs (take count row) (length (take count row)) r → FramedAs row count r
+framed_first row count r h f =
+    let s : List ℕ = take count row in
+    let all : take (length s) s ≡ s = take_all (length s) s (omega arith) in
+    record {
+      means = by r ∙ f.means ∙ ap Frame.framed all;
+      bounds = subst (λ (n : ℕ). Starts n r) (length-take-le count row h) f.bounds;
+    }
+  where
+    by : (x : Framed) → framed_of row count x ≡ framed_of (take count row) (length (take count row)) x
+    by code.Part = refl
+    by code.Broken = refl
+    by (code.Whole start) = ap (λ (s : List ℕ). Frame.whole (drop start s)) (sym (take_all (length (take count row)) (take count row) (omega arith)))
+
 -- a turn: the bytes that join at once, and one byte more
 module _ {chunk before : List ℕ} {count : ℕ} {row after : List ℕ} {n i k : ℕ} (j : Joining chunk before count row n i)
-    (a : JoinedAtOnce (take (length chunk - i) (drop i chunk)) row n after k)
-    (r : Framed) (f : FramedAs (set after (n + k) (get_or chunk (i + k) 0)) (n + k + 1) r) where
+    (a : JoinedAtOnce (take (length chunk - i) (drop i chunk)) row n after k) where
   abbrev last : List ℕ
   last = set after (n + k) (get_or chunk (i + k) 0)
 
   more : i + k < length chunk
   more = let u : k < length (take (length chunk - i) (drop i chunk)) = a.used in omega (arith, simp (length-take, length-drop) at u)
 
-  pub turn_goes_on : r ≡ code.Part → Joining chunk before count last (n + k + 1) (i + k + 1)
-  turn_goes_on g = goes_on (joining_block j a) more r f g
+  abbrev block : Joining chunk before count after (n + k) (i + k)
+  block = joining_block j a
 
-  -- the stream breaks, or a frame is whole
-  pub turn_ends : (r ≡ code.Part → ⊥) → Joined chunk before count last (record { used = i + k + 1; count = n + k + 1; what = r })
-  unfolding stop_on
-  turn_ends g = by r refl
-    where
-      by : (what : Framed) → r ≡ what → Joined chunk before count last (record { used = i + k + 1; count = n + k + 1; what = r })
-      by code.Part e = absurd (g e)
-      by code.Broken e = rw e (halts (joining_block j a) more r f code.Broken refl e)
-      by (code.Whole start) e = rw e (halts (joining_block j a) more r f (code.Whole start) refl e)
+  module _ (r : Framed) (w : FramedAs (take (n + k + 1) last) (length (take (n + k + 1) last)) r) where
+    f : FramedAs last (n + k + 1) r
+    f = framed_first last (n + k + 1) r (simp length-set (omega (arith, block.long, block.room))) w
+
+    pub turn_goes_on : r ≡ code.Part → Joining chunk before count last (n + k + 1) (i + k + 1)
+    turn_goes_on g = goes_on block more r f g
+
+    -- the stream breaks, or a frame is whole
+    pub turn_ends : (r ≡ code.Part → ⊥) → Joined chunk before count last (record { used = i + k + 1; count = n + k + 1; what = r })
+    unfolding stop_on
+    turn_ends g = by r refl
+      where
+        by : (what : Framed) → r ≡ what → Joined chunk before count last (record { used = i + k + 1; count = n + k + 1; what = r })
+        by code.Part e = absurd (g e)
+        by code.Broken e = rw e (halts block more r f code.Broken refl e)
+        by (code.Whole start) e = rw e (halts block more r f (code.Whole start) refl e)

@@ -1,5 +1,5 @@
-// What a row's first bytes come to, by the one or two length bytes and the count.
-ghost use Rattle.std.specs.Prelude.{◌≡◌, ◌||◌, ◌≤◌, eqb, leb, ltb, length, take};
+// What pending bytes come to, by their one or two length bytes and how many they are.
+ghost use Rattle.std.specs.Prelude.{◌≡◌, ◌||◌, eqb, leb, ltb, length};
 ghost use Rattle.rules.specs.Frame.{max_body};
 ghost use Rattle.stream.specs.Join.{Sure};
 ghost use Rattle.stream.specs.Meaning.{Announced, FramedAs};
@@ -25,25 +25,25 @@ fn invalid(b: usize, n: usize) -> bool
     (b == 0) | (128 <= b) | (MAX_BODY < n)
 }
 
-// What the first count bytes of a row say of the body's length.
-fn announced(row: &[u8], count: usize) -> Length
-    requires { count ≤ length row.now }
-    ensures { Announced row.now count result }
+// What pending bytes say of the body's length.
+#[tactic(auto, using(crate::proofs::Framing::lengths))]
+fn announced(pending: &[u8]) -> Length
+    ensures { Announced pending.now (length pending.now) result }
 {
-    if count == 0 {
+    let Some(first) = pending.first() else {
         return Length::Unread;
-    }
-    let a = usize::from(row[0]);
+    };
+    let a = usize::from(*first);
     if a == 0 {
         return Length::Invalid;
     }
     if a < 128 {
         return Length::Known { start: 1, size: a };
     }
-    if count == 1 {
+    let Some(second) = pending.get(1) else {
         return Length::Unread;
-    }
-    let b = usize::from(row[1]);
+    };
+    let b = usize::from(*second);
     let n = a - 128 + 128 * b;
     if invalid(b, n) {
         return Length::Invalid;
@@ -51,16 +51,16 @@ fn announced(row: &[u8], count: usize) -> Length
     Length::Known { start: 2, size: n }
 }
 
-// What the first count bytes of a row come to.
-pub fn framed(row: &[u8], count: usize) -> Framed
-    requires { count ≤ length row.now }
-    ensures { FramedAs row.now count result }
+// What pending bytes come to.
+#[tactic(auto, using(crate::proofs::Framing::framings))]
+pub fn framed(pending: &[u8]) -> Framed
+    ensures { FramedAs pending.now (length pending.now) result }
 {
-    match announced(row, count) {
+    match announced(pending) {
         Length::Unread => Framed::Part,
         Length::Invalid => Framed::Broken,
         Length::Known { start, size } => {
-            if count - start < size {
+            if pending.len() - start < size {
                 Framed::Part
             } else {
                 Framed::Whole { start }
@@ -69,15 +69,15 @@ pub fn framed(row: &[u8], count: usize) -> Framed
     }
 }
 
-// How many bytes may follow the first count bytes of a row, whatever they are, and leave a part of a frame: all that are missing but one.
-pub fn sure(row: &[u8], count: usize) -> usize
-    requires { count ≤ length row.now }
-    ensures { Sure (take count row.now) result }
+// How many bytes may follow pending ones, whatever they are, and leave a part of a frame: all that are missing but one.
+#[tactic(auto, using(crate::proofs::Framing::sure_some))]
+pub fn sure(pending: &[u8]) -> usize
+    ensures { Sure pending.now result }
 {
-    match announced(row, count) {
+    match announced(pending) {
         Length::Unread | Length::Invalid => 0,
         Length::Known { start, size } => {
-            let here = count - start;
+            let here = pending.len() - start;
             if here < size { size - here - 1 } else { 0 }
         }
     }

@@ -30,16 +30,18 @@ pub struct Stopped {
 }
 
 // The bytes of a chunk, but for its last one, join at once while the pending ones stay a part of a frame for sure. Answers how many.
+#[tactic(auto, using(crate::proofs::Joining::ends_within))]
 fn join_at_once(chunk: &[u8], row: &mut [u8], count: usize) -> usize
     requires { (1 ≤ length chunk.now) × (length row.old ≡ pending_bytes) × (count < pending_bytes) }
     ensures { JoinedAtOnce chunk.now row.old count row.new result }
 {
-    let k = sure(row, count).min(chunk.len() - 1);
+    let k = sure(&row[..count]).min(chunk.len() - 1);
     copy(&chunk[..k], &mut row[count..count + k]);
     k
 }
 
 // The bytes of a chunk join the pending ones until a frame is whole, the stream breaks or the chunk ends.
+#[tactic(auto, using(crate::proofs::Joining::chunk_ends))]
 pub fn join(chunk: &[u8], row: &mut [u8], count: usize) -> Stopped
     requires { (length row.old ≡ pending_bytes) × (count < pending_bytes) }
     ensures { Joined chunk.now row.old count row.new result }
@@ -54,7 +56,7 @@ pub fn join(chunk: &[u8], row: &mut [u8], count: usize) -> Stopped
         row[n] = chunk[i];
         n += 1;
         i += 1;
-        let what = framed(row, n);
+        let what = framed(&row[..n]);
         let Framed::Part = what else {
             return Stopped {
                 used: i,

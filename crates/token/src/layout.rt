@@ -14,6 +14,11 @@ pub const GROUPS_END: usize = HEAD_WORDS + MAX_GROUPS;
 
 pub const TOKEN_WORDS: usize = GROUPS_END + MAX_RESTRICTING;
 
+// The words of all slots' rows, and the bytes of their DACLs.
+pub const TOKENS: usize = TOKEN_SLOTS * TOKEN_WORDS;
+
+pub const DACLS: usize = TOKEN_SLOTS * MAX_DACL;
+
 // A token's head.
 pub const NUMBER: usize = 0;
 

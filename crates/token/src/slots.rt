@@ -1,9 +1,8 @@
 // The sixteen slots of tokens in lent memory. A slot is free where its row has number 0.
-ghost use Rattle.std.specs.Prelude.{◌≡◌, ℕ, ◌*◌, ◌<◌, List, IfSome, ◌==◌, length, slice_index, unwrap_or};
+ghost use Rattle.std.specs.Prelude.{◌≡◌, ℕ, ◌*◌, ◌<◌, List, IfSome, ◌==◌, slice_index, unwrap_or};
 ghost use Rattle.std.specs.List.{position};
 ghost use Rattle.std.specs.Simd.{first_chunks};
 ghost use Rattle.table.specs.Table.{put_record};
-ghost use Rattle.table.specs.Column.{column, index_of};
 ghost use Rattle.rules.specs.Token.{max_dacl};
 ghost use Rattle.rules.specs.Table.{free};
 ghost use Rattle.rules.specs.State.{token_slots, is_numbered};
@@ -11,7 +10,7 @@ ghost use Rattle.rules.specs.Index.{free_index, found_index};
 ghost use Rattle.rules.specs.Memory.{token_words, slot_row, slot_dacl};
 ghost use Rattle.token.specs.Meaning.{slots_of};
 
-use crate::layout::{MAX_DACL, NUMBER, TOKEN_WORDS};
+use crate::layout::{DACLS, MAX_DACL, NUMBER, TOKEN_WORDS, TOKENS};
 use table::slices::copy;
 
 // The words of a free slot's row, and its DACL's bytes.
@@ -20,8 +19,14 @@ const FREE_WORDS: [u64; TOKEN_WORDS] = [0; TOKEN_WORDS];
 const FREE_DACL: [u8; MAX_DACL] = [0; MAX_DACL];
 
 // A slot's rows become these.
-pub fn put_at(words: &[u64], bytes: &[u8], tokens: &mut [u64], dacls: &mut [u8], slot: usize)
-    requires { (length words.now ≡ token_words) × (length bytes.now ≡ max_dacl) × (length tokens.old ≡ token_slots * token_words) × (length dacls.old ≡ token_slots * max_dacl) × (slot < token_slots) }
+pub fn put_at(
+    words: &[u64; TOKEN_WORDS],
+    bytes: &[u8; MAX_DACL],
+    tokens: &mut [u64; TOKENS],
+    dacls: &mut [u8; DACLS],
+    slot: usize,
+)
+    requires { slot < token_slots }
     ensures { (tokens.new ≡ put_record token_words slot words.now tokens.old) × (dacls.new ≡ put_record max_dacl slot bytes.now dacls.old) }
 {
     let at = slot * TOKEN_WORDS;
@@ -32,16 +37,15 @@ pub fn put_at(words: &[u64], bytes: &[u8], tokens: &mut [u64], dacls: &mut [u8],
     copy(bytes, &mut dacls[from..till]);
 }
 
-pub fn clear_at(tokens: &mut [u64], dacls: &mut [u8], slot: usize)
-    requires { (length tokens.old ≡ token_slots * token_words) × (length dacls.old ≡ token_slots * max_dacl) × (slot < token_slots) }
+pub fn clear_at(tokens: &mut [u64; TOKENS], dacls: &mut [u8; DACLS], slot: usize)
+    requires { slot < token_slots }
     ensures { (tokens.new ≡ put_record token_words slot (slot_row free) tokens.old) × (dacls.new ≡ put_record max_dacl slot (slot_dacl free) dacls.old) }
 {
     put_at(&FREE_WORDS, &FREE_DACL, tokens, dacls, slot);
 }
 
 // The first slot whose row has that number.
-fn slot_of(tokens: &[u64], number: u64) -> Option<usize>
-    requires { length tokens.now ≡ token_slots * token_words }
+fn slot_of(tokens: &[u64; TOKENS], number: u64) -> Option<usize>
     ensures { result ≡ position (λ row. slice_index row 0 == number) (first_chunks token_words token_slots tokens.now) }
 {
     let (rows, _) = tokens.as_chunks::<TOKEN_WORDS>();
@@ -49,8 +53,7 @@ fn slot_of(tokens: &[u64], number: u64) -> Option<usize>
 }
 
 // The slot of the live token of that number. The DACLs don't matter.
-pub fn find(tokens: &[u64], number: u64) -> Option<usize>
-    requires { length tokens.now ≡ token_slots * token_words }
+pub fn find(tokens: &[u64; TOKENS], number: u64) -> Option<usize>
     ensures slot { (dacls : List ℕ) → unwrap_or result token_slots ≡ found_index (is_numbered number) (slots_of tokens.now dacls) }
     ensures within { IfSome result (λ k. k < token_slots) }
 {
@@ -62,8 +65,7 @@ pub fn find(tokens: &[u64], number: u64) -> Option<usize>
 }
 
 // The lowest free slot.
-pub fn free_slot(tokens: &[u64]) -> Option<usize>
-    requires { length tokens.now ≡ token_slots * token_words }
+pub fn free_slot(tokens: &[u64; TOKENS]) -> Option<usize>
     ensures slot { (dacls : List ℕ) → unwrap_or result token_slots ≡ free_index (slots_of tokens.now dacls) }
     ensures within { IfSome result (λ k. k < token_slots) }
 {

@@ -1,3 +1,4 @@
 pub mod Same
+pub mod Pairs
 pub mod Groups
 pub mod TokenRow

@@ -2,7 +2,7 @@
 // counts, and every field is within its range).
 #![tactic(auto)]
 
-ghost use Rattle.std.specs.Prelude.{◌≡◌, ◌*◌, map, length};
+ghost use Rattle.std.specs.Prelude.{◌≡◌, ◌*◌, map};
 ghost use Rattle.table.specs.Rows.{test_rows};
 ghost use Rattle.rules.specs.Basic.{all};
 ghost use Rattle.rules.specs.Token.{max_dacl};
@@ -65,8 +65,7 @@ fn owner_valid(groups: &[u64], owner: u64) -> bool
 }
 
 // The fields but the integrity, the owner, the primary group and the counts.
-fn head_valid(w: &[u64]) -> bool
-    requires { length w.now ≡ token_words }
+fn head_valid(w: &[u64; TOKEN_WORDS]) -> bool
     ensures { result ≡ head_test w.now }
 {
     let present = w[PRESENT];
@@ -86,7 +85,7 @@ fn head_valid(w: &[u64]) -> bool
 }
 
 // The lists end where their counts say, and restricting SIDs are below 2^32.
-fn lists_valid(words: &[u64], dacl: &[u8]) -> bool
+fn lists_valid(words: &[u64; TOKEN_WORDS], dacl: &[u8; MAX_DACL]) -> bool
     requires { Counted words.now dacl.now }
     ensures { result ≡ lists_test words.now dacl.now }
 {
@@ -100,7 +99,7 @@ fn lists_valid(words: &[u64], dacl: &[u8]) -> bool
 }
 
 // A row with a token whose counts are within their limits.
-fn live_valid(words: &[u64], dacl: &[u8]) -> bool
+fn live_valid(words: &[u64; TOKEN_WORDS], dacl: &[u8; MAX_DACL]) -> bool
     requires { Counted words.now dacl.now }
     ensures { result ≡ live_test words.now dacl.now }
 {
@@ -117,8 +116,7 @@ fn live_valid(words: &[u64], dacl: &[u8]) -> bool
 }
 
 // A row is what its slot is written as, and the token in it, if any, is valid.
-fn token_valid(words: &[u64], dacl: &[u8]) -> bool
-    requires { (length words.now ≡ token_words) × (length dacl.now ≡ max_dacl) }
+fn token_valid(words: &[u64; TOKEN_WORDS], dacl: &[u8; MAX_DACL]) -> bool
     ensures { result ≡ token_test words.now dacl.now }
 {
     if words[NUMBER] == 0 {
@@ -136,15 +134,13 @@ fn token_valid(words: &[u64], dacl: &[u8]) -> bool
     live_valid(words, dacl)
 }
 
-pub fn tokens_valid(tokens: &[u64], dacls: &[u8]) -> bool
-    requires { (length tokens.now ≡ token_slots * token_words) × (length dacls.now ≡ token_slots * max_dacl) }
+pub fn tokens_valid(tokens: &[u64; TOKENS], dacls: &[u8; DACLS]) -> bool
     ensures { result ≡ test_rows token_test token_words max_dacl token_slots tokens.now dacls.now }
 {
+    let (rows, _) = tokens.as_chunks::<TOKEN_WORDS>();
+    let (dacl_rows, _) = dacls.as_chunks::<MAX_DACL>();
     let mut ok = true;
-    for (words, dacl) in tokens
-        .chunks_exact(TOKEN_WORDS)
-        .zip(dacls.chunks_exact(MAX_DACL))
-    {
+    for (words, dacl) in rows.iter().zip(dacl_rows) {
         ok &= token_valid(words, dacl);
     }
     ok

@@ -1,12 +1,13 @@
 -- The sizes of the lent parts, and the test of all lent memory by them: of every lent list with these handles. Assumes nothing.
 use Prim.Native.Nat.{ℕ, ◌*◌, ◌^◌, ◌<◌}
 use mathlib.Core.Path.{◌≡◌, refl, sym, ap, ◌∙◌}
-use mathlib.Core.Bool.{Bool, true, false, not, ◌&&◌}
+use mathlib.Core.Bool.{Bool, true, false, not, ◌&&◌, and-false}
 use mathlib.Core.List.{List, map}
-use borrow.Author.Tests.{eqb-true, not-true, not-false}
+use borrow.Author.Tests.{eqb-true, ne_eqb, not-true, not-false}
 use lib.Dec.{eqb}
 use lib.ListN.{length, replicate, length-map, length-replicate}
 use lib.Seq.{take_at}
+use Rattle.std.specs.Array.{IsWholeChunk}
 use Rattle.rules.specs.Token.{max_dacl}
 use Rattle.rules.specs.State.{token_slots, handle_slots, station_count}
 use Rattle.rules.specs.Memory.{token_words, control_words, pending_bytes, next_token, sized, valid}
@@ -83,19 +84,44 @@ module _ (count : ℕ) (ts ds cs ps : List ℕ) (b : Bool) (t : SizesTested (len
 loaded_all : (hs : List Handle) → length hs ≡ handle_slots → loaded hs ≡ hs
 loaded_all hs l = take_at hs (replicate handle_slots none) handle_slots l
 
-module _ {count : ℕ} {ts ds cs ps : List ℕ} {b : Bool} (items : List Handle) (t : SizesTested (length ts) (length ds) count (length cs) (length ps) b) where
-  pub invalid_sizes : not b ≡ true → ValidTested count items ts ds cs ps false
-  invalid_sizes f = record {
-    means = λ hs l e. sym (unsized ts ds hs cs ps (sizes_wrong count ts ds cs ps b t f hs l));
+module _ {count : ℕ} {ts ds cs ps : List ℕ} (items : List Handle) where
+  wrong : ((hs : List Handle) → length hs ≡ count → sized (memory_of ts ds hs cs ps) ≡ false) → ValidTested count items ts ds cs ps false
+  wrong f = record {
+    means = λ hs l e. sym (unsized ts ds hs cs ps (f hs l));
     holds = λ e. absurd (not_both e refl);
     all = λ e. absurd (not_both e refl);
   }
 
-  pub valid_tested : {r : Bool} → not b ≡ false → length items ≡ handle_slots → next_token cs < 2 ^ 64 → r ≡ parts_test (memory_of ts ds items cs ps)
-      → ValidTested count items ts ds cs ps r
-  valid_tested {r} f l kn e =
-      let n : count ≡ handle_slots = right_count count ts ds cs ps b t f in
-      let q : r ≡ valid (memory_of ts ds items cs ps) = e ∙ whole ts ds items cs ps (right_lent count ts ds cs ps b t f) l kn in
+  pub wrong_tokens : (length ts ≡ token_slots * token_words → ⊥) → ValidTested count items ts ds cs ps false
+  unfolding sized
+  wrong_tokens h = wrong (λ hs l. rw (ne_eqb (length ts) (token_slots * token_words) h))
+
+  pub wrong_dacls : (length ds ≡ token_slots * max_dacl → ⊥) → ValidTested count items ts ds cs ps false
+  unfolding sized
+  wrong_dacls h = wrong (λ hs l. rw (ne_eqb (length ds) (token_slots * max_dacl) h, and-false))
+
+  -- the code returns what it tests
+  pub wrong_count : (count ≡ handle_slots → ⊥) → ValidTested count items ts ds cs ps (eqb count handle_slots)
+  unfolding sized
+  wrong_count h =
+      rw (ne_eqb count handle_slots h) (wrong (λ hs l. rw (ne_eqb (length (map handle_of hs)) handle_slots (λ e. h (sym l ∙ sym (length-map hs handle_of) ∙ e)), and-false)))
+
+  pub wrong_control : (length cs ≡ control_words → ⊥) → ValidTested count items ts ds cs ps false
+  unfolding sized
+  wrong_control h = wrong (λ hs l. rw (ne_eqb (length cs) control_words h, and-false))
+
+  pub wrong_pending : (length ps ≡ station_count * pending_bytes → ⊥) → ValidTested count items ts ds cs ps false
+  unfolding sized
+  wrong_pending h = wrong (λ hs l. rw (ne_eqb (length ps) (station_count * pending_bytes) h, and-false))
+
+  -- the parts as arrays
+  pub valid_tested : {r : Bool} {ts' ds' cs' ps' : List ℕ} → IsWholeChunk ts ts' (token_slots * token_words) → IsWholeChunk ds ds' (token_slots * max_dacl)
+      → IsWholeChunk cs cs' control_words → IsWholeChunk ps ps' (station_count * pending_bytes)
+      → count ≡ handle_slots → length items ≡ handle_slots → next_token cs < 2 ^ 64 → r ≡ parts_test (memory_of ts' ds' items cs' ps') → ValidTested count items ts ds cs ps r
+  valid_tested {r} t d c p n l kn e =
+      let lent : Lent ts ds cs ps = record { tokens = t.long; dacls = d.long; control = c.long; pending = p.long } in
+      let tested : r ≡ parts_test (memory_of ts ds items cs ps) = rw (← t.same, ← d.same, ← c.same, ← p.same) e in
+      let q : r ≡ valid (memory_of ts ds items cs ps) = tested ∙ whole ts ds items cs ps lent l kn in
       let same : (hs : List Handle) → length hs ≡ count → loaded hs ≡ items → hs ≡ items = λ hs l e. sym (loaded_all hs (l ∙ n)) ∙ e in
       record {
         means = λ hs l e. q ∙ ap (λ is. valid (memory_of ts ds is cs ps)) (sym (same hs l e));

@@ -9,6 +9,7 @@ use borrow.Author.Tests.{ne_eqb, le-ltb, le-leb, lt-leb, eqb-true}
 use lib.Dec.{eqb, leb, ltb}
 use lib.ListN.{length, take, drop, get_or, length-drop, take-append-drop}
 use lib.Seq.{length-take-le, take_all}
+use Rattle.std.specs.Simd.{first_chunks}
 use Rattle.table.specs.Lists.{pad, named_take}
 use Rattle.table.specs.Rows.{test_rows}
 use Rattle.rules.specs.Basic.{all, member, is_empty, same, is_zero}
@@ -21,7 +22,7 @@ use Rattle.rules.proofs.Logic.{and_l, and_r}
 use Rattle.stream.specs.Meaning.{framed_of, FramedAs}
 use Rattle.stream.specs.declared.Framed.{Framed}
 use Rattle.stream.specs.declared.Framed.TheVariants as what
-use Rattle.valid.specs.Tests.{stream_test, level_test, station_test, idle_test, all_idle}
+use Rattle.valid.specs.Tests.{stream_test, level_test, station_test, idle_test}
 use Rattle.lists.proofs.Truth.{same_tests, implies_or, all_below_lem, all_append, eqb_same}
 use Rattle.token_rows.proofs.Same.{same_pad_take, cut_mark, cut_count}
 
@@ -115,7 +116,7 @@ pub at_idle : (ws : List ℕ) {l : Bool} → l ≡ level_test ws → (eqb (get_o
 at_idle ws e = ap (λ b. eqb (get_or ws count_word 0) 0 && ltb (get_or ws broken_word 0) 2 && b) e
 
 idle_rows : (n : ℕ) (xs bs : List ℕ) → length xs ≡ n * station_words → length bs ≡ n * pending_bytes
-    → test_rows {B = ℕ} (λ row none. idle_test row) station_words 0 n xs [] ≡ true → test_rows station_test station_words pending_bytes n xs bs ≡ all is_zero bs
+    → all idle_test (first_chunks station_words n xs) ≡ true → test_rows station_test station_words pending_bytes n xs bs ≡ all is_zero bs
 unfolding test_rows all
 idle_rows zero xs [] lx lb h = refl
 idle_rows zero xs (b ∷ bs) lx lb h = absurd (omega (arith, zero-mul pending_bytes))
@@ -134,6 +135,6 @@ idle_rows (suc n) xs bs lx lb h =
     ∙ ap (all is_zero) (take-append-drop pending_bytes bs)
 
 -- with what the code has at its first return
-pub all_idle_lem : (xs bs : List ℕ) {i z : Bool} → i ≡ all_idle xs → i ≡ true → z ≡ all is_zero bs → length xs ≡ station_count * station_words → length bs ≡ station_count * pending_bytes
-    → z ≡ test_rows station_test station_words pending_bytes station_count xs bs
-all_idle_lem xs bs e t ez lx lb = ez ∙ sym (idle_rows station_count xs bs lx lb (sym e ∙ t))
+pub all_idle_lem : (xs bs : List ℕ) {rows : List (List ℕ)} {i z : Bool} → rows ≡ first_chunks station_words station_count xs → i ≡ all idle_test rows → i ≡ true → z ≡ all is_zero bs
+    → length xs ≡ station_count * station_words → length bs ≡ station_count * pending_bytes → z ≡ test_rows station_test station_words pending_bytes station_count xs bs
+all_idle_lem xs bs er e t ez lx lb = ez ∙ sym (idle_rows station_count xs bs lx lb (sym (ap (all idle_test) er) ∙ sym e ∙ t))

@@ -1,6 +1,6 @@
 -- Valid memory as the code tests it: row by row, and over the numbers of what is live.
 -- proofs/Whole says that these tests come to `Memory.valid`. Assumes nothing.
-use Rattle.std.specs.Prelude.{ℕ, Bool, not, ◌&&◌, ◌||◌, List, [], eqb, ltb, get_or}
+use Rattle.std.specs.Prelude.{ℕ, Bool, not, ◌&&◌, ◌||◌, List, eqb, ltb, get_or}
 use Rattle.table.specs.Rows.{test_rows}
 use Rattle.rules.specs.Token.{max_dacl}
 use Rattle.rules.specs.Station.{Station}
@@ -32,10 +32,6 @@ level_test ws = not (eqb (get_or ws client_word 0) 0) || eqb (get_or ws level_wo
 -- nothing pending, and no level without a client
 abbrev pub idle_test : List ℕ → Bool
 idle_test ws = eqb (get_or ws count_word 0) 0 && ltb (get_or ws broken_word 0) 2 && level_test ws
-
--- of each row; the bytes beside it are not looked at
-abbrev pub all_idle : List ℕ → Bool
-all_idle ws = test_rows {B = ℕ} (λ row none. idle_test row) station_words 0 station_count ws []
 
 -- ---- all of it
 

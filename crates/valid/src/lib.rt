@@ -4,10 +4,10 @@
 ghost use Rattle.std.specs.Prelude.{◌≡◌};
 ghost use Rattle.handle.specs.Words.{records_in};
 ghost use Rattle.valid.specs.Tests.{parts_test};
-ghost use Rattle.valid.specs.Meaning.{memory_of, Lent};
+ghost use Rattle.valid.specs.Meaning.{memory_of};
 ghost use Rattle.valid.specs.Tested.{SizesTested, ValidTested};
 
-use control::layout::{CONTROL_WORDS, SIDS_AT, SIDS_END, STATIONS_AT, STATIONS_END};
+use control::layout::{CONTROL_WORDS, SIDS_AT, SIDS_END};
 use handle::{HANDLE_WORDS, SLOTS};
 use layout::*;
 use listed::tokens_listed;
@@ -21,17 +21,16 @@ mod stations;
 
 // All parts, of the right sizes.
 fn parts_valid(
-    tokens: &[u64],
-    dacls: &[u8],
+    tokens: &[u64; TOKENS],
+    dacls: &[u8; DACLS],
     handles: &[u64; HANDLE_WORDS],
-    control: &[u64],
-    pending: &[u8],
+    control: &[u64; CONTROL_WORDS],
+    pending: &[u8; PENDING],
 ) -> bool
-    requires { Lent tokens.now dacls.now control.now pending.now }
     ensures { result ≡ parts_test (memory_of tokens.now dacls.now (records_in handles.now) control.now pending.now) }
 {
     tokens_valid(tokens, dacls)
-        & stations_valid(&control[STATIONS_AT..STATIONS_END], pending)
+        & stations_valid(control, pending)
         & links_valid(tokens, handles, control)
         & table_valid(&control[SIDS_AT..SIDS_END])
         & tokens_listed(tokens, control[SIDS_AT])
@@ -59,11 +58,13 @@ pub fn valid(
 ) -> bool
     ensures { ValidTested count (records_in handles.now) tokens.now dacls.now control.now pending.now result }
 {
-    is_sized(
-        tokens.len(),
-        dacls.len(),
-        count,
-        control.len(),
-        pending.len(),
-    ) && parts_valid(tokens, dacls, handles, control, pending)
+    let (Some(tokens), Some(dacls), Some(control), Some(pending)) = (
+        tokens.as_array::<TOKENS>(),
+        dacls.as_array::<DACLS>(),
+        control.as_array::<CONTROL_WORDS>(),
+        pending.as_array::<PENDING>(),
+    ) else {
+        return false;
+    };
+    (count == SLOTS) && parts_valid(tokens, dacls, handles, control, pending)
 }

@@ -1,7 +1,6 @@
 -- By the tests of 11, 12 and 13. At the last, the chunk's bytes are known to be bytes since the start. Assumes nothing.
 use Rattle.std.proofs.Common.{ap, not}
-use mathlib.Core.Path.{sym}
-use Rattle.start.proofs.Parts.{tested_valid, tested_lent}
+use Rattle.start.proofs.Parts.{tested_valid}
 use Rattle.calls.proofs.Feeding.{feed_no_station, feed_short, feed_invalid, feeds_with}
 use Rattle.calls.proofs.feed.Goals as goal
 
@@ -14,13 +13,8 @@ returns-then-out-lt-MAX_ANSWER c = feed_short _ _ _ _ _ _ _ _ _ c.in-Some.ensure
 pub returns-then-not-valid : goal.returns-then-not-valid
 returns-then-not-valid c = feed_invalid _ _ _ _ _ _ _ _ _ c.in-Some.ensures.1 c.if-out-lt-MAX_ANSWER.false _ c.valid.ensures (ap not c.if-not-valid.true)
 
-pub invariant_of-parts : goal.invariant_of-parts
-invariant_of-parts c = let l = tested_lent c.valid.ensures (ap not c.if-not-valid.false) in record { tokens_long = l.tokens; dacls_long = l.dacls; control_long = l.control }
-
 pub accept-turn-requires : goal.accept-turn-requires
-accept-turn-requires c = let v = c.valid.ensures in (tested_valid v (ap not c.if-not-valid.false), (tested_lent v (ap not c.if-not-valid.false)).pending, c.if-out-lt-MAX_ANSWER.false)
+accept-turn-requires c = (tested_valid c.valid.ensures (ap not c.if-not-valid.false), c.if-out-lt-MAX_ANSWER.false)
 
 pub returns : goal.returns
-returns c =
-    let n = c.accept-turn.ensures.same in
-    rw (c.tokens-1.given.1.1 (sym n.1), c.dacls-1.given.1.1 (sym n.2), c.control-1.given.1.1 (sym n.3)) (feeds_with _ _ _ _ _ _ _ _ _ c.in-Some.ensures.1 c.if-out-lt-MAX_ANSWER.false _ c.valid.ensures c.type_inv.chunk (ap not c.if-not-valid.false) (rw c.in-Some.ensures.0 at c.accept-turn.ensures.accepted))
+returns c = feeds_with _ _ _ _ _ _ _ _ _ c.in-Some.ensures.1 c.if-out-lt-MAX_ANSWER.false _ c.valid.ensures c.type_inv.chunk (ap not c.if-not-valid.false) (rw c.in-Some.ensures.0 at c.accept-turn.ensures)

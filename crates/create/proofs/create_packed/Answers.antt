@@ -8,17 +8,17 @@ pub returns-then-not-held-clause-carried : goal.returns-then-not-held-clause-car
 returns-then-not-held-clause-carried c = packed_not_held _ _ _ c.held.ensures (search rules)
 
 pub returns-then-not-is_packed-table_valid-clause-carried : goal.returns-then-not-is_packed-table_valid-clause-carried
-returns-then-not-is_packed-table_valid-clause-carried c = packed_broken _ _ _ c.held.ensures c.table_of-table.ensures c.is_packed.ensures c.table_valid.ensures (search rules)
+returns-then-not-is_packed-table_valid-clause-carried c = packed_broken _ _ _ c.held.ensures c.sids-table.ensures c.is_packed.ensures c.table_valid.ensures (search rules)
 
 pub returns-in_err-make_packed-clause-carried : goal.returns-in_err-make_packed-clause-carried
 returns-in_err-make_packed-clause-carried c =
     let p = err_from_is_err_and c.from_residual.result c.from_residual.ensures.1 in
-    rw (p.1, p.2) (packed_refused _ _ _ c.held.ensures (search rules) c.table_of-table.ensures c.in_err-make_packed.ensures)
+    rw (p.1, p.2) (packed_refused _ _ _ c.held.ensures (search rules) c.sids-table.ensures c.in_err-make_packed.ensures)
 
 pub returns-in_err-end-clause-carried : goal.returns-in_err-end-clause-carried
 returns-in_err-end-clause-carried c =
     let p = err_from_is_err_and c.from_residual-in_err-end.result c.from_residual-in_err-end.ensures.1 in
-    rw (p.1, p.2) (packed_no_room _ _ _ c.held.ensures (search rules) c.table_of-table.ensures c.in_ok-make_packed.ensures c.in_err-end.ensures.created)
+    rw (p.1, p.2) (packed_no_room _ _ _ c.held.ensures (search rules) c.sids-table.ensures c.in_ok-make_packed.ensures c.in_err-end.ensures.created)
 
 pub returns-clause-carried : goal.returns-clause-carried
-returns-clause-carried c = packed_creates _ _ _ c.held.ensures (search rules) c.table_of-table.ensures c.in_ok-make_packed.ensures c.next-n.ensures c.in_ok-end.ensures.created c.set.ensures
+returns-clause-carried c = packed_creates _ _ _ c.held.ensures (search rules) c.sids-table.ensures c.in_ok-make_packed.ensures c.next-n.ensures c.in_ok-end.ensures.created c.set.ensures

@@ -13,7 +13,7 @@ returns-in_err-class c =
     rw (p.1, p.2) (no_class _ _ _ _ _ _ _ _ _ c.in_ok-slot.ensures c.in_err-class.ensures)
 
 pub returns-then-from-needed : goal.returns-then-from-needed
-returns-then-from-needed c = too_small _ _ _ _ _ _ _ _ _ c.in_ok-slot.ensures _ c.in_ok-class.ensures _ c.size-needed.ensures (search rules)
+returns-then-from-needed c = too_small _ _ _ _ _ _ _ _ _ c.in_ok-slot.ensures _ c.in_ok-class.ensures _ (rw c.row.ensures at c.size-needed.ensures) (search rules)
 
 pub returns : goal.returns
-returns c = rw c.ends.ensures (class_given _ _ _ _ _ _ _ _ _ c.in_ok-slot.ensures _ c.in_ok-class.ensures _ c.size-needed.ensures (search rules))
+returns c = rw c.ends.ensures (class_given _ _ _ _ _ _ _ _ _ c.in_ok-slot.ensures _ c.in_ok-class.ensures _ (rw c.row.ensures at c.size-needed.ensures) (search rules))

@@ -1,11 +1,21 @@
 -- Request 16. Assumes nothing.
+use native.Mathlib.Omega.{arith}
+use mathlib.Core.Path.{◌≡◌}
+use Rattle.std.specs.Prelude.{None, Some}
+use Rattle.std.proofs.lemmas.Grind.{common_steps}
 use Rattle.rules.specs.Serve.{rule}
 use Rattle.requests.proofs.LayoutLaws.{malformed, served}
 use Rattle.requests.proofs.link.Goals as goal
 
-pub returns-in_default-clause-carried : goal.returns-in_default-clause-carried
-returns-in_default-clause-carried c = malformed c.in_default.ensures
+pub returns-in_err-fields-clause-carried : goal.returns-in_err-fields-clause-carried
+returns-in_err-fields-clause-carried c =
+    let none : c.link.result ≡ None = grind (arith, common_steps) in
+    let read = rw none at c.link.ensures in
+    malformed read (grind (arith, common_steps))
 
 pub returns-clause-carried : goal.returns-clause-carried
 unfolding rule
-returns-clause-carried c = served _ c.in-Some.ensures c.link-2.ensures.carried
+returns-clause-carried c =
+    let some : c.link.result ≡ Some c.in_ok-fields.fields = grind (arith, common_steps) in
+    let read = rw some at c.link.ensures in
+    served _ read c.link-2.ensures.carried

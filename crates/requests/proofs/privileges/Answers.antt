@@ -1,13 +1,22 @@
 -- Request 5. Assumes nothing.
-use Rattle.std.specs.Prelude.{[]}
+use native.Mathlib.Omega.{arith}
+use mathlib.Core.Path.{◌≡◌}
+use Rattle.std.specs.Prelude.{None, Some, []}
+use Rattle.std.proofs.lemmas.Grind.{common_steps}
 use Rattle.rules.specs.Request as rules
 use Rattle.rules.specs.Serve.{rule}
 use Rattle.requests.proofs.LayoutLaws.{malformed, served}
 use Rattle.requests.proofs.privileges.Goals as goal
 
-pub returns-in_default-clause-carried : goal.returns-in_default-clause-carried
-returns-in_default-clause-carried c = malformed (c.in_default.ensures.parsed rules.privileges)
+pub returns-in_err-fields-clause-carried : goal.returns-in_err-fields-clause-carried
+returns-in_err-fields-clause-carried c =
+    let none : c.entries.result ≡ None = grind (arith, common_steps) in
+    let read = rw none at c.entries.ensures in
+    malformed (read.parsed rules.privileges) (grind (arith, common_steps))
 
 pub returns-clause-carried : goal.returns-clause-carried
 unfolding rule
-returns-clause-carried c = served (rules.privileges _ _) (c.in-Some.ensures.parsed rules.privileges) (c.adjust_privileges.ensures.carried.carried _ [] c.in-Some.ensures.there.there)
+returns-clause-carried c =
+    let some : c.entries.result ≡ Some c.in_ok-fields.fields = grind (arith, common_steps) in
+    let read = rw some at c.entries.ensures in
+    served _ (read.parsed rules.privileges) (c.adjust_privileges.ensures.carried.carried _ [] read.there.there)

@@ -1,12 +1,21 @@
 -- Request 15. Assumes nothing.
-use Rattle.std.specs.Prelude.{[]}
+use native.Mathlib.Omega.{arith}
+use mathlib.Core.Path.{◌≡◌}
+use Rattle.std.specs.Prelude.{None, Some, []}
+use Rattle.std.proofs.lemmas.Grind.{common_steps}
 use Rattle.rules.specs.Serve.{rule}
 use Rattle.requests.proofs.LayoutLaws.{malformed, served}
 use Rattle.requests.proofs.restrict_packed.Goals as goal
 
-pub returns-in_default-clause-carried : goal.returns-in_default-clause-carried
-returns-in_default-clause-carried c = malformed c.in_default.ensures.parsed
+pub returns-in_err-fields-clause-carried : goal.returns-in_err-fields-clause-carried
+returns-in_err-fields-clause-carried c =
+    let none : c.restrict.result ≡ None = grind (arith, common_steps) in
+    let read = rw none at c.restrict.ensures in
+    malformed read.parsed (grind (arith, common_steps))
 
 pub returns-clause-carried : goal.returns-clause-carried
 unfolding rule
-returns-clause-carried c = served _ c.in-Some.ensures.parsed (c.restrict_packed.ensures.carried.carried _ _ (record { after = _; denied = c.in-Some.ensures.deny.there; later = []; sids = c.in-Some.ensures.sids.there }))
+returns-clause-carried c =
+    let some : c.restrict.result ≡ Some c.in_ok-fields.fields = grind (arith, common_steps) in
+    let read = rw some at c.restrict.ensures in
+    served _ read.parsed (c.restrict_packed.ensures.carried.carried _ _ (record { after = _; denied = read.deny.there; later = []; sids = read.sids.there }))

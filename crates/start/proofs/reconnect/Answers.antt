@@ -1,5 +1,5 @@
 -- By the tests of 11 and 13. Assumes nothing.
-use Rattle.std.proofs.Common.{ap, not}
+use Rattle.std.proofs.Common.{ap, not, arith}
 use Rattle.start.proofs.Parts.{control_long, pending_long}
 use Rattle.start.proofs.Reconnecting.{reconnect_no_station, reconnect_invalid, reconnects_with}
 use Rattle.start.proofs.reconnect.Goals as goal
@@ -10,8 +10,11 @@ returns-in_default c = reconnect_no_station _ _ _ _ _ _ _ c.in_default.ensures
 pub returns-then-not-valid : goal.returns-then-not-valid
 returns-then-not-valid c = reconnect_invalid _ _ _ _ _ _ _ c.in-Some.ensures.1 _ c.valid.ensures (ap not c.if-not-valid.true)
 
-pub drop_stream-requires : goal.drop_stream-requires
-drop_stream-requires c = (control_long c.valid.ensures (ap not c.if-not-valid.false), pending_long c.valid.ensures (ap not c.if-not-valid.false))
+pub whole-requires : goal.whole-requires
+whole-requires c = (omega arith, control_long c.valid.ensures (ap not c.if-not-valid.false))
+
+pub whole-requires-2 : goal.whole-requires-2
+whole-requires-2 c = (omega arith, pending_long c.valid.ensures (ap not c.if-not-valid.false))
 
 pub returns : goal.returns
-returns c = reconnects_with _ _ _ _ _ _ _ c.in-Some.ensures.1 _ c.valid.ensures (ap not c.if-not-valid.false) (rw c.in-Some.ensures.0 at c.drop_stream.ensures) _
+returns c = reconnects_with _ _ _ _ _ _ _ c.in-Some.ensures.1 _ c.valid.ensures (ap not c.if-not-valid.false) (rw (c.in-Some.ensures.0, c.whole.ensures.value, c.whole-2.ensures.value) at c.drop_stream.ensures) _

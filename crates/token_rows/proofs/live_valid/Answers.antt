@@ -4,4 +4,4 @@ use Rattle.token_rows.proofs.TokenRow.{at_end}
 use Rattle.token_rows.proofs.live_valid.Goals as goal
 
 pub returns : goal.returns
-returns c = let a = c.args in search (rules, at_end a.words.now a.dacl.now (λ i. (c.type_inv.words i).fits) (λ i. (c.type_inv.dacl i).fits))
+returns c = let a = c.args in search (rules, at_end a.words.now a.dacl.now c.fits-words c.fits-dacl)

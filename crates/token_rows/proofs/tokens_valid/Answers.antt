@@ -1,13 +1,10 @@
 -- token_rows::tokens_valid meets its contract: its loop tests each row. Assumes nothing.
 use Rattle.std.proofs.Common.{rules}
-use Rattle.lists.proofs.Rows.{pairs_begin, pairs_step, pairs_end}
+use Rattle.token_rows.proofs.Pairs.{pair_tested, pairs_tested}
 use Rattle.token_rows.proofs.tokens_valid.Goals as goal
 
-pub loop-words-init : goal.loop-words-init
-loop-words-init c = search (rules, pairs_begin)
-
 pub loop-words-preserved : goal.loop-words-preserved
-loop-words-preserved c = search (rules, pairs_step)
+loop-words-preserved c = pair_tested _ _ _ _ _ _ _ _ _ c.next.new.self (search rules) (search rules) c.loop-words.yielded_by c.loop-words.invariant c.next.ensures.steps (c.in-Some.words, c.in-Some.dacl) c.in-Some.is c.token_valid-ok.ensures
 
 pub returns : goal.returns
-returns c = pairs_end _ _ _ _ _ _ c.loop-words.invariant c.in-None.ensures.steps
+returns c = pairs_tested _ _ _ _ _ _ _ _ _ c.next.new.self (search rules) (search rules) c.loop-words.yielded_by c.loop-words.invariant c.next.ensures.steps c.in-None.is

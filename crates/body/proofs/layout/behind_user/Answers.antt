@@ -15,7 +15,7 @@ returns-in_err-skip_groups g c =
           λ bytes x d.
           refuse _ e
           (bind_got g.S.SidForm.reader _ bytes x _ d
-          ∙ step _ c.in_ok-session.ensures ∙ step _ c.in_ok-integrity.ensures ∙ step _ c.in_ok-present.ensures ∙ step _ c.in_ok-by_default.ensures ∙ step _ c.in_ok-count.ensures
+          ∙ step _ c.in_ok-session.ensures.read ∙ step _ c.in_ok-integrity.ensures.read ∙ step _ c.in_ok-present.ensures.read ∙ step _ c.in_ok-by_default.ensures.read ∙ step _ c.in_ok-count.ensures.read
           ∙ list_lost (group g.S.SidForm.reader) _ _ c.in_err-skip_groups.ensures);
       same = on_none _ e;
       there = on_none _ e;
@@ -24,13 +24,13 @@ returns-in_err-skip_groups g c =
 pub returns : goal.returns
 unfolding create_layout u32 u64
 returns g c =
-    let o = further c.number.ensures.onward (further c.number-2.ensures.onward (further c.number-3.ensures.onward (further c.number-4.ensures.onward c.number-5.ensures.onward))) in
+    let o = further c.number.ensures.read.onward (further c.number-2.ensures.read.onward (further c.number-3.ensures.read.onward (further c.number-4.ensures.read.onward c.number-5.ensures.read.onward))) in
     record {
       parsed =
           λ bytes x d.
           finish _ _ _ c.then_some.ensures c.is_ended.ensures
           (bind_got g.S.SidForm.reader _ bytes x _ d
-          ∙ step _ c.in_ok-session.ensures ∙ step _ c.in_ok-integrity.ensures ∙ step _ c.in_ok-present.ensures ∙ step _ c.in_ok-by_default.ensures ∙ step _ c.in_ok-count.ensures
+          ∙ step _ c.in_ok-session.ensures.read ∙ step _ c.in_ok-integrity.ensures.read ∙ step _ c.in_ok-present.ensures.read ∙ step _ c.in_ok-by_default.ensures.read ∙ step _ c.in_ok-count.ensures.read
           ∙ list_step (group g.S.SidForm.reader) _ _ o c.in_ok-skip_groups.ensures);
       same = on_some _ _ c.then_some.ensures (λ h. refl);
       there = on_some _ _ c.then_some.ensures (list_ends (group g.S.SidForm.reader) _ o c.in_ok-skip_groups.ensures c.is_ended.ensures);

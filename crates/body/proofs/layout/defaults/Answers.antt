@@ -8,11 +8,11 @@ use Rattle.body.proofs.layout.defaults.Goals as goal
 pub returns-clause-parsed : goal.returns-clause-parsed
 unfolding defaults_layout u16 u32
 returns-clause-parsed c =
-    let o = further c.number.ensures.onward (further c.number-2.ensures.onward (further c.number-3.ensures.onward (further c.number-4.ensures.onward c.number-5.ensures.onward))) in
+    let o = further c.number.ensures.read.onward (further c.number-2.ensures.read.onward (further c.number-3.ensures.read.onward (further c.number-4.ensures.read.onward c.number-5.ensures.read.onward))) in
     finish _ _ _ c.then_some.ensures c.is_ended.ensures
-    (step _ c.in_ok-handle.ensures ∙ step _ c.in_ok-owner.ensures ∙ step _ c.in_ok-group.ensures ∙ step _ c.in_ok-flag.ensures ∙ step _ c.in_ok-size.ensures ∙ list_step byte _ _ o c.in_ok-bytes.ensures)
+    (step _ c.in_ok-handle.ensures.read ∙ step _ c.in_ok-owner.ensures.read ∙ step _ c.in_ok-group.ensures.read ∙ step _ c.in_ok-flag.ensures.read ∙ step _ c.in_ok-size.ensures.read ∙ list_step byte _ _ o c.in_ok-bytes.ensures.passed)
 
 pub returns-clause-there : goal.returns-clause-there
 returns-clause-there c =
-    let o = further c.number.ensures.onward (further c.number-2.ensures.onward (further c.number-3.ensures.onward (further c.number-4.ensures.onward c.number-5.ensures.onward))) in
-    on_some _ _ c.then_some.ensures (list_ends byte _ o c.in_ok-bytes.ensures c.is_ended.ensures)
+    let o = further c.number.ensures.read.onward (further c.number-2.ensures.read.onward (further c.number-3.ensures.read.onward (further c.number-4.ensures.read.onward c.number-5.ensures.read.onward))) in
+    on_some _ _ c.then_some.ensures (list_ends byte _ o c.in_ok-bytes.ensures.passed c.is_ended.ensures)

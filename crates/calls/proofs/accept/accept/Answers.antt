@@ -1,9 +1,16 @@
--- The station's row is lent and comes back. Assumes nothing.
-use Rattle.calls.proofs.Accepting.{lent_long, row_held, accepts}
+-- Valid memory has the sizes of the arrays. Assumes nothing.
+use Rattle.std.proofs.Common.{arith}
+use Rattle.start.proofs.Parts.{valid_lent}
 use Rattle.calls.proofs.accept.accept.Goals as goal
 
-pub accept_row-requires : goal.accept_row-requires
-accept_row-requires c = let p = c.requires in (p.2, search lent_long, row_held _ _ _ _ _ _ c.args.station.known p.0)
+pub whole-requires : goal.whole-requires
+whole-requires c = (omega arith, (valid_lent _ c.requires.0).tokens)
 
-pub returns-clause-accepted : goal.returns-clause-accepted
-returns-clause-accepted c = accepts _ _ _ _ _ _ c.args.station.known c.requires.0 c.accept_row.ensures.fed
+pub whole-requires-2 : goal.whole-requires-2
+whole-requires-2 c = (omega arith, (valid_lent _ c.requires.0).dacls)
+
+pub whole-requires-3 : goal.whole-requires-3
+whole-requires-3 c = (omega arith, (valid_lent _ c.requires.0).control)
+
+pub whole-requires-4 : goal.whole-requires-4
+whole-requires-4 c = (omega arith, (valid_lent _ c.requires.0).pending)

@@ -1,8 +1,7 @@
 -- One SID more for each number. Assumes nothing.
-use Rattle.std.proofs.Common.{ap, subst, arith, List, ℕ}
+use Rattle.std.proofs.Common.{ap, arith}
 use Rattle.copy.specs.Numbers.{numbers_left}
-use Rattle.copy.specs.Restricting.{Listed}
-use Rattle.copy.proofs.NumbersRead.{left_few, yielded_few, yielded_all}
+use Rattle.copy.proofs.NumbersRead.{left_few, yielded_few}
 use Rattle.copy.proofs.RestrictingSids.{none_listed}
 use Rattle.copy.proofs.restricting.listed.Goals as goal
 
@@ -13,6 +12,3 @@ pub push-requires : goal.push-requires
 push-requires c =
     let few = yielded_few (numbers_left c.args.given) c.into_iter-sid-iterator.result (ap numbers_left c.into_iter-sid-iterator.ensures.into_iter_gives) c.loop-sid.yielded c.loop-sid.sid-iterator c.loop-sid.yielded_by in
     omega (arith, left_few c.args.given, c.loop-sid.invariant.count)
-
-pub returns : goal.returns
-returns c = subst (λ (xs : List ℕ). Listed xs c.loop-sid.list) (yielded_all _ _ (ap numbers_left c.into_iter-sid-iterator.ensures.into_iter_gives) _ _ c.loop-sid.yielded_by _ _ c.next.ensures.steps c.in-None.is) c.loop-sid.invariant

@@ -3,4 +3,4 @@ use Rattle.link.proofs.LinkedEnding.{relabelled}
 use Rattle.link.proofs.linked.relabel.Goals as goal
 
 pub returns : goal.returns
-returns c = relabelled c.args.n c.requires
+returns c = relabelled c.args.n c.told-words

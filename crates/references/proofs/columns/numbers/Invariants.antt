@@ -2,11 +2,9 @@
 use mathlib.Core.List.{[]}
 use Rattle.rules.specs.State.{token_slots}
 use Rattle.rules.specs.Memory.{token_words}
-use Rattle.lists.proofs.Rows.{ChunksAt}
 use Rattle.references.specs.Tests.{column_by}
 use Rattle.references.proofs.Loops.{Keeping}
 use Rattle.references.proofs.columns.numbers.Given as goal
 
 abbrev pub invariant-loop-row : goal.invariant-loop-row
-invariant-loop-row g l =
-    ChunksAt token_words token_slots l.tokens (Keeping (λ x. x) (λ x. x) (column_by g.f token_words token_slots l.tokens) [] token_slots token_slots l.numbers l.count) l.row-iterator
+invariant-loop-row g l = Keeping (λ x. x) (λ x. x) (column_by g.f token_words token_slots l.tokens) [] token_slots token_slots l.numbers l.count l.row-index

@@ -2,12 +2,7 @@
 use borrow.Author.Rules.{rules}
 use Rattle.rules.specs.Valid.{handle_valid}
 use Rattle.lists.proofs.Truth.{if_other}
-use Rattle.references.proofs.Loops.{free_fields}
 use Rattle.references.proofs.handles.fields_valid.Goals as goal
-
-pub returns-then-h-eq0 : goal.returns-then-h-eq0
-unfolding handle_valid
-returns-then-h-eq0 c = free_fields c.args.h c.if-h-eq0.true c.eq.ensures
 
 pub returns : goal.returns
 unfolding handle_valid

@@ -9,4 +9,5 @@ pub returns-in_default-find : goal.returns-in_default-find
 returns-in_default-find c = no_filtered _ _ _ _ c.in_default-find.ensures.slot
 
 pub returns : goal.returns
-returns c = at_tokens _ _ _ _ c.in-Some.ensures.slot c.in-Some-find.ensures.slot c.in-Some.ensures.within c.in-Some-find.ensures.within c.rows_fit.ensures
+returns c =
+    at_tokens _ _ _ _ c.token_rows-rows.ensures c.in-Some.ensures.slot c.in-Some-find.ensures.slot c.in-Some.ensures.within c.in-Some-find.ensures.within c.rows_fit.ensures

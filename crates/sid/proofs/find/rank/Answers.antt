@@ -12,7 +12,7 @@ pub row-requires : goal.row-requires
 row-requires c = (search rules, search (rules, middle_below))
 
 pub loop-n-preserved-then-less : goal.loop-n-preserved-then-less
-loop-n-preserved-then-less c = halving_behind c.loop-n.invariant c.loop-n-test.true (c.less.ensures ∙ ap (λ (l : List ℕ). less l c.args.x.now) c.row.ensures.0) c.if-less.true
+loop-n-preserved-then-less c = halving_behind c.loop-n.invariant c.loop-n-test.true (c.less.ensures ∙ ap (λ (l : List ℕ). less l c.args.x.now) c.row.ensures) c.if-less.true
 
 pub loop-n-preserved : goal.loop-n-preserved
-loop-n-preserved c = halving_before c.loop-n.invariant c.loop-n-test.true (c.less.ensures ∙ ap (λ (l : List ℕ). less l c.args.x.now) c.row.ensures.0) c.if-less.false
+loop-n-preserved c = halving_before c.loop-n.invariant c.loop-n-test.true (c.less.ensures ∙ ap (λ (l : List ℕ). less l c.args.x.now) c.row.ensures) c.if-less.false

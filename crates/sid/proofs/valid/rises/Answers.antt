@@ -12,7 +12,7 @@ row-requires-in-loop-next c = (c.requires.0, next_inside c.args.places.now c.loo
 
 pub loop-next-preserved : goal.loop-next-preserved
 loop-next-preserved c =
-    rises_more c.args.places.now c.args.rows.now c.requires.2 c.loop-next.invariant c.loop-next-test.true (c.less-ok.ensures ∙ ap₂ less c.row.ensures.0 c.row-in-loop-next.ensures.0)
+    rises_more c.args.places.now c.args.rows.now c.requires.2 c.loop-next.invariant c.loop-next-test.true (c.less-ok.ensures ∙ ap₂ less c.row.ensures c.row-in-loop-next.ensures)
 
 pub returns : goal.returns
 returns c = rises_done c.loop-next.invariant c.loop-next-test.false

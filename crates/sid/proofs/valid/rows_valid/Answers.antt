@@ -10,4 +10,4 @@ unfolding all_below
 loop-i-init c = refl
 
 pub loop-i-preserved : goal.loop-i-preserved
-loop-i-preserved c = seen_more c.args.rows.now c.loop-i.i c.loop-i.invariant (c.is_row-ok.ensures ∙ ap is_row c.row.ensures.0)
+loop-i-preserved c = seen_more c.args.rows.now c.loop-i.i c.loop-i.invariant (c.is_row-ok.ensures ∙ ap is_row c.row.ensures)

@@ -10,6 +10,6 @@ pub returns : goal.returns
 unfolding primary_of
 returns c =
     tokens_begun _
-    (c.fill.ensures.after (λ y e. e) ∙ ap (λ (n : ℕ). replicate n 0) c.requires.0)
-    (c.fill-2.ensures.after (λ y e. e) ∙ ap (λ (n : ℕ). replicate n 0) c.requires.1)
+    (c.fill.ensures.after (λ y e. e) ∙ ap (λ (n : ℕ). replicate n 0) c.told-tokens)
+    (c.fill-2.ensures.after (λ y e. e) ∙ ap (λ (n : ℕ). replicate n 0) c.told-dacls)
     c.granted-privileges.ensures c.set_head.ensures

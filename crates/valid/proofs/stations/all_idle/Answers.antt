@@ -1,14 +1,10 @@
 -- valid::stations::all_idle meets its contract: its loop tests each row. Assumes nothing.
-use native.Mathlib.Omega.{arith}
 use borrow.Author.Rules.{rules}
-use Rattle.lists.proofs.Rows.{chunks_begin, chunks_step, chunks_end}
+use Rattle.lists.proofs.Loops.{tested_more, tested_done}
 use Rattle.valid.proofs.stations.all_idle.Goals as goal
 
-pub loop-row-init : goal.loop-row-init
-loop-row-init c = search (rules, chunks_begin)
-
 pub loop-row-preserved : goal.loop-row-preserved
-loop-row-preserved c = chunks_step _ _ _ _ c.in-Some.row c.loop-row.invariant (omega arith) c.in-Some.ensures.steps c.is_idle-ok.ensures
+loop-row-preserved c = search (rules, tested_more)
 
 pub returns : goal.returns
-returns c = chunks_end _ _ _ _ c.loop-row.invariant c.in-None.ensures.steps
+returns c = search (rules, tested_done)

@@ -10,4 +10,4 @@ pub returns-then-count : goal.returns-then-count
 returns-then-count c = search (rules, too_long)
 
 pub returns : goal.returns
-returns c = let a = c.args in search (rules, stream_part a.words.now a.bytes.now (λ i. (c.type_inv.bytes i).fits))
+returns c = let a = c.args in search (rules, stream_part a.words.now a.bytes.now c.fits-bytes)
