@@ -9,8 +9,7 @@ ghost use Rattle.decide.specs.Carried.{CarriedOut};
 use crate::default_fields;
 use answer::{Answer, Refusal};
 use body::fields::DefaultsFields;
-use control::stations::Station;
-use decide::located::locate;
+use decide::located::located_by;
 use decide::outcome;
 use decide::outcome::Outcome;
 use privilege::mask::Mask;
@@ -20,16 +19,16 @@ use token::layout::{MAX_DACL, TOKEN_WORDS};
 // The size bytes that stand at the end of a body are the DACL.
 pub fn adjust_defaults(
     parts: &mut Parts,
-    station: Station,
+    station: u32,
     f: DefaultsFields,
     s: &[u8],
 ) -> Result<Outcome, Refusal>
     requires { (f.at ≤ length s.now) × There byte s.now f.at f.size [] }
     ensures same { SameParts parts.old parts.new }
     ensures control { parts.new.control.now ≡ parts.old.control.now }
-    ensures carried { CarriedOut (λ σ. rules.adjust σ station.number f.handle f.owner f.group f.flag (values_at byte s.now f.at f.size)) parts.old parts.new result }
+    ensures carried { CarriedOut (λ σ. rules.adjust σ station f.handle f.owner f.group f.flag (values_at byte s.now f.at f.size)) parts.old parts.new result }
 {
-    let slot = locate(parts, station, f.handle, Mask::ADJUST_DEFAULT)?.slot;
+    let slot = located_by(parts, station, f.handle, Mask::ADJUST_DEFAULT)?.slot;
     let row = slot * TOKEN_WORDS;
     let row_end = row + TOKEN_WORDS;
     let dacl = slot * MAX_DACL;

@@ -57,7 +57,7 @@ pub fn scope(parts: &mut Parts, station: Station, f: ScopeFields) -> Result<Outc
     ensures alone { WordsAlone parts.old parts.new }
     ensures carried { CarriedOut (λ σ. rules.scope σ station.number f.handle f.value) parts.old parts.new result }
 {
-    let handle = looked_up(parts, station, f.handle, Mask::ADJUST_SCOPE)?;
+    let handle = looked_up(parts, station.number, f.handle, Mask::ADJUST_SCOPE)?;
     if !parts.held(Privileges::TCB, station) {
         return Err(Refusal::PrivilegeNotHeld);
     }

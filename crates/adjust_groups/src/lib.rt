@@ -10,8 +10,7 @@ ghost use Rattle.adjust_groups.specs.GroupEntries.{RowSwitched};
 
 use answer::{Answer, Refusal};
 use body::fields::EntriesFields;
-use control::stations::Station;
-use decide::located::locate;
+use decide::located::located_by;
 use decide::outcome;
 use decide::outcome::Outcome;
 use privilege::mask::Mask;
@@ -37,14 +36,14 @@ fn adjust_row(s: &[u8], at: usize, count: u32, words: &mut [u64]) -> Result<Answ
 
 pub fn adjust_groups(
     parts: &mut Parts,
-    station: Station,
+    station: u32,
     f: EntriesFields,
     s: &[u8],
 ) -> Result<Outcome, Refusal>
     ensures alone { WordsAlone parts.old parts.new }
-    ensures carried { EntriesCarriedOut adjust station.number f.handle s.now f.at f.count parts.old parts.new result }
+    ensures carried { EntriesCarriedOut adjust station f.handle s.now f.at f.count parts.old parts.new result }
 {
-    let x = locate(parts, station, f.handle, Mask::ADJUST_GROUPS)?;
+    let x = located_by(parts, station, f.handle, Mask::ADJUST_GROUPS)?;
     let from = x.slot * TOKEN_WORDS;
     let end = from + TOKEN_WORDS;
     let tokens = &mut *parts.tokens;

@@ -26,7 +26,7 @@ use Rattle.answer.specs.Classes.{RowOne}
 use Rattle.answer.specs.Refusal.{refusal_of, number_of}
 use Rattle.answer.specs.declared.refusal.Refusal.{Refusal}
 use Rattle.answer.specs.declared.refusal.Refusal.TheVariants as refusals
-use Rattle.answer.specs.Answer.{token_in, answer_of, Room, WroteFrame}
+use Rattle.answer.specs.Answer.{token_in, answer_of, Fit, Room, WroteFrame}
 use Rattle.answer.specs.Class.{single_number, class_number}
 use Rattle.answer.specs.declared.class.Single.{Single}
 use Rattle.answer.specs.declared.class.Class.{Class}
@@ -122,6 +122,16 @@ one_wrote ws bs class x {m} e h w =
     wrote_same
     (with_value 0 m (omega arith) ∙ ap (λ (l : List ℕ). 0 ∷ l) (sym (ap (λ (y : Class). class_bytes (token_at ws bs) (class_number y)) e ∙ h.bytes bs))) w
 
+-- by its number
+module _ (ws bs : List ℕ) (class : ℕ) {o o' : List ℕ} {r : ℕ} where
+  pub known_wrote : (x : Class) → class_number x ≡ class → WroteFrame (0 ∷ class_bytes (token_at ws bs) (class_number x)) o o' r
+      → WroteFrame (0 ∷ class_bytes (token_at ws bs) class) o o' r
+  known_wrote x e w = wrote_same (ap (λ (k : ℕ). 0 ∷ class_bytes (token_at ws bs) k) e) w
+
+  pub none_wrote : class_bytes (token_at ws bs) class ≡ [] → WroteFrame (encode_all (0 ∷ [])) o o' r → WroteFrame (0 ∷ class_bytes (token_at ws bs) class) o o' r
+  unfolding encode_all
+  none_wrote e w = wrote_same (first_byte 0 [] (omega arith) ∙ ap (λ (l : List ℕ). 0 ∷ l) (sym e)) w
+
 -- the DACL: its count, and then its bytes
 module _ (ws bs o : List ℕ) (n : ℕ) (l : length bs ≡ max_dacl) (c : n ≡ min (get_or ws Head.dacl_length 0) max_dacl) (fits : Room (0 ∷ class_bytes (token_at ws bs) 6) o) where
   same_dacl : encode_all (0 ∷ n ∷ []) ++ take n bs ≡ 0 ∷ class_bytes (token_at ws bs) 6
@@ -215,6 +225,10 @@ module _ (x : Refusal) {o o' : List ℕ} {n r : ℕ} where
 module _ (ws bs : List ℕ) (a : Answer) (o o' : List ℕ) (r : ℕ) where
   meant : (x : Answer) (xs : List ℕ) → a ≡ x → WroteFrame xs o o' r → xs ≡ answer_of ws bs x → WroteFrame (answer_of ws bs a) o o' r
   meant x xs e w b = wrote_same (b ∙ ap (answer_of ws bs) (sym e)) w
+
+  pub numbered : (n : ℕ) → a ≡ answer.Numbered n → Fit ws bs a → WroteFrame (encode_all (n ∷ [])) o o' r → WroteFrame (answer_of ws bs a) o o' r
+  unfolding encode_all
+  numbered n e fit w = meant (answer.Numbered n) (encode_all (n ∷ [])) e w (first_byte n [] (rw e at fit))
 
   pub done : a ≡ answer.Done → WroteFrame (encode_all (0 ∷ [])) o o' r → WroteFrame (answer_of ws bs a) o o' r
   unfolding encode_all

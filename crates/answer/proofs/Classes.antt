@@ -1,8 +1,11 @@
 -- The classes of a row: each number is the token's. Assumes nothing.
-use Prim.Native.Nat.{ℕ, suc, ◌+◌, ◌-◌, ◌*◌, ◌/◌, ◌%◌, ◌^◌, ◌≤◌, ◌<◌, min}
+use Prim.Native.Nat.{ℕ, zero, suc, ◌+◌, ◌-◌, ◌*◌, ◌/◌, ◌%◌, ◌^◌, ◌≤◌, ◌<◌, min}
 use native.Mathlib.Omega.{arith}
 use mathlib.Core.Path.{◌≡◌, refl, sym, ap, ap₂, ◌∙◌}
+use mathlib.Core.Bool.{false, ◌&&◌}
 use mathlib.Core.List.{List, [], ◌∷◌, ◌++◌, map}
+use lib.Dec.{leb}
+use borrow.Author.Tests.{leb-false, le-leb}
 use lib.ListN.{length, take, drop, get_or, length-append, length-drop, length-map, get_or-map, get_or-eq_default}
 use Rattle.std.specs.List.{sum_by}
 use Rattle.std.proofs.lemmas.List.{get_or_default, length-take, take_all}
@@ -174,3 +177,14 @@ pub ruleset sids = (user_sid, no_sid, group_sid)
 pub ruleset ones = (one, one_sid)
 
 pub ruleset counts = (counted_one, counted_privileges, counted_numbers)
+
+-- ---- a number that no class has
+
+pub past_classes : (ws bs : List ℕ) (class : ℕ) → 13 < class → class_bytes (token_at ws bs) class ≡ []
+unfolding class_bytes classes
+past_classes ws bs class h = get_or-eq_default ([] ∷ classes (token_at ws bs)) [] h
+
+pub no_class : (ws bs : List ℕ) (class : ℕ) → leb 1 class && leb class 13 ≡ false → class_bytes (token_at ws bs) class ≡ []
+unfolding class_bytes classes
+no_class ws bs zero h = refl
+no_class ws bs (suc k) h = past_classes ws bs (suc k) (leb-false (suc k) 13 (rw (le-leb 1 (suc k) (omega arith)) at h))

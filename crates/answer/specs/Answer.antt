@@ -20,20 +20,24 @@ token_in words dacls slot = token_at (nth_record token_words slot words) (nth_re
 
 abbrev pub answer_of : List ℕ → List ℕ → Answer → List ℕ
 answer_of words dacls (answer.Refused r) = (refusal_of r).number ∷ (refusal_of r).report
+answer_of words dacls (answer.Numbered n) = n ∷ []
 answer_of words dacls answer.Done = 0 ∷ []
 answer_of words dacls (answer.Value v) = 0 ∷ encode v
 answer_of words dacls (answer.Values v w) = 0 ∷ encode_all (v ∷ w ∷ [])
 answer_of words dacls (answer.Report w) = 0 ∷ encode_all (w ∷ replicate (report_words - 1) 0)
 answer_of words dacls (answer.Class slot class) = 0 ∷ class_bytes (token_in words dacls slot) (class_number class)
+answer_of words dacls (answer.ClassNumbered slot class) = 0 ∷ class_bytes (token_in words dacls slot) class
 
--- a class is one of a valid token
+-- a refusal's number is one byte, and a class is one of a valid token
 abbrev pub Fit : List ℕ → List ℕ → Answer → Type 0
 Fit words dacls (answer.Refused r) = Unit {0}
+Fit words dacls (answer.Numbered n) = n < 128
 Fit words dacls answer.Done = Unit {0}
 Fit words dacls (answer.Value v) = Unit {0}
 Fit words dacls (answer.Values v w) = Unit {0}
 Fit words dacls (answer.Report w) = Unit {0}
 Fit words dacls (answer.Class slot class) = (slot < token_slots) × (token_valid (token_in words dacls slot) ≡ true)
+Fit words dacls (answer.ClassNumbered slot class) = (slot < token_slots) × (token_valid (token_in words dacls slot) ≡ true)
 
 -- a body's frame fits the buffer
 abbrev pub Room : List ℕ → List ℕ → Type 0

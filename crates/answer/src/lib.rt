@@ -37,6 +37,8 @@ const MAX_SIDS: usize = 2 + MAX_RESTRICTING;
 #[derive(Clone, Copy, PartialEq, Eq, Debug)]
 pub enum Answer {
     Refused(Refusal),
+    // A refusal by its number, which is one byte.
+    Numbered(u64),
     // Success, with nothing more.
     Done,
     // Success, with a new handle or request 12's level.
@@ -47,6 +49,8 @@ pub enum Answer {
     Report(u64),
     // Success, with a class of the token in a slot.
     Class { slot: usize, class: Class },
+    // The same by the class's number: nothing more where there is none of that number.
+    ClassNumbered { slot: usize, class: u64 },
 }
 
 // The frame of these numbers.
@@ -171,6 +175,25 @@ fn put_class_at(
     put_class(&rows[slot], &dacls[slot], class, out)
 }
 
+fn put_class_numbered(
+    slot: usize,
+    class: u64,
+    tokens: &[u64; TOKENS],
+    dacls: &[u8; DACLS],
+    out: &mut [u8],
+) -> usize
+    requires { (max_answer ≤ length out.old) × (slot < token_slots) × (token_valid (token_in tokens.now dacls.now slot) ≡ true) }
+    ensures { WroteFrame (0 ∷ class_bytes (token_in tokens.now dacls.now slot) class) out.old out.new result }
+{
+    if WORD_32 <= class {
+        return put(&[0], out);
+    }
+    match Class::try_from(class as u32) {
+        Ok(known) => put_class_at(slot, known, tokens, dacls, out),
+        Err(_) => put(&[0], out),
+    }
+}
+
 // Writes an answer at the start of out, and leaves the bytes after it.
 pub fn write(a: Answer, tokens: &[u64; TOKENS], dacls: &[u8; DACLS], out: &mut [u8]) -> usize
     requires { (max_answer ≤ length out.old) × Fit tokens.now dacls.now a }
@@ -178,10 +201,14 @@ pub fn write(a: Answer, tokens: &[u64; TOKENS], dacls: &[u8; DACLS], out: &mut [
 {
     match a {
         Answer::Refused(r) => put_refusal(r, out),
+        Answer::Numbered(n) => put(&[n], out),
         Answer::Done => put(&[0], out),
         Answer::Value(v) => put(&[0, v], out),
         Answer::Values(v, w) => put(&[0, v, w], out),
         Answer::Report(w) => put_report(w, out),
         Answer::Class { slot, class } => put_class_at(slot, class, tokens, dacls, out),
+        Answer::ClassNumbered { slot, class } => {
+            put_class_numbered(slot, class, tokens, dacls, out)
+        }
     }
 }

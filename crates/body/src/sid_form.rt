@@ -42,22 +42,34 @@ pub struct Packed;
 impl SidForm for Packed {
     ghost reader = { packed_sid };
 
-    // Two loops: one over a closure would promise something of each reader that the closure may follow.
-    #[tactic(auto, using(crate::proofs::Skipping::skips))]
     fn skip_sids(rest: &mut Reader, count: u32) -> Option<()> {
-        for _ in 0..count {
-            skip_packed(rest)?;
-        }
-        Some(())
+        skip_packed_sids(rest, u64::from(count))
     }
 
-    #[tactic(auto, using(crate::proofs::Skipping::skips))]
     fn skip_groups(rest: &mut Reader, count: u32) -> Option<()> {
-        for _ in 0..count {
-            skip_group(rest)?;
-        }
-        Some(())
+        skip_packed_groups(rest, u64::from(count))
     }
+}
+
+// Two loops: one over a closure would promise something of each reader that the closure may follow.
+#[tactic(auto, using(crate::proofs::Skipping::skips))]
+pub fn skip_packed_sids(rest: &mut Reader, count: u64) -> Option<()>
+    ensures { PassedOn (times count packed_sid) rest.old rest.new result }
+{
+    for _ in 0..count {
+        skip_packed(rest)?;
+    }
+    Some(())
+}
+
+#[tactic(auto, using(crate::proofs::Skipping::skips))]
+pub fn skip_packed_groups(rest: &mut Reader, count: u64) -> Option<()>
+    ensures { PassedOn (times count (rules.group packed_sid)) rest.old rest.new result }
+{
+    for _ in 0..count {
+        skip_group(rest)?;
+    }
+    Some(())
 }
 
 // A SID and its attributes.

@@ -206,6 +206,11 @@ module _ (s : ℕ) (chunk : List ℕ) {hs : List Handle} {cs ts ds row : List �
           });
     }
 
+    -- the parts, the row and the buffer are as they were
+    pub part_fed : r.what ≡ code.Part → {ts' ds' cs' row' out out' : List ℕ} {u : Turn} → PartKept s r.count r.used cs cs' u → ts' ≡ ts → ds' ≡ ds → row' ≡ row₁ → out' ≡ out
+        → RowFed s chunk ts ds hs cs row out ts' ds' cs' row' out' u
+    part_fed q w et ed er eo = rw (et, ed, er, eo) (chunk_joins q w refl)
+
     pub chunk_breaks : r.what ≡ code.Broken → {out cs' row' out' : List ℕ} {u : Turn} → BrokenOff s r.count r.used cs row₁ out cs' row' out' u
         → RowFed s chunk ts ds hs cs row out ts ds cs' row' out' u
     unfolding buffer frame encode encode_in low_first station_row broken_off
@@ -223,6 +228,11 @@ module _ (s : ℕ) (chunk : List ℕ) {hs : List Handle} {cs ts ds row : List �
                 ∙ row_emptied σ v s h broken_off (λ x. refl);
           });
     }
+
+    -- the tokens and DACLs are as they were
+    pub broken_fed : r.what ≡ code.Broken → {ts' ds' cs' row' out out' : List ℕ} {u : Turn} → BrokenOff s r.count r.used cs row₁ out cs' row' out' u → ts' ≡ ts → ds' ≡ ds
+        → RowFed s chunk ts ds hs cs row out ts' ds' cs' row' out' u
+    broken_fed q w et ed = rw (et, ed) (chunk_breaks q w)
 
     pub chunk_serves : (start : ℕ) → r.what ≡ code.Whole start → {out cs' ts' ds' row' out' : List ℕ} {u : Turn}
         → FrameServed s start r.count r.used ts ds hs cs row₁ out ts' ds' cs' row' out' u

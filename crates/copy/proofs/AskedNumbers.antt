@@ -19,7 +19,7 @@ use Rattle.control.specs.Sids.{SidCount}
 use Rattle.copy.specs.Asked.{NumbersJudged, NumbersAsked}
 use Rattle.copy.specs.declared.restricting.Sids.{Sids}
 use Rattle.copy.specs.Numbers.{numbers_in}
-use Rattle.copy.proofs.NumbersRead.{numbers_got}
+use Rattle.copy.proofs.NumbersRead.{all_got}
 
 -- ---- by the table's size
 
@@ -33,12 +33,12 @@ list_all_lem f (x ∷ xs) = ap (λ (b : Bool). f x && b) (list_all_lem f xs)
 
 -- ---- in a state
 
-pub asks_numbers : (list : Sids) {s : List ℕ} {at count size : ℕ} {cs ns : List ℕ} {known : Bool} → SidCount cs size → ns ≡ numbers_in count (drop at s) → NumbersJudged ns size known
+pub asks_numbers : (list : Sids) {s : List ℕ} {at count many size : ℕ} {cs ns : List ℕ} {known : Bool} → SidCount cs size → ns ≡ numbers_in many (drop at s) → many ≡ count → NumbersJudged ns size known
     → NumbersAsked list s at count cs (record { list = list; known = known; fits = true })
-asks_numbers list {s} {at} {count} n all_of j = record {
+asks_numbers list {s} {at} {count} n all_of f j = record {
   same = refl;
   known = λ given later e σ v c.
-      j.judged σ.sids (sym (n.count σ c)) (omega (arith, n.count σ c, sids_few σ.sids (valid_facts σ v).loose.sids)) ∙ ap (all (is_number σ.sids)) (all_of ∙ numbers_got count (drop at s) e);
+      j.judged σ.sids (sym (n.count σ c)) (omega (arith, n.count σ c, sids_few σ.sids (valid_facts σ v).loose.sids)) ∙ ap (all (is_number σ.sids)) (all_got count (drop at s) all_of f e);
   fits = λ σ v. sym (sids_fit σ.sids (valid_facts σ v).loose.sids);
 }
 

@@ -1,5 +1,5 @@
 -- The numbers that stand in bytes, as the layouts read them, and an iterator that gives them. Assumes nothing.
-use Rattle.std.proofs.Common.{◌≡◌, ℕ, zero, suc, ◌-◌, ◌≤◌, ◌<◌, List, [], ◌∷◌, length, take, drop, get_or, length-take, arith, refl, ap, sym, ◌∙◌}
+use Rattle.std.proofs.Common.{◌≡◌, ℕ, zero, suc, ◌-◌, ◌≤◌, ◌<◌, List, [], ◌∷◌, length, take, drop, get_or, arith, refl, ap, sym, ◌∙◌}
 use native.Mathlib.Numerals.{sub-one}
 use Rattle.std.specs.Prelude.{Option, None, Some}
 use Rattle.std.specs.Iterator.{YieldsFirst, Yields}
@@ -29,6 +29,10 @@ numbers_got (suc n) bytes {xs} {later} e = by (λ l ys m d. numbers_got n l d) (
         → follow x (λ v l. follow (times n u32 l) (λ vs. give (v ∷ vs))) ≡ got xs later → before (numbers_in n) x ≡ xs
     by more (got v l) d = rest v (times n u32 l) (more l) d
     by more bad d = let g : ◌≡◌ {A = Read (List ℕ)} bad (got xs later) = d in cc
+
+-- by a number that is their count
+pub all_got : (n : ℕ) (bytes : List ℕ) {many : ℕ} {ns xs later : List ℕ} → ns ≡ numbers_in many bytes → many ≡ n → times n u32 bytes ≡ got xs later → ns ≡ xs
+all_got n bytes all_of same e = all_of ∙ ap (λ (k : ℕ). numbers_in k bytes) same ∙ numbers_got n bytes e
 
 -- no more than are asked for
 pub numbers_few : (n : ℕ) (bytes : List ℕ) → length (numbers_in n bytes) ≤ n
@@ -72,9 +76,6 @@ module _ (all : List ℕ) (s : Numbers) (e : numbers_left s ≡ all) where
   module _ (xs : List ℕ) (t : Numbers) (y : Yields (YieldsFirst numbers_left) s xs t) where
     pub yielded_first : xs ≡ take (length xs) all
     yielded_first = sym (map-id xs) ∙ YieldsList-so_far numbers_yield xs t y
-
-    pub yielded_few : length xs ≤ length all
-    yielded_few = let l : length xs ≡ length (take (length xs) all) = ap length yielded_first in omega (arith, length-take (length xs) all)
 
     module _ (r : Option ℕ) (u : Numbers) (g : YieldsFirst numbers_left t r u) where
       pub yielded_here : (x : ℕ) → r ≡ Some x → (length xs < length all) × (x ≡ get_or all (length xs) x)

@@ -58,7 +58,7 @@ use Rattle.copy.specs.declared.restricting.Sids.{Sids}
 use Rattle.copy.specs.Copies.{RowCopied, Remade}
 use Rattle.copy.specs.DeniedGroups.{Packed, GroupsDenied}
 use Rattle.copy.specs.Numbers.{numbers_in}
-use Rattle.copy.proofs.NumbersRead.{numbers_got}
+use Rattle.copy.proofs.NumbersRead.{all_got}
 use Rattle.copy.specs.Restricting.{Listed, ListMade, with_restricting, RestrictedTo}
 use Rattle.copy.specs.Asked.{NumbersAsked}
 use Rattle.copy.specs.Restrict.{Lists, IsSource, SourceAt, limited_to, TakesFrom, CopyMade, refusal_by, has_room, RestrictChecked, restricted_as, RestrictedIssued, RestrictCarried}
@@ -117,16 +117,16 @@ packed t v g m =
     let h = all_mem group_valid t.groups (and_r (leb (length t.groups) max_groups) _ f.groups) m in
     let low : g.sid < 2 ^ 32 = ltb-true g.sid (2 ^ 32) (search (and_l, and_r)) in omega arith
 
-pub makes : (n mark removed groups : ℕ) (list : Sids) (s : List ℕ) (deny_at deny_count : ℕ) {is ws ws₁ ws₂ ws₃ : List ℕ} → is ≡ numbers_in deny_count (drop deny_at s)
+pub makes : (n mark removed groups : ℕ) (list : Sids) (s : List ℕ) (deny_at deny_count : ℕ) {is ws ws₁ ws₂ ws₃ : List ℕ} {many : ℕ} → is ≡ numbers_in many (drop deny_at s) → many ≡ deny_count
     → Remade (limited_to n mark removed) ws ws₁ → GroupsDenied groups is ws₁ ws₂ → RestrictedTo list ws₂ ws₃
     → CopyMade n groups list mark removed s deny_at deny_count ws ws₃
 unfolding limited_to with_groups with_restricting restricted limited
-makes n mark removed groups list s deny_at deny_count {ws₂ = ws₂} all_of a b c = record {
+makes n mark removed groups list s deny_at deny_count {ws₂ = ws₂} all_of same a b c = record {
   long = c.long;
   made = λ deny later g given t z p e.
       let t₁ = limited_to n mark removed t in
       c.made (restricting_to given t.limits.restricting) z.listed z.few _
-      (subst (λ (l : List ℕ). ws₂ ≡ token_row (with_groups (denied_all l t₁.groups) t₁)) (all_of ∙ numbers_got deny_count (drop deny_at s) g) (b.made t₁ z.groups p (a.made.row t e)));
+      (subst (λ (l : List ℕ). ws₂ ≡ token_row (with_groups (denied_all l t₁.groups) t₁)) (all_got deny_count (drop deny_at s) all_of same g) (b.made t₁ z.groups p (a.made.row t e)));
 }
 
 pub issues_restricted : (groups : ℕ) (list : Sids) (mark removed : ℕ) (body : List ℕ) (deny_at deny_count : ℕ) {n i s mask : ℕ} {hs : List Handle} {cs ts ds cs' ts' ds' : List ℕ} {r : Outcome}
@@ -160,8 +160,8 @@ module _ (x : Source) (listed mark removed : ℕ) where
       or_implies (eqb x.restricting 0) _
       ∙ ap (λ (b : Bool). implies (not (eqb x.restricting 0)) (not (eqb listed 0) && b)) (not_or_implies (eqb mark 1) x.write_restricted)
 
-module _ (x : Source) (a : Asked) (mark removed : ℕ) (s : List ℕ) (deny_at deny_count : ℕ) {v w n : Bool} {is : List ℕ}
-    (all_of : is ≡ numbers_in deny_count (drop deny_at s)) (j : v ≡ (all (is_below x.groups) is && distinct is))
+module _ (x : Source) (a : Asked) (mark removed : ℕ) (s : List ℕ) (deny_at deny_count : ℕ) {v w n : Bool} {is : List ℕ} {many : ℕ}
+    (all_of : is ≡ numbers_in many (drop deny_at s)) (same : many ≡ deny_count) (j : v ≡ (all (is_below x.groups) is && distinct is))
     (ew : w ≡ within removed existing) (en : n ≡ narrow x a.list.count mark removed) where
   abbrev ok : Bool
   ok = leb mark 1 && w && v && n && a.known
@@ -182,7 +182,7 @@ module _ (x : Source) (a : Asked) (mark removed : ℕ) (s : List ℕ) (deny_at d
         ap₂ ◌&&◌
         (ap₂ ◌&&◌
         (ap₂ ◌&&◌ (ap (λ (b : Bool). leb mark 1 && b) ew)
-        (j ∙ ap (λ (l : List ℕ). all (is_below x.groups) l && distinct l) (all_of ∙ numbers_got deny_count (drop deny_at s) g) ∙ ap (λ (k : ℕ). all (is_below k) deny && distinct deny) (sym z.groups))
+        (j ∙ ap (λ (l : List ℕ). all (is_below x.groups) l && distinct l) (all_got deny_count (drop deny_at s) all_of same g) ∙ ap (λ (k : ℕ). all (is_below k) deny && distinct deny) (sym z.groups))
         ∙ sym (and_assoc (leb mark 1 && within removed existing) (all (is_below (length t.groups)) deny) (distinct deny)))
         (en ∙ is_narrow_lem))
         known
@@ -384,8 +384,8 @@ module _ (count : ℕ) (bytes : List ℕ) {given : List Given} {later : List ℕ
     control = λ τ e c. subst (λ (y : List Sid). ControlIn (with_sids y τ) cs) (e ∙ sym same_sids) c;
   }
 
-module _ (token : ℕ) {i sid_at sid_count : ℕ} {ts ds body : List ℕ} {hs : List Handle} {cs : List ℕ} {x : Source} {list : Sids} {a : Asked}
-    (found : FoundAt token ts i) (inside : i < token_slots) (c : SourceAt i ts x) (m : ListMade i x.restricting ts body sid_at sid_count list) (q : NumbersAsked list body sid_at sid_count cs a) where
+module _ (token : ℕ) {i sid_at sid_count many : ℕ} {ts ds body : List ℕ} {hs : List Handle} {cs : List ℕ} {x : Source} {list : Sids} {a : Asked}
+    (found : FoundAt token ts i) (inside : i < token_slots) (c : SourceAt i ts x) (same : many ≡ sid_count) (m : ListMade i x.restricting ts body sid_at many list) (q : NumbersAsked list body sid_at sid_count cs a) where
   pub numbers_taken : (given : List Given) (later : List ℕ) → times sid_count sid_number (drop sid_at body) ≡ got given later → (σ : State) → valid σ ≡ true → PartsIn σ ts ds hs cs
       → Taken given σ (state.token_of σ token) a
   numbers_taken given later e σ v k =
@@ -395,7 +395,7 @@ module _ (token : ℕ) {i sid_at sid_count : ℕ} {ts ds body : List ℕ} {hs : 
       let sids = same_sids sid_count (drop sid_at body) e σ in
       let ns = same_numbers sid_count (drop sid_at body) e σ in
       let made = subst (λ (l : List ℕ). Listed (restricting_to l t.limits.restricting) list) (sym ns)
-      (m.listed r.0 later r.2 t (c.source t there.is_valid there.words).restricting there.words) in
+      ((subst (λ (n : ℕ). ListMade i x.restricting ts body sid_at n list) same m).listed r.0 later r.2 t (c.source t there.is_valid there.words).restricting there.words) in
       let listed = subst (λ (l : Sids). Listed (restricting_to (numbers_after given σ) t.limits.restricting) l) (sym q.same) made in
       record {
         size = listed.count;

@@ -19,10 +19,12 @@ use Rattle.rules.specs.Basic.{filter, member, is_empty}
 use Rattle.rules.specs.Token.{Token, max_groups, max_restricting}
 use Rattle.rules.specs.Head as Head
 use Rattle.rules.specs.Memory.{head_words, token_words, pack, head, token_row}
+use Rattle.rules.specs.Request.{u32}
 use Rattle.rules.specs.Restrict.{restricting_to}
 use Rattle.copy.specs.declared.restricting.Sids.{Sids}
-use Rattle.copy.specs.Restricting.{Listed, SidAdded, is_kept, Answers, OwnKept, ListMade, with_restricting, RestrictedTo}
+use Rattle.copy.specs.Restricting.{so_many, Listed, SidAdded, is_kept, Answers, OwnKept, ListMade, with_restricting, RestrictedTo}
 use Rattle.copy.specs.Numbers.{numbers_in}
+use Rattle.body.proofs.Pairs.{Long, times_long}
 use Rattle.copy.proofs.NumbersRead.{numbers_got}
 
 -- ---- one SID more
@@ -177,6 +179,17 @@ unfolding restricting_to is_empty
 kept_of given [] h = absurd (h refl)
 kept_of [] (x ∷ xs) h = all_stay (x ∷ xs)
 kept_of (y ∷ ys) (x ∷ xs) h = refl
+
+-- of too many, their number is all that is asked for
+many_listed : {xs : List ℕ} {count : ℕ} → length xs ≡ count → max_restricting < count → Listed xs (so_many count)
+many_listed e h = record { count = sym e; words = λ few. absurd (omega arith) }
+
+pub lists_many : (slot own : ℕ) {ts s : List ℕ} {at count : ℕ} {r : Sids} → own ≡ 0 → max_restricting < count → r ≡ so_many count → ListMade slot own ts s at count r
+lists_many slot own {ts} {s} {at} {count} {r} z h f = record {
+  listed = λ given later e t n q.
+      subst (λ (l : Sids). Listed (restricting_to given t.limits.restricting) l) (sym f)
+      (many_listed (ap length (sym (given_to given t.limits.restricting (n ∙ z))) ∙ subst (Long u32 count) e (times_long u32 count (drop at s))) h);
+}
 
 module _ (slot own : ℕ) {ts s : List ℕ} {at count : ℕ} {ns : List ℕ} (all_of : ns ≡ numbers_in count (drop at s)) {r : Sids} where
   pub lists_given : own ≡ 0 → Listed ns r → ListMade slot own ts s at count r

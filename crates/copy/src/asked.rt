@@ -29,7 +29,7 @@ fn all_numbers(mut given: Numbers, size: u64) -> bool
 pub fn by_number(parts: &Parts, list: Sids, f: RestrictFields, s: &[u8]) -> Asked
     ensures { NumbersAsked list s.now f.sid_at f.sid_count parts.now.control.now result }
 {
-    let given = Numbers::new(s, f.sid_at, f.sid_count);
+    let given = Numbers::new(s, f.sid_at, u64::from(f.sid_count));
     Asked {
         list,
         known: all_numbers(given, sids::count(parts.control)),

@@ -14,7 +14,7 @@ use body::fields::DuplicateFields;
 use control::layout::NEXT_TOKEN;
 use control::stations::Station;
 use decide::issue::{can_issue, issue_row};
-use decide::located::locate;
+use decide::located::located_by;
 use decide::outcome::Outcome;
 use privilege::mask::Mask;
 use state::parts::Parts;
@@ -124,7 +124,7 @@ pub fn duplicate(
     ensures same { SameParts parts.old parts.new }
     ensures carried { CarriedOut (λ σ. rules.duplicate σ station.number f.handle f.kind f.level f.mask) parts.old parts.new result }
 {
-    let from = locate(parts, station, f.handle, Mask::DUPLICATE)?;
+    let from = located_by(parts, station.number, f.handle, Mask::DUPLICATE)?;
     let held = Mask(from.handle.mask as u32);
     let source = parts.identity_at(from.slot);
     if !valid_duplicate(held, source, f) {

@@ -8,12 +8,12 @@ use number::{Number, U32, number_at};
 pub struct Numbers<'a> {
     body: &'a [u8],
     at: usize,
-    left: u32,
+    left: u64,
 }
 
 impl<'a> Numbers<'a> {
     #[tactic(auto, unfolding(crate::specs::Numbers::numbers_left))]
-    pub fn new(body: &'a [u8], at: usize, count: u32) -> Numbers<'a>
+    pub fn new(body: &'a [u8], at: usize, count: u64) -> Numbers<'a>
         ensures { numbers_left result ≡ numbers_in count (drop at body.now) }
     {
         Numbers {

@@ -20,7 +20,7 @@ use body::fields::RestrictFields;
 use control::layout::NEXT_TOKEN;
 use control::stations::Station;
 use decide::issue::{can_issue, issue_row};
-use decide::located::{Located, locate};
+use decide::located::{Located, located_by};
 use decide::outcome::Outcome;
 use privilege::mask::Mask;
 use privilege::privileges::Privileges;
@@ -47,7 +47,7 @@ pub fn check(
     requires { source.groups ≤ max_groups }
     ensures { RestrictChecked source a f.mark f.removed s.now f.deny_at f.deny_count parts.now.tokens.now (records_in parts.now.handles.now) parts.now.control.now result }
 {
-    let deny = Numbers::new(s, f.deny_at, f.deny_count);
+    let deny = Numbers::new(s, f.deny_at, u64::from(f.deny_count));
     let indexes = valid_indexes(source.groups, deny);
     let valid = (f.mark <= 1) & words::within(f.removed, Privileges::EXISTING) & indexes;
     if !(valid & narrows(source, f.mark, a.list.count) & a.known) {
@@ -90,9 +90,11 @@ pub fn restrict(
     ensures same { SameParts parts.old parts.new }
     ensures carried { RestrictCarriedOut sid_number station.number f s.now parts.old parts.new result }
 {
-    let from = locate(parts, station, f.handle, Mask::DUPLICATE)?;
+    let from = located_by(parts, station.number, f.handle, Mask::DUPLICATE)?;
     let source = restricted_row::source_at(parts, from.slot);
-    let list = restricting::list_of(parts, from.slot, source.restricting, f, s);
+    let sid_count = u64::from(f.sid_count);
+    let own = source.restricting;
+    let list = restricting::list_of(parts.tokens, from.slot, own, s, f.sid_at, sid_count);
     let a = asked::by_number(parts, list, f, s);
     check(parts, source, a, f, s)?;
     Ok(issue_restricted(parts, station, from, source.groups, a.list, f, s))

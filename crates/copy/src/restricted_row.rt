@@ -70,7 +70,8 @@ pub fn make(
     requires { groups ≤ max_groups }
     ensures { CopyMade n groups list f.mark f.removed s.now f.deny_at f.deny_count words.old words.new }
 {
+    let indexes = Numbers::new(s, f.deny_at, u64::from(f.deny_count));
     limit(words, n, f.mark, f.removed);
-    deny(words, groups, Numbers::new(s, f.deny_at, f.deny_count));
+    deny(words, groups, indexes);
     restrict_to(words, list);
 }

@@ -7,10 +7,8 @@ ghost use Rattle.copy.specs.Numbers.{numbers_left};
 ghost use Rattle.copy.specs.Restricting.{so_many, Listed, SidAdded, is_kept, Answers, OwnKept, ListMade, RestrictedTo};
 
 use crate::numbers::Numbers;
-use body::fields::RestrictFields;
-use state::parts::Parts;
 use table::slices::copy;
-use token::layout::{GROUPS_END, MAX_RESTRICTING, RESTRICTING_COUNT, TOKEN_WORDS};
+use token::layout::{GROUPS_END, MAX_RESTRICTING, RESTRICTING_COUNT, TOKEN_WORDS, TOKENS};
 
 // How many SIDs a list has and, where they fit a token, the SIDs and zeros behind them: a row's words, which are copied as they are.
 #[derive(Clone, Copy)]
@@ -26,11 +24,11 @@ impl Sids {
     };
 
     // So many, where only their number is asked for.
-    pub fn unlisted(count: u32) -> Sids
+    pub fn unlisted(count: u64) -> Sids
         ensures { result ≡ so_many count }
     {
         Sids {
-            count: u64::from(count),
+            count,
             ..Sids::NONE
         }
     }
@@ -68,14 +66,13 @@ fn stays(sid: u64, mut given: Numbers) -> bool
 }
 
 // Of the `own` SIDs of the token in a slot, those that stay, in their order.
-pub fn kept<F: Fn(u64) -> bool>(parts: &Parts, slot: usize, own: u64, stays: F) -> Sids
+pub fn kept<F: Fn(u64) -> bool>(tokens: &[u64; TOKENS], slot: usize, own: u64, stays: F) -> Sids
     requires within { (slot < token_slots) × (own ≤ max_restricting) }
     requires stays { F.IsAlwaysCallable stays }
-    ensures { OwnKept slot own parts.now.tokens.now (Answers (F.post stays)) result }
+    ensures { OwnKept slot own tokens.now (Answers (F.post stays)) result }
 {
     let from = slot * TOKEN_WORDS + GROUPS_END;
     let end = from + own as usize;
-    let tokens = &*parts.tokens;
     let sids = &tokens[from..end];
     let mut list = Sids::NONE;
     for sid in sids {
@@ -86,16 +83,28 @@ pub fn kept<F: Fn(u64) -> bool>(parts: &Parts, slot: usize, own: u64, stays: F) 
     list
 }
 
-// The list of a copy of the token in a slot, which has `own` restricting SIDs.
-pub fn list_of(parts: &Parts, slot: usize, own: u64, f: RestrictFields, s: &[u8]) -> Sids
+// The list of a copy of the token in a slot, which has `own` restricting SIDs; the count SIDs given stand at a place of a body.
+#[tactic(auto, using(crate::proofs::RestrictingSids::lists_given, crate::proofs::RestrictingSids::lists_kept, crate::proofs::RestrictingSids::lists_many))]
+pub fn list_of(
+    tokens: &[u64; TOKENS],
+    slot: usize,
+    own: u64,
+    s: &[u8],
+    at: usize,
+    count: u64,
+) -> Sids
     requires { (slot < token_slots) × (own ≤ max_restricting) }
-    ensures { ListMade slot own parts.now.tokens.now s.now f.sid_at f.sid_count result }
+    ensures { ListMade slot own tokens.now s.now at count result }
 {
-    let given = Numbers::new(s, f.sid_at, f.sid_count);
-    if own == 0 {
-        return listed(given);
+    let given = Numbers::new(s, at, count);
+    if own != 0 {
+        return kept(tokens, slot, own, |sid| stays(sid, given));
     }
-    kept(parts, slot, own, |sid| stays(sid, given))
+    // Of too many, only their number is asked for: none is read.
+    if (MAX_RESTRICTING as u64) < count {
+        return Sids::unlisted(count);
+    }
+    listed(given)
 }
 
 // In a row.

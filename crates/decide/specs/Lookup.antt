@@ -1,5 +1,5 @@
 -- The handle that a request names, and what the request is refused for by it. Assumes nothing.
-use Rattle.std.specs.Prelude.{ℕ, ◌≡◌, Bool, true, Option, None, Some, Result, Ok, Err, IfOk, List, if◌then◌else◌}
+use Rattle.std.specs.Prelude.{ℕ, ◌≡◌, Bool, true, Option, None, Some, is_some, Result, Ok, Err, IfOk, List, if◌then◌else◌}
 use Rattle.rules.specs.Mask.{permits}
 use Rattle.rules.specs.Table.{is_live}
 use Rattle.rules.specs.Valid.{valid}
@@ -18,6 +18,11 @@ refused (Err e) = Some e
 
 abbrev pub handle_refusal : (is_live permitted : Bool) → Option Refusal
 handle_refusal known permitted = if known then (if permitted then None else Some refusal.RightMissing) else Some refusal.NotALiveHandle
+
+-- what a handle that was found, if one was, is refused for
+pub record Judged (found : Option Handle) (permitted : Bool) (r : Result Handle Refusal) : Type 0 where
+  pub handle : IfOk r (λ h. found ≡ Some h)
+  pub refusal : refused r ≡ handle_refusal (is_some found) permitted
 
 pub record LookedUp (station number right : ℕ) (hs : List Handle) (r : Result Handle Refusal) : Type 0 where
   pub handle : IfOk r (λ h. (σ : State) → valid σ ≡ true → HandlesIn σ hs → handle_of h ≡ state.handle_of σ station number)

@@ -10,8 +10,7 @@ ghost use Rattle.evaluate.specs.Evaluate.{asked_in, asks};
 
 use answer::{Answer, Refusal};
 use condition::{Asked, Told};
-use control::stations::Station;
-use decide::located::locate;
+use decide::located::located_by;
 use decide::outcome;
 use decide::outcome::Outcome;
 use number::Reader;
@@ -34,15 +33,10 @@ fn evaluate_row(rest: Reader, words: &[u64; TOKEN_WORDS]) -> Option<Told>
 
 // The condition is read once, on the row of the handle's token; what it is refused for does not depend on the row, so that any row serves
 // where there is no such handle. What is no condition is refused before the handle, and the handle before a privilege that does not exist.
-pub fn evaluate(
-    parts: &Parts,
-    station: Station,
-    number: u32,
-    rest: Reader,
-) -> Result<Outcome, Refusal>
-    ensures { CarriedOut (λ σ. decided σ station.number (asks number (rest_of rest.entry))) parts.now parts.now result }
+pub fn evaluate(parts: &Parts, station: u32, number: u32, rest: Reader) -> Result<Outcome, Refusal>
+    ensures { CarriedOut (λ σ. decided σ station (asks number (rest_of rest.entry))) parts.now parts.now result }
 {
-    let located = locate(parts, station, number, Mask::QUERY);
+    let located = located_by(parts, station, number, Mask::QUERY);
     let slot = located.map_or(0, |x| x.slot);
     let told = evaluate_row(rest, parts.row(slot)).ok_or(Refusal::Malformed)?;
     located?;

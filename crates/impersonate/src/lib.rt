@@ -110,7 +110,7 @@ pub fn impersonate(parts: &mut Parts, station: Station, number: u32) -> Result<O
     ensures same { SameParts parts.old parts.new }
     ensures carried { CarriedOut (λ σ. rules.impersonate σ station.number number) parts.old parts.new result }
 {
-    let token = looked_up(parts, station, number, Mask::IMPERSONATE)?.token;
+    let token = looked_up(parts, station.number, number, Mask::IMPERSONATE)?.token;
     let client = parts.identity_of(token);
     let g = gate_of(parts, station, token);
     check(g, client.kind)?;

@@ -70,7 +70,7 @@ pub fn install(parts: &mut Parts, station: Station, number: u32) -> Result<Outco
     ensures same { SameParts parts.old parts.new }
     ensures carried { CarriedOut (λ σ. rules.install σ station.number number) parts.old parts.new result }
 {
-    let token = looked_up(parts, station, number, Mask::ASSIGN_PRIMARY)?.token;
+    let token = looked_up(parts, station.number, number, Mask::ASSIGN_PRIMARY)?.token;
     let same = matching(parts, station, token);
     check(parts, station, same, token)?;
     place(parts, station, same, token);

@@ -33,10 +33,10 @@ fn named(parts: &Parts, station: Station, f: LinkFields) -> Result<Pair, Refusal
     ensures { PairNamed station.number f.elevated f.filtered f.session (records_in parts.now.handles.now) result }
 {
     let elevated = parts
-        .find_handle(station, f.elevated)
+        .find_handle(station.number, f.elevated)
         .ok_or(Refusal::NotALiveHandle)?;
     let filtered = parts
-        .find_handle(station, f.filtered)
+        .find_handle(station.number, f.filtered)
         .ok_or(Refusal::NotALiveHandle)?;
     if !(may_duplicate(elevated) & may_duplicate(filtered)) {
         return Err(Refusal::RightMissing);

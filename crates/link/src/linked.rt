@@ -91,7 +91,7 @@ pub fn linked(parts: &mut Parts, station: Station, number: u32) -> Result<Outcom
     ensures same { SameParts parts.old parts.new }
     ensures carried { CarriedOut (λ σ. rules.get_linked σ station.number number) parts.old parts.new result }
 {
-    let token = looked_up(parts, station, number, Mask::QUERY)?.token;
+    let token = looked_up(parts, station.number, number, Mask::QUERY)?.token;
     let partner = partner_of(parts, token).ok_or(Refusal::NotLinked)?;
     // In a valid state a linked token's partner is in a slot.
     let slot = parts.slot_of(partner).ok_or(Refusal::NotLinked)?;

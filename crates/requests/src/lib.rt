@@ -45,7 +45,7 @@ pub fn query(parts: &mut Parts, station: Station, rest: Reader) -> Result<Outcom
     ensures carried { LayoutCarried query_layout station.number rest.entry parts.old parts.new result }
 {
     let fields = layout::query(rest).ok_or(Refusal::Malformed)?;
-    query::query(parts, station, fields)
+    query::query(parts, station.number, fields)
 }
 
 pub fn privileges(parts: &mut Parts, station: Station, rest: Reader) -> Result<Outcome, Refusal>
@@ -53,7 +53,7 @@ pub fn privileges(parts: &mut Parts, station: Station, rest: Reader) -> Result<O
     ensures carried { LayoutCarried (entries_layout rules.privileges) station.number rest.entry parts.old parts.new result }
 {
     let fields = layout::entries(rest).ok_or(Refusal::Malformed)?;
-    adjust_privileges::adjust_privileges(parts, station, fields, rest.body)
+    adjust_privileges::adjust_privileges(parts, station.number, fields, rest.body)
 }
 
 pub fn groups(parts: &mut Parts, station: Station, rest: Reader) -> Result<Outcome, Refusal>
@@ -61,7 +61,7 @@ pub fn groups(parts: &mut Parts, station: Station, rest: Reader) -> Result<Outco
     ensures carried { LayoutCarried (entries_layout rules.groups) station.number rest.entry parts.old parts.new result }
 {
     let fields = layout::entries(rest).ok_or(Refusal::Malformed)?;
-    adjust_groups::adjust_groups(parts, station, fields, rest.body)
+    adjust_groups::adjust_groups(parts, station.number, fields, rest.body)
 }
 
 pub fn scope(parts: &mut Parts, station: Station, rest: Reader) -> Result<Outcome, Refusal>
@@ -78,7 +78,7 @@ pub fn defaults(parts: &mut Parts, station: Station, rest: Reader) -> Result<Out
     ensures carried { LayoutCarried defaults_layout station.number rest.entry parts.old parts.new result }
 {
     let fields = layout::defaults(rest).ok_or(Refusal::Malformed)?;
-    adjust_defaults::defaults::adjust_defaults(parts, station, fields, rest.body)
+    adjust_defaults::defaults::adjust_defaults(parts, station.number, fields, rest.body)
 }
 
 pub fn duplicate(parts: &mut Parts, station: Station, rest: Reader) -> Result<Outcome, Refusal>
@@ -165,5 +165,5 @@ pub fn evaluate(parts: &mut Parts, station: Station, mut rest: Reader) -> Result
     ensures carried { LayoutCarried evaluate_layout station.number rest.entry parts.old parts.new result }
 {
     let number = rest.number(U32).ok_or(Refusal::Malformed)?;
-    evaluate::evaluate(parts, station, number as u32, rest)
+    evaluate::evaluate(parts, station.number, number as u32, rest)
 }

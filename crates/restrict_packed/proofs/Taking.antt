@@ -118,13 +118,16 @@ module _ {slot own count : ℕ} {ts ws : List ℕ} {ms : List Bool} {taken : Opt
     words = λ f. a.held.words ∙ ap write_sids (take_all max_sids (entered_all given t) (leb-true (length (entered_all given t)) max_sids f));
   }
 
-pub takes_all : (slot own : ℕ) {s : List ℕ} {at count : ℕ} {ts ws ws' : List ℕ} {ms : List Bool} {taken : Option Sids} {list : Sids} {fits : Bool} → PackedGathered s at count ws ws' ms taken
-    → ListMade slot own ts count taken ms list → fits ≡ is_some taken → SidsTaken slot own s at count ts ws ws' (record { list = list; known = true; fits = fits })
-takes_all slot own {s} {at} {count} {ts} {ws} {ws'} {ms} {taken} {list} p m e = subst (λ (b : Bool). SidsTaken slot own s at count ts ws ws' (record { list = list; known = true; fits = b })) (sym e) (record {
+pub takes_all : (slot own : ℕ) {s : List ℕ} {at count many : ℕ} {ts ws ws' : List ℕ} {ms : List Bool} {taken : Option Sids} {list : Sids} {fits : Bool} → many ≡ count
+    → PackedGathered s at many ws ws' ms taken → ListMade slot own ts many taken ms list → fits ≡ is_some taken → SidsTaken slot own s at count ts ws ws' (record { list = list; known = true; fits = fits })
+takes_all slot own {s} {at} {count} {many} {ts} {ws} {ws'} {ms} {taken} {list} same p m e = subst (λ (b : Bool). SidsTaken slot own s at count ts ws ws' (record { list = list; known = true; fits = b })) (sym e) (record {
   long = p.long;
   taken = λ given later e t v w u n q known.
-      taken_from m (subst (Long packed_sid count) e (times_long packed_sid count (drop at s))) v (p.gathered given later e t (valid_capped t v w) (sids_fit t v)) u n q known;
+      taken_from m (subst (Long packed_sid many) (whole e) (times_long packed_sid many (drop at s))) v (p.gathered given later (whole e) t (valid_capped t v w) (sids_fit t v)) u n q known;
 })
+  where
+    whole : {given : List Given} {later : List ℕ} → times count packed_sid (drop at s) ≡ got given later → times many packed_sid (drop at s) ≡ got given later
+    whole e = ap (λ (n : ℕ). times n packed_sid (drop at s)) same ∙ e
 
 -- ---- in a state
 

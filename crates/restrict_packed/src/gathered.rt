@@ -48,7 +48,7 @@ fn note(list: Option<Sids>, entered: Option<u64>, marks: &mut [bool; NUMBERS]) -
 pub fn gather(
     s: &[u8],
     at: usize,
-    count: u32,
+    count: u64,
     sids: &mut [u64; SIDS],
     marks: &mut [bool; NUMBERS],
 ) -> Option<Sids>

@@ -6,10 +6,10 @@ ghost use Rattle.restrict_packed.specs.Kept.{stays_by, ListMade};
 
 use crate::gathered::NUMBERS;
 use copy::restricting::{Sids, kept};
-use state::parts::Parts;
+use token::layout::TOKENS;
 
 // One of a restricted source's SIDs stays: it is given too, or none is given.
-fn stays(sid: u64, count: u32, marks: &[bool; NUMBERS]) -> bool
+fn stays(sid: u64, count: u64, marks: &[bool; NUMBERS]) -> bool
     ensures { result ≡ stays_by count marks.now sid }
 {
     count == 0 || (sid < NUMBERS as u64 && marks[sid as usize])
@@ -19,18 +19,18 @@ fn stays(sid: u64, count: u32, marks: &[bool; NUMBERS]) -> bool
 // copy's own lists those that stand in a body: the two are alike in `kept` alone.
 #[tactic(auto, using(crate::proofs::Keeping::lists_given, crate::proofs::Keeping::lists_kept))]
 pub fn list_of(
-    parts: &Parts,
+    tokens: &[u64; TOKENS],
     slot: usize,
     own: u64,
-    count: u32,
+    count: u64,
     given: Option<Sids>,
     marks: &[bool; NUMBERS],
 ) -> Sids
     requires { (slot < token_slots) × (own ≤ max_restricting) }
-    ensures { ListMade slot own parts.now.tokens.now count given marks.now result }
+    ensures { ListMade slot own tokens.now count given marks.now result }
 {
     if own != 0 {
-        return kept(parts, slot, own, |sid| stays(sid, count, marks));
+        return kept(tokens, slot, own, |sid| stays(sid, count, marks));
     }
     // Without room, only how many there are is asked for.
     given.unwrap_or(Sids::unlisted(count))

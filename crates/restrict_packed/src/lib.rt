@@ -19,7 +19,7 @@ use control::stations::Station;
 use copy::asked::Asked;
 use copy::restrict::{check, issue_restricted};
 use copy::restricted_row::source_at;
-use decide::located::locate;
+use decide::located::located_by;
 use decide::outcome::Outcome;
 use gathered::NUMBERS;
 use privilege::mask::Mask;
@@ -39,10 +39,11 @@ fn take(
     requires { (slot < token_slots) × (own ≤ max_restricting) }
     ensures { SidsTaken slot own s.now f.sid_at f.sid_count parts.now.tokens.now table.old table.new result }
 {
+    let count = u64::from(f.sid_count);
     let mut marks = [false; NUMBERS];
-    let given = gathered::gather(s, f.sid_at, f.sid_count, table, &mut marks);
+    let given = gathered::gather(s, f.sid_at, count, table, &mut marks);
     Asked {
-        list: kept::list_of(parts, slot, own, f.sid_count, given, &marks),
+        list: kept::list_of(parts.tokens, slot, own, count, given, &marks),
         known: true,
         fits: given.is_some(),
     }
@@ -57,7 +58,7 @@ pub fn restrict_packed(
     ensures same { SameParts parts.old parts.new }
     ensures carried { RestrictCarriedOut packed_sid station.number f s.now parts.old parts.new result }
 {
-    let from = locate(parts, station, f.handle, Mask::DUPLICATE)?;
+    let from = located_by(parts, station.number, f.handle, Mask::DUPLICATE)?;
     let source = source_at(parts, from.slot);
     let mut table = parts.sids();
     let a = take(parts, from.slot, source.restricting, f, s, &mut table);

@@ -1,6 +1,6 @@
 -- What reconnect returns in each case is what the rules say of it. Assumes nothing.
 use Prim.Native.Nat.{ℕ, ◌≤◌, ◌<◌}
-use mathlib.Core.Path.{◌≡◌, sym, ap, ◌∙◌}
+use mathlib.Core.Path.{◌≡◌, sym, ap, subst, ◌∙◌}
 use mathlib.Core.Bool.{Bool, true, false, not}
 use mathlib.Core.List.{List}
 use borrow.Author.Tests.{le-leb, lt-leb, not-true, not-false}
@@ -76,3 +76,12 @@ module _ (s count : ℕ) (items : List Handle) (ts ds cs ps : List ℕ) where
                 ∙ sym (reconnects m s h v);
           };
     }
+
+    -- the stream that is dropped is that station's
+    pub reconnects_by : not b ≡ false → {n : ℕ} {cs₁ ps₁ cs' ps' : List ℕ} → StreamDropped n cs₁ ps₁ cs' ps' → n ≡ s → cs₁ ≡ cs → ps₁ ≡ ps → (u : _) → ReconnectsWith s count items ts ds cs ps cs' ps' (Ok u)
+    reconnects_by f {n} {cs₁} {ps₁} {cs'} {ps'} d en ec ep u =
+        reconnects_with f
+        (subst (λ (x : ℕ). StreamDropped x cs ps cs' ps') en
+        (subst (λ (x : List ℕ). StreamDropped n x ps cs' ps') ec
+        (subst (λ (x : List ℕ). StreamDropped n cs₁ x cs' ps') ep d)))
+        u

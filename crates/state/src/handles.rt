@@ -31,11 +31,11 @@ impl Parts<'_> {
     }
 
     // The station's live handle of that number.
-    pub fn find_handle(&self, station: Station, number: u32) -> Option<Handle>
-        ensures given { HandleGiven station.number number (records_in self.now.handles.now) (unwrap_or result none) }
+    pub fn find_handle(&self, station: u32, number: u32) -> Option<Handle>
+        ensures given { HandleGiven station number (records_in self.now.handles.now) (unwrap_or result none) }
         ensures live { IfSome result (λ h. h.number ≢ 0) }
     {
-        let slot = handle::find(self.handles, station.number, number)?;
+        let slot = handle::find(self.handles, station, number)?;
         Some(handle::at(self.handles, slot))
     }
 

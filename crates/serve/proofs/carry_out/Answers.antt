@@ -13,7 +13,7 @@ returns-in-1-clause-carried c = by_number_lem c.in-Some.ensures 1 c.in-1.is c.op
 
 pub returns-in-2-clause-carried : goal.returns-in-2-clause-carried
 unfolding layouts
-returns-in-2-clause-carried c = by_number_lem c.in-Some.ensures 2 c.in-2.is c.close.ensures.carried
+returns-in-2-clause-carried c = by_number_lem c.in-Some.ensures 2 c.in-2.is (search rules)
 
 pub returns-in-3-clause-carried : goal.returns-in-3-clause-carried
 unfolding layouts
@@ -49,7 +49,7 @@ returns-in-10-clause-carried c = by_number_lem c.in-Some.ensures 10 c.in-10.is c
 
 pub returns-in-11-clause-carried : goal.returns-in-11-clause-carried
 unfolding layouts
-returns-in-11-clause-carried c = by_number_lem c.in-Some.ensures 11 c.in-11.is c.install.ensures.carried
+returns-in-11-clause-carried c = by_number_lem c.in-Some.ensures 11 c.in-11.is (search rules)
 
 pub returns-in-12-clause-carried : goal.returns-in-12-clause-carried
 unfolding layouts

@@ -1,7 +1,7 @@
 -- By the tests of 11 and 13. Assumes nothing.
-use Rattle.std.proofs.Common.{ap, not, arith}
+use Rattle.std.proofs.Common.{ap, not, arith, rules}
 use Rattle.start.proofs.Parts.{control_long, pending_long}
-use Rattle.start.proofs.Reconnecting.{reconnect_no_station, reconnect_invalid, reconnects_with}
+use Rattle.start.proofs.Reconnecting.{reconnect_no_station, reconnect_invalid, reconnects_by}
 use Rattle.start.proofs.reconnect.Goals as goal
 
 pub returns-in_default : goal.returns-in_default
@@ -17,4 +17,4 @@ pub whole-requires-2 : goal.whole-requires-2
 whole-requires-2 c = (omega arith, pending_long c.valid.ensures (ap not c.if-not-valid.false))
 
 pub returns : goal.returns
-returns c = reconnects_with _ _ _ _ _ _ _ c.in-Some.ensures.1 _ c.valid.ensures (ap not c.if-not-valid.false) (rw (c.in-Some.ensures.0, c.whole.ensures.value, c.whole-2.ensures.value) at c.drop_stream.ensures) _
+returns c = reconnects_by _ _ _ _ _ _ _ c.in-Some.ensures.1 _ c.valid.ensures (ap not c.if-not-valid.false) c.drop_stream.ensures (search rules) c.whole.ensures.value c.whole-2.ensures.value _

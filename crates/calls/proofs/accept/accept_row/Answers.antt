@@ -1,6 +1,6 @@
 -- By the stream's mark, then by what the chunk came to. Assumes nothing.
-use mathlib.Core.Path.{refl}
-use Rattle.calls.proofs.Accepting.{count_short, chunk_eaten, chunk_joins, chunk_breaks, chunk_serves}
+use borrow.Author.Rules.{rules}
+use Rattle.calls.proofs.Accepting.{count_short, chunk_eaten, part_fed, broken_fed, chunk_serves}
 use Rattle.calls.proofs.accept.accept_row.Goals as goal
 
 pub returns-then-before-clause-fed : goal.returns-then-before-clause-fed
@@ -11,11 +11,11 @@ join-stop-requires c = let p = c.requires in (p.1, count_short p.2 _ c.args.stat
 
 pub returns-in-Part-clause-fed : goal.returns-in-Part-clause-fed
 returns-in-Part-clause-fed c =
-    rw (c.keep.ensures.tokens, c.keep.ensures.dacls) (chunk_joins _ _ _ c.args.station.known c.stream_of-before.ensures c.if-before.false _ c.join-stop.ensures c.row-1.given c.in-Part.is c.keep.ensures.kept refl)
+    part_fed _ _ _ c.args.station.known c.stream_of-before.ensures c.if-before.false _ c.join-stop.ensures c.row-1.given c.in-Part.is (search rules) (search rules) (search rules) (search rules) (search rules)
 
 pub returns-in-Broken-clause-fed : goal.returns-in-Broken-clause-fed
 returns-in-Broken-clause-fed c =
-    rw (c.break_off.ensures.tokens, c.break_off.ensures.dacls) (chunk_breaks _ _ _ c.args.station.known c.stream_of-before.ensures c.if-before.false _ c.join-stop.ensures c.row-1.given c.in-Broken.is c.break_off.ensures.broken)
+    broken_fed _ _ _ c.args.station.known c.stream_of-before.ensures c.if-before.false _ c.join-stop.ensures c.row-1.given c.in-Broken.is (search rules) (search rules) (search rules)
 
 pub returns-in-Whole-clause-fed : goal.returns-in-Whole-clause-fed
 returns-in-Whole-clause-fed c = chunk_serves _ _ _ c.args.station.known c.stream_of-before.ensures c.if-before.false _ c.join-stop.ensures c.row-1.given _ c.in-Whole.is c.serve_frame.ensures.served

@@ -15,11 +15,11 @@ returns-in_err-check-clause-carried c =
     let e : c.from_residual-in_err-check.result ≡ Err c.in_err-check.field-0.0 = grind (arith, common_steps) in
     let from = c.in_ok-from.ensures in
     rw e (restrict_refused sid_number _ _ _ _ _ _ _ _ _ from c.source_at-source.ensures
-    (numbers_taken _ from.there.slot from.there.inside c.source_at-source.ensures c.list_of-list.ensures c.by_number-a.ensures) c.in_err-check.ensures)
+    (numbers_taken _ from.there.slot from.there.inside c.source_at-source.ensures c.from-sid_count.ensures c.list_of-list.ensures c.by_number-a.ensures) c.in_err-check.ensures)
 
 pub returns-clause-carried : goal.returns-clause-carried
 returns-clause-carried c =
     let from = c.in_ok-from.ensures in
     restricts sid_number _ _ _ _ _ _ _ _ _ from c.source_at-source.ensures
-    (numbers_taken _ from.there.slot from.there.inside c.source_at-source.ensures c.list_of-list.ensures c.by_number-a.ensures) c.in_ok-check.ensures c.issue_restricted.ensures.issued
+    (numbers_taken _ from.there.slot from.there.inside c.source_at-source.ensures c.from-sid_count.ensures c.list_of-list.ensures c.by_number-a.ensures) c.in_ok-check.ensures c.issue_restricted.ensures.issued
     (λ given later e σ v k fits. none_entered _ _ e σ _)

@@ -15,7 +15,7 @@ loop-sid-preserved g c =
     ]
 
 pub returns : goal.returns
-returns g c = keep_end _ c.requires.within.1 (λ i. take (size i) (drop (c.args.slot * 101 + 85) c.args.parts.now.tokens.now)) c.loop-sid.invariant (omega arith)
+returns g c = keep_end _ c.requires.within.1 (λ i. take (size i) (drop (c.args.slot * 101 + 85) c.args.tokens.now)) c.loop-sid.invariant (omega arith)
   where
     size : c.args.slot * 101 + 85 + c.args.own - (c.args.slot * 101 + 85) ≡ c.args.own
     size = omega arith

@@ -1,6 +1,6 @@
--- The slot is there, or the state is not valid. Assumes nothing.
+-- A token in no slot. Assumes nothing.
 use Rattle.decide.proofs.Locating.{token_lost}
 use Rattle.decide.proofs.located.locate.Goals as goal
 
-pub returns-in_default : goal.returns-in_default
-returns-in_default c = token_lost c.in_ok-handle.ensures c.in_default.ensures.0
+pub returns-in_default-find : goal.returns-in_default-find
+returns-in_default-find c = token_lost c.args.permitted c.in-Some.is c.in_default-find.ensures.slot

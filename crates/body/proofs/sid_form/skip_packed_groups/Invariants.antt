@@ -1,7 +1,7 @@
--- `skip_groups` of packed SIDs meets its contract: the loop is Skipping's. Assumes nothing.
+-- `skip_packed_groups` meets its contract: the loop is Skipping's. Assumes nothing.
 use Rattle.rules.specs.Request.{packed_sid, group}
 use Rattle.body.proofs.Skipping.{Skipping}
-use Rattle.body.proofs.sid_form.PackedSidForm.skip_groups.Given as goal
+use Rattle.body.proofs.sid_form.skip_packed_groups.Given as goal
 
 abbrev pub invariant-loop : goal.invariant-loop
 invariant-loop l = Skipping (group packed_sid) l.initial.rest l.count l.rest l.counter
