@@ -36,10 +36,13 @@ impl Iterator for Numbers<'_> {
 
     #[tactic(auto, using(crate::proofs::NumbersRead::numbers_none, crate::proofs::NumbersRead::numbers_lost, crate::proofs::NumbersRead::numbers_next, crate::proofs::NumbersRead::numbers_fewer), unfolding(crate::specs::Numbers::numbers_left))]
     fn next(&mut self) -> Option<u64> {
-        let left = self.left.checked_sub(1)?;
+        // A subtraction that tells whether it failed would stand in the loop's longest chain.
+        if self.left == 0 {
+            return None;
+        }
         let Number { value, next } = number_at(self.body, self.at, U32)?;
         self.at = next;
-        self.left = left;
+        self.left -= 1;
         Some(value)
     }
 }
