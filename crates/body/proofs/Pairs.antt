@@ -53,6 +53,9 @@ module _ (s : List ℕ) (at : ℕ) (r : Option code.Entry) (f : PairAt s at r) w
   pub is_none : r ≡ None → bad ≡ entry (drop at s)
   is_none g = ap (pair_of s) (sym g) ∙ f.means
 
+  pub is_pair : (k v q : ℕ) → r ≡ Some (record { key = k; value = v; next = q }) → got (entry_of k v) (drop q s) ≡ entry (drop at s)
+  is_pair k v q g = ap (pair_of s) (sym g) ∙ f.means
+
 -- ---- several things
 
 module _ {A : Type 0} (p : Reader A) where

@@ -33,6 +33,12 @@ module _ {A : Type 0} (p : rules.Reader A) where
   after_none n bytes (got a later) h e d = cc
 
 module _ {A : Type 0} (p : rules.Reader A) (start : Reader) (count : ℕ) where
+  pub skip_starts : Skipping p start count start 0
+  skip_starts = record {
+    means = ap (λ (k : ℕ). after (times k p (rest_of start))) {x = count - 0} {y = count} (omega arith);
+    onward = record { body = refl; forward = omega arith; inside = omega arith };
+  }
+
   module _ (r : Reader) (i : ℕ) (inv : Skipping p start count r i) where
     pub skip_next : i < count → (r' : Reader) → PassedOn p r r' (Some tt) → Skipping p start count r' (i + 1)
     skip_next h r' o = record {

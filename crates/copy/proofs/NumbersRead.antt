@@ -1,5 +1,5 @@
 -- The numbers that stand in bytes, as the layouts read them, and an iterator that gives them. Assumes nothing.
-use Rattle.std.proofs.Common.{◌≡◌, ℕ, zero, suc, ◌-◌, ◌≤◌, ◌<◌, List, [], ◌∷◌, length, take, drop, get_or, arith, refl, ap, sym, ◌∙◌}
+use Rattle.std.proofs.Common.{◌≡◌, ℕ, zero, suc, ◌-◌, ◌≤◌, ◌<◌, List, [], ◌∷◌, length, take, drop, get_or, length-take, arith, refl, ap, sym, ◌∙◌}
 use native.Mathlib.Numerals.{sub-one}
 use Rattle.std.specs.Prelude.{Option, None, Some}
 use Rattle.std.specs.Iterator.{YieldsFirst, Yields}
@@ -76,6 +76,9 @@ module _ (all : List ℕ) (s : Numbers) (e : numbers_left s ≡ all) where
   module _ (xs : List ℕ) (t : Numbers) (y : Yields (YieldsFirst numbers_left) s xs t) where
     pub yielded_first : xs ≡ take (length xs) all
     yielded_first = sym (map-id xs) ∙ YieldsList-so_far numbers_yield xs t y
+
+    pub yielded_few : length xs ≤ length all
+    yielded_few = let l : length xs ≡ length (take (length xs) all) = ap length yielded_first in omega (arith, length-take (length xs) all)
 
     module _ (r : Option ℕ) (u : Numbers) (g : YieldsFirst numbers_left t r u) where
       pub yielded_here : (x : ℕ) → r ≡ Some x → (length xs < length all) × (x ≡ get_or all (length xs) x)

@@ -17,7 +17,7 @@ use Rattle.rules.specs.State.{State, token_slots, no_token, number_of, find_hand
 use Rattle.rules.specs.Decision.{Decision, with_handle}
 use Rattle.rules.proofs.Logic.{mem_by}
 use Rattle.rules.proofs.Facts.{valid_facts}
-use Rattle.rules.proofs.Steps.{is_live_lem, found_handle}
+use Rattle.rules.proofs.Steps.{Is, is_live_lem, found_handle}
 use Rattle.handle.specs.Meaning.{handle_of}
 use Rattle.handle.specs.declared.Handle.{Handle}
 use Rattle.state.specs.Parts.{TokensIn, HandlesIn}
@@ -29,22 +29,30 @@ use Rattle.answer.specs.declared.refusal.Refusal.{Refusal}
 use Rattle.answer.specs.declared.refusal.Refusal.TheVariants as refusal
 use Rattle.decide.specs.Carried.{Carried}
 use Rattle.decide.specs.declared.located.Located.{Located}
-use Rattle.decide.specs.Lookup.{handle_refusal, Judged}
+use Rattle.decide.specs.Lookup.{handle_refusal, Judged, LookedUp}
 use Rattle.decide.specs.Located.{SlotGiven, LocatedBy}
 use Rattle.decide.proofs.Deciding.{refuses}
-use Rattle.decide.proofs.LookupLaws.{stops_at}
+use Rattle.decide.proofs.LookupLaws.{stops_at, looked_up_found}
 
--- a valid state has no live handle without its token
-pub token_lost : {found : Option Handle} {h : Handle} {ts : List ℕ} (permitted : Bool) → found ≡ Some h → FoundAt h.token ts token_slots → SlotGiven found permitted ts (Err refusal.NotALiveHandle)
+-- a live token of a valid state is in a slot
+unslotted : {token : ℕ} {ts : List ℕ} → FoundAt token ts token_slots → (σ : State) → valid σ ≡ true → {ds : List ℕ} → TokensIn σ ts ds → Is σ token → ⊥
 unfolding no_token new_token
-token_lost {found} {h} permitted e at = record {
-  there = tt;
-  refusal = λ σ v k m.
-      let is = is_live_lem σ h.token (rw e at m) in
-      let given = ((valid_formed σ v).tokens _ is.was).1 in
-      let none = ap (λ (x : Token). x.number) (no_token_lem h.token at v k (omega arith)) in
-      absurd (omega arith);
-}
+unslotted {token} at σ v k is =
+    let given = ((valid_formed σ v).tokens _ is.was).1 in
+    let none = ap (λ (x : Token). x.number) (no_token_lem token at v k (omega arith)) in
+    absurd (omega arith)
+
+-- so a valid state has no live handle without its token: neither one that was looked up
+module _ {s n right : ℕ} {hs : List Handle} {ts : List ℕ} {h : Handle} (l : LookedUp s n right hs (Ok h)) where
+  lost : FoundAt h.token ts token_slots → (σ : State) → valid σ ≡ true → {ds : List ℕ} → HandlesIn σ hs → TokensIn σ ts ds → ⊥
+  lost at σ v i k = unslotted at σ v k (looked_up_found l σ v i).token
+
+  pub token_lost : FoundAt h.token ts token_slots → LocatedBy s n right hs ts (Err refusal.NotALiveHandle)
+  token_lost at = record { there = tt; refusal = λ σ v i k. absurd (lost at σ v i k) }
+
+-- nor one that was found
+pub found_lost : {found : Option Handle} {h : Handle} {ts : List ℕ} (permitted : Bool) → found ≡ Some h → FoundAt h.token ts token_slots → SlotGiven found permitted ts (Err refusal.NotALiveHandle)
+found_lost {h = h} permitted e at = record { there = tt; refusal = λ σ v k m. absurd (unslotted at σ v k (is_live_lem σ h.token (rw e at m))) }
 
 pub token_there : {found : Option Handle} {h : Handle} {permitted : Bool} {ts : List ℕ} {i : ℕ} → Judged found permitted (Ok h) → (k : Handle) → found ≡ Some k → FoundAt k.token ts i → i < token_slots
     → SlotGiven found permitted ts (Ok (record { handle = h; slot = i }))
